@@ -1,0 +1,4 @@
+use Rattle.virt_base.proofs.leb.+signed.Given as goal
+
+abbrev pub decreases-signed : goal.decreases-signed
+decreases-signed l = l.half
