@@ -36,11 +36,11 @@ unsigned_says limit at (b ∷ bs) =
       | inl low ↦ elim (cases_lt b limit) [
         | inl fits ↦ rw (lt-ltb _ _ low, lt-ltb _ _ fits) (b ∷ [], (low, fits, refl {a = b}), record { parts = refl; moved = refl })
         | inr over ↦ rw (lt-ltb _ _ low, le-ltb _ _ over) (inl (omega arith, over))
-        ]
+      ]
       | inr top ↦ elim (cases_lt 128 limit) [
         | inl wide ↦ rw (le-ltb _ _ top, lt-ltb _ _ wide) (above_says limit at b bs _ top wide (unsigned_says (limit / 128) (at + 1) bs))
         | inr last ↦ rw (le-ltb _ _ top, le-ltb _ _ last) (inl (last, omega arith))
-        ]
+      ]
     ]
 
 pub unsigned_rule : (limit : ℕ) (old new : Cursor) (n : ℕ) → unsigned_at limit old.at (rest old) ≡ Ok (n, place new) → AnswersUnsigned limit old new (Ok n)
@@ -56,11 +56,11 @@ pub fits_bounds : (half b : ℕ) → b < 128 → fits_seven half b ≡ true → 
 fits_bounds half b low e =
     elim (cases_lt b 64) [
       | inl lt ↦
-        let f : ltb b half ≡ true = rw (lt-ltb _ _ lt) at e in
-        rw (lt-ltb _ _ lt) (omega (arith, ints), omega (arith, ints, ltb-true _ _ f))
+          let f : ltb b half ≡ true = rw (lt-ltb _ _ lt) at e in
+          rw (lt-ltb _ _ lt) (omega (arith, ints), omega (arith, ints, ltb-true _ _ f))
       | inr ge ↦
-        let f : leb 128 (b + half) ≡ true = rw (le-ltb _ _ ge) at e in
-        rw (le-ltb _ _ ge, lt-ltb _ _ low) (omega (arith, ints, leb-true _ _ f), omega (arith, ints))
+          let f : leb 128 (b + half) ≡ true = rw (le-ltb _ _ ge) at e in
+          rw (le-ltb _ _ ge, lt-ltb _ _ low) (omega (arith, ints, leb-true _ _ f), omega (arith, ints))
     ]
 
 -- a byte without its top bit fits where another byte may follow
@@ -99,7 +99,7 @@ narrow_of : (half b : ℕ) → b < 128 → fits_seven half b ≡ false → half 
 narrow_of half b low unfit = elim (cases_lt 64 half) [
   | inl wide ↦ let fit = fits_wide half b low wide in absurd cc
   | inr ok ↦ ok
-  ]
+]
 
 pub signed_says : (half at : ℕ) (bytes : List ℕ) → SignedSays half at bytes (signed_at half at bytes)
 unfolding signed_at
@@ -109,15 +109,15 @@ signed_says half at (b ∷ bs) =
     elim (cases_lt b 128) [
       | inl low ↦ elim (truth (fits_seven half b)) [
         | inl fit ↦
-          let bounds = fits_bounds half b low fit in
-          on_true P (ltb b 128) _ _ (lt-ltb _ _ low) (on_true P (fits_seven half b) _ _ fit (b ∷ [], (low, bounds.0, bounds.1, refl {a = seven b}), record { parts = refl; moved = refl }))
+            let bounds = fits_bounds half b low fit in
+            on_true P (ltb b 128) _ _ (lt-ltb _ _ low) (on_true P (fits_seven half b) _ _ fit (b ∷ [], (low, bounds.0, bounds.1, refl {a = seven b}), record { parts = refl; moved = refl }))
         | inr unfit ↦
-          on_true P (ltb b 128) _ _ (lt-ltb _ _ low) (on_false P (fits_seven half b) _ _ unfit (inl (narrow_of half b low unfit, inr unfit)))
-        ]
+            on_true P (ltb b 128) _ _ (lt-ltb _ _ low) (on_false P (fits_seven half b) _ _ unfit (inl (narrow_of half b low unfit, inr unfit)))
+      ]
       | inr top ↦ elim (cases_lt 64 half) [
         | inl wide ↦ on_false P (ltb b 128) _ _ (le-ltb _ _ top) (on_true P (ltb 64 half) _ _ (lt-ltb _ _ wide) (above_signed_says half at b bs _ top wide (signed_says (half / 128) (at + 1) bs)))
         | inr last ↦ on_false P (ltb b 128) _ _ (le-ltb _ _ top) (on_false P (ltb 64 half) _ _ (le-ltb _ _ last) (inl (last, inl top)))
-        ]
+      ]
     ]
 
 pub signed_rule : (half : ℕ) (old new : Cursor) (n : ℤ) → signed_at half old.at (rest old) ≡ Ok (n, place new) → AnswersSigned half old new (Ok n)

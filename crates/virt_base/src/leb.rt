@@ -26,7 +26,11 @@ fn unsigned(c: &mut Cursor<'_>, limit: u64) -> Result<u64, LebFault>
     };
     let low = u64::from(byte);
     if low < 128 {
-        if low < limit { Ok(low) } else { Err(LebFault::TooLong) }
+        if low < limit {
+            Ok(low)
+        } else {
+            Err(LebFault::TooLong)
+        }
     } else if limit > 128 {
         let high = unsigned(c, limit / 128)?;
         Ok(low - 128 + 128 * high)

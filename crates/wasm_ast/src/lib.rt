@@ -1,10 +1,16 @@
-//! The trees of core modules, as their binary format has them.
+//! The trees of core modules and components, as their binary formats have them.
 #![tactic(auto)]
 
+mod component;
 mod instr;
 mod module;
 mod numeric;
 
+pub use component::{
+    Alias, Canon, CanonOption, CaseType, Component, ComponentExport, ComponentImport, CoreArg,
+    CoreExport, CoreInstance, CoreSort, ExternDesc, Instance, LabelType, Labels, NamedItem,
+    OuterSort, Primitive, Section, Sort, Span, TypeAlias, TypeDef, TypeItem, ValType,
+};
 pub use instr::{BlockType, BranchTable, Instr, Instrs, LoadOp, MemArg, Op, RefType, StoreOp};
 pub use module::{
     Body, CoreFunc, Data, Elements, Export, ExportItem, Exprs, Global, GlobalType, Import,

@@ -79,21 +79,46 @@ pub type Exprs = Items<Instrs>;
 #[derive(Debug, Drop)]
 pub enum Elements {
     /// Kind 0: functions for table 0.
-    ActiveFuncs { offset: Instrs, funcs: Indexes },
+    ActiveFuncs {
+        offset: Instrs,
+        funcs: Indexes,
+    },
     /// Kind 1.
-    PassiveFuncs { funcs: Indexes },
+    PassiveFuncs {
+        funcs: Indexes,
+    },
     /// Kind 2: functions for the table at an index.
-    ActiveFuncsAt { table: u32, offset: Instrs, funcs: Indexes },
+    ActiveFuncsAt {
+        table: u32,
+        offset: Instrs,
+        funcs: Indexes,
+    },
     /// Kind 3.
-    DeclaredFuncs { funcs: Indexes },
+    DeclaredFuncs {
+        funcs: Indexes,
+    },
     /// Kind 4: references to functions for table 0.
-    ActiveExprs { offset: Instrs, exprs: Exprs },
+    ActiveExprs {
+        offset: Instrs,
+        exprs: Exprs,
+    },
     /// Kind 5.
-    PassiveExprs { ty: RefType, exprs: Exprs },
+    PassiveExprs {
+        ty: RefType,
+        exprs: Exprs,
+    },
     /// Kind 6: references for the table at an index.
-    ActiveExprsAt { table: u32, offset: Instrs, ty: RefType, exprs: Exprs },
+    ActiveExprsAt {
+        table: u32,
+        offset: Instrs,
+        ty: RefType,
+        exprs: Exprs,
+    },
     /// Kind 7.
-    DeclaredExprs { ty: RefType, exprs: Exprs },
+    DeclaredExprs {
+        ty: RefType,
+        exprs: Exprs,
+    },
 }
 
 /// Locals of one type that stand in a row.
@@ -114,11 +139,20 @@ pub struct Body {
 #[derive(Debug, Drop)]
 pub enum Data {
     /// Kind 0: bytes for memory 0.
-    Active { offset: Instrs, bytes: Bytes },
+    Active {
+        offset: Instrs,
+        bytes: Bytes,
+    },
     /// Kind 1.
-    Passive { bytes: Bytes },
+    Passive {
+        bytes: Bytes,
+    },
     /// Kind 2: bytes for the memory at an index.
-    ActiveAt { memory: u32, offset: Instrs, bytes: Bytes },
+    ActiveAt {
+        memory: u32,
+        offset: Instrs,
+        bytes: Bytes,
+    },
 }
 
 /// A core module (WebAssembly Core 2.0, section 2.5): a list for each section. An absent section is an empty list.
