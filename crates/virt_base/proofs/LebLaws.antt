@@ -1,12 +1,13 @@
 -- Numbers are read as they are spelled, and refused as the rule says.
-use Rattle.std.proofs.Common.{◌≡◌, ℕ, ℤ, pos, neg_ℤ, ◌+ℤ◌, ◌-ℤ◌, ◌*ℤ◌, ◌≤ℤ◌, ◌<ℤ◌, zero, suc, ◌+◌, ◌-◌, ◌*◌, ◌/◌, ◌%◌, ◌^◌, ◌<◌, ◌≤◌, Bool, true, false, cond, ltb, leb, List, [], ◌∷◌, ◌++◌, length, Result, Ok, Err, is_err, ◌⊎◌, inl, inr, refl, sym, ap, subst, ◌∙◌, arith}
+use Rattle.std.proofs.Common.{◌≡◌, ℕ, ℤ, pos, negsuc, neg_ℤ, ◌+ℤ◌, ◌-ℤ◌, ◌*ℤ◌, ◌≤ℤ◌, ◌<ℤ◌, zero, suc, ◌+◌, ◌-◌, ◌*◌, ◌/◌, ◌%◌, ◌^◌, ◌<◌, ◌≤◌, Bool, true, false, cond, ltb, leb, List, [], ◌∷◌, ◌++◌, length, Result, Ok, Err, is_err, ◌⊎◌, inl, inr, refl, sym, ap, subst, ◌∙◌, arith}
 use Rattle.std.proofs.lemmas.Bool.{ltb-true, lt-ltb, le-ltb, leb-true, le-leb, cases_lt}
 use Rattle.std.proofs.lemmas.Int.{ints}
 use Rattle.virt_base.specs.declared.cursor.Cursor.{Cursor}
 use Rattle.virt_base.specs.declared.leb.LebFault.{LebFault}
 use Rattle.virt_base.specs.declared.leb.LebFault.TheVariants.{Short, TooLong}
 use Rattle.virt_base.specs.Place.{Place, Takes, Gives, rest, place}
-use Rattle.virt_base.specs.Leb.{IsUnsigned, IsCut, IsTooLong, unsigned_at, above, seven, fits_seven, IsSigned, IsCutSigned, IsTooLongSigned, signed_at, above_signed, AnswersUnsigned, AnswersSigned}
+use Rattle.virt_base.specs.Leb.{IsUnsigned, IsCut, IsTooLong, unsigned_at, above, seven, fits_seven, IsSigned, IsCutSigned, IsTooLongSigned, signed_at, above_signed, AnswersUnsigned, AnswersSigned, limit_of, shortest_unsigned, low_bits, shortest_by, shortest_signed, IsShortest}
+use Rattle.std.specs.List.{AllByRecursion}
 
 abbrev pub from : ℕ → List ℕ → Place
 from at bytes = record { at = at; rest = bytes }
@@ -135,3 +136,206 @@ signed_back half old new (Err f) h e = signed_refused half old f e
 pub signed_went : (half : ℕ) (old new : Cursor) (r : Result ℤ LebFault) → is_err r ≡ false → Gives r new (signed_at half old.at (rest old)) → AnswersSigned half old new r
 signed_went half old new (Ok n) h e = signed_rule half old new n e
 signed_went half old new (Err f) h e = absurd cc
+
+-- ---- what is spelled is read again, whatever follows
+
+abbrev pub after : ℕ → List ℕ → List ℕ → Place
+after at text more = record { at = at + length text; rest = more }
+
+pub unsigned_again : (limit n : ℕ) (text : List ℕ) (at : ℕ) (more : List ℕ) → IsUnsigned limit n text → unsigned_at limit at (text ++ more) ≡ Ok (n, after at text more)
+unfolding unsigned_at
+unsigned_again limit n [] at more s = absurd s
+unsigned_again limit n (b ∷ []) at more s =
+    let low : ltb b 128 ≡ true = lt-ltb _ _ s.0 in
+    let fits : ltb b limit ≡ true = lt-ltb _ _ s.1 in
+    rw (low, fits, s.2) refl
+unsigned_again limit n (b ∷ c ∷ bs) at more s =
+    let high : ltb b 128 ≡ false = le-ltb _ _ s.1 in
+    let wide : ltb 128 limit ≡ true = lt-ltb _ _ s.0 in
+    let rest = unsigned_again (limit / 128) s.2.0 (c ∷ bs) (at + 1) more s.2.2 in
+    let n-is : b - 128 + 128 * s.2.0 ≡ n = omega (arith, s.1, s.2.1) in
+    let far : at + 1 + length (c ∷ bs) ≡ at + length (b ∷ c ∷ bs) = omega arith in
+    rw (high, wide, rest) (ap (λ (m : ℕ). Ok (m, record { at = at + 1 + length (c ∷ bs); rest = more })) n-is ∙ ap (λ (k : ℕ). Ok (n, record { at = k; rest = more })) far)
+
+abbrev seven_down : ℕ → ℤ
+seven_down b = pos b -ℤ pos 128
+
+pub bounds_fit : (half b : ℕ) → b < 128 → neg_ℤ (pos half) ≤ℤ seven b → seven b <ℤ pos half → fits_seven half b ≡ true
+bounds_fit half b small low high =
+    elim (cases_lt b 64) [
+      | inl lt ↦
+          let h : pos b <ℤ pos half = rw (lt-ltb _ _ lt) at high in
+          rw (lt-ltb _ _ lt) (lt-ltb _ _ (omega (arith, ints, h)))
+      | inr ge ↦
+          let h : neg_ℤ (pos half) ≤ℤ seven_down b = rw (le-ltb _ _ ge) at low in
+          rw (le-ltb _ _ ge) (le-leb _ _ (omega (arith, ints, h)))
+    ]
+
+two_true : (c d : Bool) (x : ℤ × Place) (y : Result (ℤ × Place) LebFault) → c ≡ true → d ≡ true → cond c (cond d (Ok x) (Err TooLong)) y ≡ Ok x
+two_true c d x y e f = rw (e, f) refl
+
+pub signed_again : (half : ℕ) (n : ℤ) (text : List ℕ) (at : ℕ) (more : List ℕ) → IsSigned half n text → signed_at half at (text ++ more) ≡ Ok (n, after at text more)
+unfolding signed_at
+signed_again half n [] at more s = absurd s
+signed_again half n (b ∷ []) at more s =
+    let fit : fits_seven half b ≡ true = bounds_fit half b s.0 (subst (λ (k : ℤ). neg_ℤ (pos half) ≤ℤ k) s.3 s.1) (subst (λ (k : ℤ). k <ℤ pos half) s.3 s.2) in
+    two_true (ltb b 128) (fits_seven half b) (seven b, record { at = at + 1; rest = more }) _ (lt-ltb _ _ s.0) fit ∙ ap (λ (k : ℤ). Ok (k, record { at = at + 1; rest = more })) (sym s.3)
+signed_again half n (b ∷ c ∷ bs) at more s =
+    let rest = signed_again (half / 128) s.2.0 (c ∷ bs) (at + 1) more s.2.2 in
+    let far : at + 1 + length (c ∷ bs) ≡ at + length (b ∷ c ∷ bs) = omega arith in
+    rw (le-ltb _ _ s.1, lt-ltb _ _ s.0, rest) (ap (λ (k : ℤ). Ok (k, record { at = at + 1 + length (c ∷ bs); rest = more })) (sym s.2.1) ∙ ap (λ (k : ℕ). Ok (n, record { at = k; rest = more })) far)
+
+-- ---- the shortest spellings are spellings
+
+longer_unsigned : (limit n b high : ℕ) (text : List ℕ) → 128 < limit → 128 ≤ b → n + 128 ≡ b + 128 * high → IsUnsigned (limit / 128) high text → IsUnsigned limit n (b ∷ text)
+longer_unsigned limit n b high [] wide top e s = absurd s
+longer_unsigned limit n b high (c ∷ bs) wide top e s = (wide, top, (high, e, s))
+
+pub unsigned_spelled : (base more n : ℕ) → base ≤ 128 → n < limit_of base more → IsUnsigned (limit_of base more) n (shortest_unsigned more n)
+unsigned_spelled base zero n small fits = (omega arith, fits, refl)
+unsigned_spelled base (suc more) n small fits =
+    elim (cases_lt n 128) [
+      | inl low ↦ rw (lt-ltb _ _ low) (low, fits, refl)
+      | inr high ↦
+          let less : limit_of base (suc more) / 128 ≡ limit_of base more = omega arith in
+          let rest = unsigned_spelled base more (n / 128) small (omega arith) in
+          rw (le-ltb _ _ high) (longer_unsigned (limit_of base (suc more)) n (n % 128 + 128) (n / 128) (shortest_unsigned more (n / 128)) (omega arith) (omega arith) (omega arith) (rw less rest))
+    ]
+
+-- the shortest spelling of a number of 32 bits is one
+pub u32_spelled : (n : ℕ) → n < 2 ^ 32 → IsUnsigned (2 ^ 32) n (shortest_unsigned 4 n)
+u32_spelled n fits = unsigned_spelled 16 4 n (omega arith) fits
+
+longer_spelled : (half b : ℕ) (n high : ℤ) (text : List ℕ) → 64 < half → 128 ≤ b → n ≡ pos (b - 128) +ℤ pos 128 *ℤ high → IsSigned (half / 128) high text → IsSigned half n (b ∷ text)
+longer_spelled half b n high [] wide top e s = absurd s
+longer_spelled half b n high (c ∷ bs) wide top e s = (wide, top, (high, e, s))
+
+-- m, or -1 - m where the number is negative
+abbrev number_by : Bool → ℕ → ℤ
+number_by false m = pos m
+number_by true m = neg_ℤ (pos m) -ℤ pos 1
+
+last_spelled : (negative : Bool) (half m : ℕ) → m < 64 → m < half → IsSigned half (number_by negative m) (low_bits negative m ∷ [])
+last_spelled false half m low fits =
+    (omega arith, omega (arith, ints), omega (arith, ints), rw (lt-ltb _ _ low) refl)
+last_spelled true half m low fits =
+    let top : 64 ≤ 127 - m = omega arith in
+    (omega arith, omega (arith, ints), omega (arith, ints), rw (le-ltb _ _ top) (omega (arith, ints)))
+
+split_number : (negative : Bool) (m : ℕ) → number_by negative m ≡ pos (low_bits negative (m % 128) + 128 - 128) +ℤ pos 128 *ℤ number_by negative (m / 128)
+split_number false m = omega (arith, ints)
+split_number true m = omega (arith, ints)
+
+by_spelled : (negative : Bool) (base more m : ℕ) → base ≤ 64 → m < limit_of base more → IsSigned (limit_of base more) (number_by negative m) (shortest_by negative more m)
+by_spelled negative base zero m small fits = last_spelled negative base m (omega arith) fits
+by_spelled negative base (suc more) m small fits =
+    elim (cases_lt m 64) [
+      | inl low ↦ rw (lt-ltb _ _ low) (last_spelled negative (limit_of base (suc more)) m low fits)
+      | inr high ↦
+          let less : limit_of base (suc more) / 128 ≡ limit_of base more = omega arith in
+          let rest = by_spelled negative base more (m / 128) small (omega arith) in
+          rw (le-ltb _ _ high) (longer_spelled (limit_of base (suc more)) (low_bits negative (m % 128) + 128) (number_by negative m) (number_by negative (m / 128)) (shortest_by negative more (m / 128)) (omega arith) (omega arith) (split_number negative m) (rw less rest))
+    ]
+
+below_zero : (k m : ℕ) → k ≡ suc m → neg_ℤ (pos k) ≡ number_by true m
+below_zero k m e = omega (arith, ints, e)
+
+negsuc_is : (m : ℕ) → negsuc m ≡ number_by true m
+negsuc_is m = below_zero (suc m) m refl
+
+pub signed_spelled : (base more : ℕ) (n : ℤ) → base ≤ 64 → neg_ℤ (pos (limit_of base more)) ≤ℤ n → n <ℤ pos (limit_of base more) → IsSigned (limit_of base more) n (shortest_signed more n)
+signed_spelled base more (pos m) small low high = by_spelled false base more m small (omega (arith, ints, high))
+signed_spelled base more (negsuc m) small low high =
+    let low2 : neg_ℤ (pos (limit_of base more)) ≤ℤ number_by true m = rw (negsuc_is m) at low in
+    let s : IsSigned (limit_of base more) (number_by true m) (shortest_by true more m) = by_spelled true base more m small (omega (arith, ints, low2)) in
+    subst (λ (k : ℤ). IsSigned (limit_of base more) k (shortest_by true more m)) (sym (negsuc_is m)) s
+
+-- room for more bytes than the number needs changes nothing
+no_longer : (negative : Bool) (some more m : ℕ) → some ≤ more → m < limit_of 64 some → shortest_by negative more m ≡ shortest_by negative some m
+no_longer negative zero zero m h fits = refl
+no_longer negative zero (suc more) m h fits = rw (lt-ltb _ _ fits) refl
+no_longer negative (suc some) zero m h fits = absurd (omega arith)
+no_longer negative (suc some) (suc more) m h fits =
+    elim (cases_lt m 64) [
+      | inl low ↦ rw (lt-ltb _ _ low) refl
+      | inr high ↦ rw (le-ltb _ _ high) (ap (λ (z : List ℕ). (low_bits negative (m % 128) + 128) ∷ z) (no_longer negative some more (m / 128) (omega arith) (omega arith)))
+    ]
+
+pub signed_no_longer : (some more : ℕ) (n : ℤ) → some ≤ more → neg_ℤ (pos (limit_of 64 some)) ≤ℤ n → n <ℤ pos (limit_of 64 some) → shortest_signed more n ≡ shortest_signed some n
+signed_no_longer some more (pos m) h low high = no_longer false some more m h (omega (arith, ints, high))
+signed_no_longer some more (negsuc m) h low high =
+    let low2 : neg_ℤ (pos (limit_of 64 some)) ≤ℤ number_by true m = rw (negsuc_is m) at low in
+    no_longer true some more m h (omega (arith, ints, low2))
+
+pub s64_spelled : (n : ℤ) → neg_ℤ (pos (2 ^ 63)) ≤ℤ n → n <ℤ pos (2 ^ 63) → IsSigned (2 ^ 63) n (shortest_signed 9 n)
+s64_spelled n low high = signed_spelled 1 9 n (omega arith) low high
+
+-- the same bytes are a spelling in fewer bits, where the number is of so many
+pub s33_spelled : (n : ℤ) → neg_ℤ (pos (2 ^ 32)) ≤ℤ n → n <ℤ pos (2 ^ 32) → IsSigned (2 ^ 32) n (shortest_signed 9 n)
+s33_spelled n low high =
+    rw (signed_no_longer 4 9 n (omega arith) (omega (arith, ints, low)) (omega (arith, ints, high))) (signed_spelled 16 4 n (omega arith) low high)
+
+pub s32_spelled : (n : ℤ) → neg_ℤ (pos (2 ^ 31)) ≤ℤ n → n <ℤ pos (2 ^ 31) → IsSigned (2 ^ 31) n (shortest_signed 9 n)
+s32_spelled n low high =
+    rw (signed_no_longer 4 9 n (omega arith) (omega (arith, ints, low)) (omega (arith, ints, high))) (signed_spelled 8 4 n (omega arith) low high)
+
+-- ---- no spelling is shorter
+
+filled : (limit n : ℕ) (text : List ℕ) → IsUnsigned limit n text → 1 ≤ length text
+filled limit n [] s = absurd s
+filled limit n (b ∷ bs) s = omega arith
+
+pub unsigned_least : (limit more n : ℕ) (text : List ℕ) → AllByRecursion (λ b. b < 256) text → IsUnsigned limit n text → length (shortest_unsigned more n) ≤ length text
+unsigned_least limit zero n text small s = filled limit n text s
+unsigned_least limit (suc more) n [] small s = absurd s
+unsigned_least limit (suc more) n (b ∷ []) small s = rw (lt-ltb n 128 (omega (arith, s.0, s.2))) (omega arith)
+unsigned_least limit (suc more) n (b ∷ c ∷ bs) small s =
+    elim (cases_lt n 128) [
+      | inl low ↦ rw (lt-ltb _ _ low) (omega arith)
+      | inr high ↦
+          let above : s.2.0 ≡ n / 128 = omega (arith, s.1, s.2.1, small.0) in
+          let rest = unsigned_least (limit / 128) more (n / 128) (c ∷ bs) small.1 (subst (λ (k : ℕ). IsUnsigned (limit / 128) k (c ∷ bs)) above s.2.2) in
+          rw (le-ltb _ _ high) (omega (arith, rest))
+    ]
+
+filled_signed : (half : ℕ) (n : ℤ) (text : List ℕ) → IsSigned half n text → 1 ≤ length text
+filled_signed half n [] s = absurd s
+filled_signed half n (b ∷ bs) s = omega arith
+
+seven_small : (b : ℕ) → b < 128 → (neg_ℤ (pos 64) ≤ℤ seven b) × (seven b <ℤ pos 64)
+seven_small b low =
+    elim (cases_lt b 64) [
+      | inl lt ↦ rw (lt-ltb _ _ lt) (omega (arith, ints), omega (arith, ints))
+      | inr ge ↦ rw (le-ltb _ _ ge) (omega (arith, ints), omega (arith, ints))
+    ]
+
+by_small : (negative : Bool) (b m : ℕ) → b < 128 → number_by negative m ≡ seven b → m < 64
+by_small false b m low e = let s = seven_small b low in omega (arith, ints, s.0, s.1, e)
+by_small true b m low e = let s = seven_small b low in omega (arith, ints, s.0, s.1, e)
+
+by_above : (negative : Bool) (b m : ℕ) (high : ℤ) → 128 ≤ b → b < 256 → number_by negative m ≡ pos (b - 128) +ℤ pos 128 *ℤ high → high ≡ number_by negative (m / 128)
+by_above false b m high top small e = omega (arith, ints, e)
+by_above true b m high top small e = omega (arith, ints, e)
+
+by_least : (negative : Bool) (half more m : ℕ) (text : List ℕ) → AllByRecursion (λ b. b < 256) text → IsSigned half (number_by negative m) text → length (shortest_by negative more m) ≤ length text
+by_least negative half zero m text small s = filled_signed half (number_by negative m) text s
+by_least negative half (suc more) m [] small s = absurd s
+by_least negative half (suc more) m (b ∷ []) small s = rw (lt-ltb m 64 (by_small negative b m s.0 s.3)) (omega arith)
+by_least negative half (suc more) m (b ∷ c ∷ bs) small s =
+    elim (cases_lt m 64) [
+      | inl low ↦ rw (lt-ltb _ _ low) (omega arith)
+      | inr high ↦
+          let above = by_above negative b m s.2.0 s.1 small.0 s.2.1 in
+          let rest = by_least negative (half / 128) more (m / 128) (c ∷ bs) small.1 (subst (λ (k : ℤ). IsSigned (half / 128) k (c ∷ bs)) above s.2.2) in
+          rw (le-ltb _ _ high) (omega (arith, rest))
+    ]
+
+pub signed_least : (half more : ℕ) (n : ℤ) (text : List ℕ) → AllByRecursion (λ b. b < 256) text → IsSigned half n text → length (shortest_signed more n) ≤ length text
+signed_least half more (pos m) text small s = by_least false half more m text small s
+signed_least half more (negsuc m) text small s = by_least true half more m text small (subst (λ (k : ℤ). IsSigned half k text) (negsuc_is m) s)
+
+pub u32_shortest : (n : ℕ) → n < 2 ^ 32 → IsShortest (IsUnsigned (2 ^ 32) n) (shortest_unsigned 4 n)
+u32_shortest n fits = record { spelled = u32_spelled n fits; least = λ text small s. unsigned_least (2 ^ 32) 4 n text small s }
+
+pub s64_shortest : (n : ℤ) → neg_ℤ (pos (2 ^ 63)) ≤ℤ n → n <ℤ pos (2 ^ 63) → IsShortest (IsSigned (2 ^ 63) n) (shortest_signed 9 n)
+s64_shortest n low high = record { spelled = s64_spelled n low high; least = λ text small s. signed_least (2 ^ 63) 9 n text small s }

@@ -1,6 +1,7 @@
 -- Numbers in LEB128 (WebAssembly Core 2.0, section 5.2.2): seven bits a byte, the lowest first; each byte but the last has
 -- its top bit set; the bits above the number's width are zeros, or copies of the sign.
-use Rattle.std.specs.Prelude.{◌≡◌, ℕ, ℤ, pos, ◌+ℤ◌, ◌-ℤ◌, ◌*ℤ◌, neg_ℤ, ◌≤ℤ◌, ◌<ℤ◌, zero, suc, ◌+◌, ◌-◌, ◌*◌, ◌/◌, ◌%◌, ◌<◌, ◌≤◌, ◌⊎◌, Bool, true, false, List, [], ◌∷◌, Result, Ok, Err, nat_lt, nat_le, if◌then◌else◌}
+use Rattle.std.specs.Prelude.{◌≡◌, ℕ, ℤ, pos, ◌+ℤ◌, ◌-ℤ◌, ◌*ℤ◌, neg_ℤ, ◌≤ℤ◌, ◌<ℤ◌, zero, suc, ◌+◌, ◌-◌, ◌*◌, ◌/◌, ◌%◌, ◌<◌, ◌≤◌, ◌⊎◌, Bool, true, false, List, [], ◌∷◌, Result, Ok, Err, nat_lt, nat_le, if◌then◌else◌, length, negsuc}
+use Rattle.std.specs.List.{AllByRecursion}
 use Rattle.virt_base.specs.declared.leb.LebFault.{LebFault}
 use Rattle.virt_base.specs.declared.leb.LebFault.TheVariants.{Short, TooLong}
 use Rattle.virt_base.specs.declared.cursor.Cursor.{Cursor}
@@ -100,3 +101,17 @@ low_bits true m = 127 - m
 abbrev pub shortest_by : Bool → ℕ → ℕ → List ℕ
 shortest_by negative zero m = low_bits negative m ∷ []
 shortest_by negative (suc more) m = if nat_lt m 64 then low_bits negative m ∷ [] else ((low_bits negative (m % 128) + 128) ∷ shortest_by negative more (m / 128))
+
+abbrev pub shortest_signed : ℕ → ℤ → List ℕ
+shortest_signed more (pos m) = shortest_by false more m
+shortest_signed more (negsuc m) = shortest_by true more m
+
+-- A spelling of the number, and no bytes that spell it are fewer.
+pub record IsShortest (Spells : List ℕ → Type 0) (text : List ℕ) : Type 0 where
+  pub spelled : Spells text
+  pub least : (other : List ℕ) → AllByRecursion (λ b. b < 256) other → Spells other → length text ≤ length other
+
+-- base times 128, so often: the limit of what so many bytes behind the first can spell
+abbrev pub limit_of : ℕ → ℕ → ℕ
+limit_of base zero = base
+limit_of base (suc more) = 128 * limit_of base more
