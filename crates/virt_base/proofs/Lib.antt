@@ -1,1 +1,3 @@
 pub mod LebLaws
+pub mod FailingLaws
+pub mod MemSinkLaws

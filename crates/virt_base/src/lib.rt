@@ -1,24 +1,32 @@
 //! What every crate stands on: text, lists, faults, numbers in LEB128, counted steps, and the outside.
 #![tactic(auto)]
 
+mod buffer;
 mod byte;
+mod contents;
 mod core_type;
 mod cursor;
+mod failing;
 mod fault;
 mod files;
 mod items;
 mod leb;
+mod mem_sink;
+mod mem_tables;
 mod sink;
 mod steps;
 mod text;
 
 pub use byte::next_byte;
+pub use contents::{Contents, NamedBytes, NamedEntries, NamedFile, NamedFolder};
 pub use core_type::{CoreType, CoreTypes};
 pub use cursor::Cursor;
+pub use failing::Places;
 pub use fault::{AppFault, NoMemory, Trap};
 pub use files::{Entries, Entry, EntryKind, FileFail, Files, WriteFailed};
 pub use items::{Bytes, Items, copy_bytes};
 pub use leb::{LebFault, read_s32, read_s33, read_s64, read_u32};
+pub use mem_sink::MemSink;
 pub use sink::{PutFailed, Sink};
 pub use steps::Steps;
 pub use text::{Text, TextFault};
