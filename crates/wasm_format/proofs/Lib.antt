@@ -1,0 +1,9 @@
+pub mod Laws
+pub mod NumberLaws
+pub mod NameLaws
+pub mod Loop
+pub mod Within
+pub mod SectionLaws
+pub mod SectionLoop
+pub mod UntilLaws
+pub mod UntilLoop

@@ -1,0 +1,5 @@
+pub mod Format
+pub mod Numbers
+pub mod Reads
+pub mod Sections
+pub mod Until

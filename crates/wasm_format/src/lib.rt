@@ -1,0 +1,18 @@
+//! Formats: how values are spelled in bytes, and readers and writers of them.
+#![tactic(auto)]
+
+mod literal;
+mod names;
+mod numbers;
+mod reader;
+mod sections;
+mod stop;
+mod until;
+
+pub use literal::{expect_bytes, expect_tag};
+pub use names::{ByteLists, Names, take_sized};
+pub use numbers::{S32, S33Index, S64, U32};
+pub use reader::{CountedVecs, Reader, Sized, Vecs};
+pub use sections::{Building, read_sections, read_to_the_end};
+pub use stop::Stop;
+pub use until::{Walk, read_until};
