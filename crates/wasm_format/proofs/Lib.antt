@@ -7,3 +7,4 @@ pub mod SectionLaws
 pub mod SectionLoop
 pub mod UntilLaws
 pub mod UntilLoop
+pub mod Writing

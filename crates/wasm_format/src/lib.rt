@@ -4,15 +4,22 @@
 mod literal;
 mod names;
 mod numbers;
+mod put;
 mod reader;
 mod sections;
 mod stop;
 mod until;
+mod writer;
 
-pub use literal::{expect_bytes, expect_tag};
+#[cfg(test)]
+mod tests;
+
+pub use literal::{expect_bytes, expect_tag, next_is_tag};
 pub use names::{ByteLists, Names, take_sized};
 pub use numbers::{S32, S33Index, S64, U32};
+pub use put::{put_byte, put_bytes, put_signed, put_u32};
 pub use reader::{CountedVecs, Reader, Sized, Vecs};
 pub use sections::{Building, read_sections, read_to_the_end};
 pub use stop::Stop;
 pub use until::{Walk, read_until};
+pub use writer::Writer;

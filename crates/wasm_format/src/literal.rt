@@ -1,6 +1,6 @@
-ghost use Rattle.std.specs.Prelude.{◌≡◌, ◌∷◌, ◌++◌, [], ℕ, List, length, drop, true, false};
-ghost use Rattle.virt_base.specs.Place.{place};
-ghost use Rattle.wasm_format.specs.Format.{literal, fixed};
+ghost use Rattle.std.specs.Prelude.{◌≡◌, ◌∷◌, ◌++◌, [], ℕ, List, length, drop, true, false, MatchOption};
+ghost use Rattle.virt_base.specs.Place.{place, rest};
+ghost use Rattle.wasm_format.specs.Format.{literal, fixed, is_tag_byte};
 ghost use Rattle.wasm_format.specs.Reads.{Reads};
 
 use crate::stop::Stop;
@@ -40,4 +40,15 @@ pub fn expect_bytes(c: &mut Cursor<'_>, bytes: &[u8]) -> Result<(), Stop>
     }
     c.at += bytes.len();
     Ok(())
+}
+
+/// Whether the next byte is a tag where a tag or a number may stand; none where the bytes end.
+pub fn next_is_tag(c: &Cursor<'_>) -> Option<bool>
+    ensures { MatchOption result (rest c.now ≡ []) (λ tag. (byte : ℕ) × (more : List ℕ) × (rest c.now ≡ byte ∷ more) × (tag ≡ is_tag_byte byte)) }
+{
+    let mut ahead = *c;
+    match next_byte(&mut ahead) {
+        None => None,
+        Some(byte) => Some(0x40 <= byte && byte < 0x80),
+    }
 }
