@@ -1,3 +1,7 @@
 pub mod LebLaws
 pub mod FailingLaws
 pub mod MemSinkLaws
+pub mod TableLaws
+pub mod EntryLaws
+pub mod MemFilesLaws
+pub mod MemMeans

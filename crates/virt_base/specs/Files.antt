@@ -1,10 +1,9 @@
 -- What a `Files` means: its count of faults, and what it holds where it tells that.
 use Rattle.std.specs.Prelude.{ℕ, ◌+◌, ◌≤◌, ◌<◌, ◌≡◌, ◌++◌, ◌⊎◌, ◌&&◌, not, List, [], ◌∷◌, Bool, true, false, Option, Some, None, IsSome, is_none, length, take, option_map, nat_lt}
-use Rattle.std.specs.Prelude.{if◌then◌else◌, Result, Ok, Err, is_err, IfOk, IfErr, OnOk, OnErr, Vec, vec_len}
+use Rattle.std.specs.Prelude.{if◌then◌else◌, Result, Ok, Err, is_err, IfOk, IfErr, OnOk, OnErr, Vec}
 use Rattle.std.specs.Str.{bytes_eq}
-use Rattle.std.specs.Ordering.{nat_cmp}
+use Rattle.std.specs.Ordering.{nat_cmp, is_lt}
 use Rattle.std.specs.Cmp.Lexicographic.{slice_cmp}
-use Rattle.std.specs.declared.cmp.Ordering.TheVariants.{Less}
 use Rattle.std.specs.declared.alloc.Global.{Global}
 use Rattle.virt_base.specs.Fault.{Rose}
 use Rattle.virt_base.specs.declared.files.Entry.{Entry}
@@ -27,10 +26,13 @@ pub record FilesState : Type 0 where
   pub held : Held
 
 -- each name stands before the next in the order of bytes
+abbrev pub in_order : List Entry → Bool
+in_order [] = true
+in_order (e ∷ []) = true
+in_order (e ∷ f ∷ es) = is_lt (slice_cmp nat_cmp e.name f.name) && in_order (f ∷ es)
+
 abbrev pub AreInOrder : List Entry → Type 0
-AreInOrder [] = Unit {0}
-AreInOrder (e ∷ []) = Unit {0}
-AreInOrder (e ∷ f ∷ es) = (slice_cmp nat_cmp e.name f.name ≡ Less) × AreInOrder (f ∷ es)
+AreInOrder entries = in_order entries ≡ true
 
 -- ---- one name changes, and all else stays
 
@@ -54,7 +56,7 @@ abbrev pub no_folder : Held → List ℕ → Bool
 no_folder h name = is_none (h.folder name)
 
 abbrev pub no_place : Held → List ℕ → Bool
-no_place h name = is_none (h.file name) && not (h.noted name)
+no_place h name = not (h.noted name) && no_file h name
 
 -- a file with so many bytes more is longer than the room
 abbrev pub is_over : ℕ → ℕ → Option (List ℕ) → Bool
@@ -94,7 +96,7 @@ FailsAs (Err NoMemory) due = Unit {0}
 
 -- for every `Files`
 abbrev pub IsWithin : ℕ → Result (Vec ℕ Global) FileFail → Type 0
-IsWithin limit (Ok bytes) = vec_len bytes ≤ limit
+IsWithin limit (Ok bytes) = length bytes.items ≤ limit
 IsWithin limit (Err (TooLong len)) = limit < len
 IsWithin limit (Err _) = Unit {0}
 

@@ -1,16 +1,15 @@
 -- Files in memory.
-use Rattle.std.specs.Prelude.{ℕ, ◌≡◌, ◌-◌, ◌||◌, Bool, true, List, [], ◌∷◌, Option, Some, None, is_some, unwrap_or, Result, Ok, Err, IsOk, is_err, length, take, max, nat_lt, if◌then◌else◌, Vec}
+use Rattle.std.specs.Prelude.{ℕ, ◌≡◌, ◌-◌, ◌||◌, false, Bool, true, List, [], ◌∷◌, Option, Some, None, is_some, unwrap_or, Result, Ok, Err, IsOk, is_err, length, take, max, nat_lt, if◌then◌else◌, Vec}
 use Rattle.std.specs.Str.{bytes_eq}
-use Rattle.std.specs.List.{AllByRecursion}
+use Rattle.std.specs.List.{list_all}
 use Rattle.std.specs.declared.alloc.Global.{Global}
 use Rattle.virt_base.specs.Failing.{Calls, is_listed, is_steady, after}
-use Rattle.virt_base.specs.Files.{Held, FilesState, AreInOrder, with_file, with_more, no_file, no_folder, no_place, no_room}
+use Rattle.virt_base.specs.Files.{Held, FilesState, in_order, with_file, with_more, no_file, no_folder, no_place, no_room}
 use Rattle.virt_base.specs.declared.files.Entry.{Entry}
 use Rattle.virt_base.specs.declared.files.FileFail.{FileFail}
 use Rattle.virt_base.specs.declared.files.FileFail.TheVariants.{Missing, Failed, TooLong, NoMemory}
 use Rattle.virt_base.specs.declared.files.WriteFailed.{WriteFailed}
-use Rattle.virt_base.specs.declared.contents.NamedFile.{NamedFile}
-use Rattle.virt_base.specs.declared.contents.NamedFolder.{NamedFolder}
+use Rattle.virt_base.specs.declared.contents.Named.{Named}
 use Rattle.virt_base.specs.declared.contents.Contents.{Contents}
 
 pub record MemFilesState : Type 0 where
@@ -22,28 +21,23 @@ files_state m = record { faults = m.calls.faults; told = true; steady = is_stead
 
 -- ---- the start
 
--- the first file of this name
-abbrev pub file_in : List NamedFile → List ℕ → Option (List ℕ)
-file_in [] name = None
-file_in (f ∷ fs) name = if bytes_eq name f.name then Some f.bytes else file_in fs name
-
--- the first folder of this name
-abbrev pub folder_in : List NamedFolder → List ℕ → Option (List Entry)
-folder_in [] name = None
-folder_in (f ∷ fs) name = if bytes_eq name f.name then Some f.entries else folder_in fs name
+-- the first that stands under this name
+abbrev pub first_named : {A : Type 0} → List (Named A) → List ℕ → Option A
+first_named [] name = None
+first_named (x ∷ xs) name = if bytes_eq x.name name then Some x.value else first_named xs name
 
 -- what is listed, with no room for more
 abbrev pub held_at_start : Contents → Held
 held_at_start c = record {
-  file = λ name. file_in c.files name;
-  folder = λ name. folder_in c.folders name;
-  noted = λ name. is_some (file_in c.files name);
-  room = λ name. length (unwrap_or (file_in c.files name) []);
+  file = λ name. first_named c.files name;
+  folder = λ name. first_named c.folders name;
+  noted = λ name. is_some (first_named c.files name);
+  room = λ name. length (unwrap_or (first_named c.files name) []);
 }
 
 -- in each folder the entries stand in order
-abbrev pub FoldersInOrder : List NamedFolder → Type 0
-FoldersInOrder = AllByRecursion (λ folder. AreInOrder folder.entries)
+abbrev pub all_in_order : List (Named (List Entry)) → Bool
+all_in_order folders = list_all (λ folder. in_order folder.value) folders
 
 -- room for so many bytes under a name, which is noted
 abbrev pub with_room : Held → List ℕ → ℕ → Held
@@ -53,6 +47,13 @@ with_room h name bytes = record h {
 }
 
 -- ---- what each call does
+
+abbrev pub is_fault : {X : Type 0} → Result X FileFail → Bool
+is_fault (Ok x) = false
+is_fault (Err Missing) = true
+is_fault (Err Failed) = true
+is_fault (Err (TooLong len)) = false
+is_fault (Err NoMemory) = false
 
 -- an answer is the one that is due, or want of memory in place of a value
 abbrev pub Answers : {A B : Type 0} → (A → B) → Result B FileFail → Result A FileFail → Type 0

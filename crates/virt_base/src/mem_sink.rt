@@ -57,6 +57,7 @@ impl MemSink {
     {
         self.calls.faults()
     }
+
     fn put_what_fits(&mut self, bytes: &[u8]) -> Result<(), PutFailed>
         ensures { MemPuts bytes.now self.old self.new result }
     {

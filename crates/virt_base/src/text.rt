@@ -59,6 +59,13 @@ impl Text {
         Text { chars }
     }
 
+    /// The string of a text, which takes no memory.
+    pub fn into_string(self) -> String
+        ensures { string_bytes result ≡ self }
+    {
+        self.chars
+    }
+
     pub fn bytes(&self) -> &[u8]
         ensures value { result.now ≡ self.now }
         ensures utf8 { IsUtf8 result.now }
