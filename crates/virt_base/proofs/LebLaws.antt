@@ -1,12 +1,12 @@
 -- Numbers are read as they are spelled, and refused as the rule says.
-use Rattle.std.proofs.Common.{◌≡◌, ℕ, ℤ, pos, negsuc, neg_ℤ, ◌+ℤ◌, ◌-ℤ◌, ◌*ℤ◌, ◌≤ℤ◌, ◌<ℤ◌, zero, suc, ◌+◌, ◌-◌, ◌*◌, ◌/◌, ◌%◌, ◌^◌, ◌<◌, ◌≤◌, Bool, true, false, cond, ltb, leb, List, [], ◌∷◌, ◌++◌, length, Result, Ok, Err, is_err, ◌⊎◌, inl, inr, refl, sym, ap, subst, ◌∙◌, arith}
+use Rattle.std.proofs.Common.{◌≡◌, ℕ, ℤ, pos, negsuc, neg_ℤ, ◌+ℤ◌, ◌-ℤ◌, ◌*ℤ◌, ◌≤ℤ◌, ◌<ℤ◌, zero, suc, ◌+◌, ◌-◌, ◌*◌, ◌/◌, ◌%◌, ◌^◌, ◌<◌, ◌≤◌, Bool, true, false, cond, ltb, leb, List, [], ◌∷◌, ◌++◌, length, Result, Ok, Err, is_err, ◌⊎◌, inl, inr, refl, sym, ap, subst, ◌∙◌, append_assoc, arith}
 use Rattle.std.proofs.lemmas.Bool.{ltb-true, lt-ltb, le-ltb, leb-true, le-leb, cases_lt}
 use Rattle.std.proofs.lemmas.Int.{ints}
 use Rattle.virt_base.specs.declared.cursor.Cursor.{Cursor}
 use Rattle.virt_base.specs.declared.leb.LebFault.{LebFault}
 use Rattle.virt_base.specs.declared.leb.LebFault.TheVariants.{Short, TooLong}
 use Rattle.virt_base.specs.Place.{Place, Takes, Gives, rest, place}
-use Rattle.virt_base.specs.Leb.{IsUnsigned, IsCut, IsTooLong, unsigned_at, above, seven, fits_seven, IsSigned, IsCutSigned, IsTooLongSigned, signed_at, above_signed, AnswersUnsigned, AnswersSigned, limit_of, shortest_unsigned, low_bits, shortest_by, shortest_signed, IsShortest}
+use Rattle.virt_base.specs.Leb.{IsUnsigned, IsCut, IsTooLong, unsigned_at, above, seven, fits_seven, IsSigned, IsCutSigned, IsTooLongSigned, signed_at, above_signed, AnswersUnsigned, AnswersSigned, limit_of, shortest_unsigned, low_bits, shortest_by, shortest_signed, number_by, IsShortest}
 use Rattle.std.specs.List.{AllByRecursion}
 
 abbrev pub from : ℕ → List ℕ → Place
@@ -210,23 +210,23 @@ longer_spelled : (half b : ℕ) (n high : ℤ) (text : List ℕ) → 64 < half �
 longer_spelled half b n high [] wide top e s = absurd s
 longer_spelled half b n high (c ∷ bs) wide top e s = (wide, top, (high, e, s))
 
--- m, or -1 - m where the number is negative
-abbrev number_by : Bool → ℕ → ℤ
-number_by false m = pos m
-number_by true m = neg_ℤ (pos m) -ℤ pos 1
+-- the same by negation, as `omega` has it
+abbrev number_of : Bool → ℕ → ℤ
+number_of false m = pos m
+number_of true m = neg_ℤ (pos m) -ℤ pos 1
 
-last_spelled : (negative : Bool) (half m : ℕ) → m < 64 → m < half → IsSigned half (number_by negative m) (low_bits negative m ∷ [])
+last_spelled : (negative : Bool) (half m : ℕ) → m < 64 → m < half → IsSigned half (number_of negative m) (low_bits negative m ∷ [])
 last_spelled false half m low fits =
     (omega arith, omega (arith, ints), omega (arith, ints), rw (lt-ltb _ _ low) refl)
 last_spelled true half m low fits =
     let top : 64 ≤ 127 - m = omega arith in
     (omega arith, omega (arith, ints), omega (arith, ints), rw (le-ltb _ _ top) (omega (arith, ints)))
 
-split_number : (negative : Bool) (m : ℕ) → number_by negative m ≡ pos (low_bits negative (m % 128) + 128 - 128) +ℤ pos 128 *ℤ number_by negative (m / 128)
+split_number : (negative : Bool) (m : ℕ) → number_of negative m ≡ pos (low_bits negative (m % 128) + 128 - 128) +ℤ pos 128 *ℤ number_of negative (m / 128)
 split_number false m = omega (arith, ints)
 split_number true m = omega (arith, ints)
 
-by_spelled : (negative : Bool) (base more m : ℕ) → base ≤ 64 → m < limit_of base more → IsSigned (limit_of base more) (number_by negative m) (shortest_by negative more m)
+by_spelled : (negative : Bool) (base more m : ℕ) → base ≤ 64 → m < limit_of base more → IsSigned (limit_of base more) (number_of negative m) (shortest_by negative more m)
 by_spelled negative base zero m small fits = last_spelled negative base m (omega arith) fits
 by_spelled negative base (suc more) m small fits =
     elim (cases_lt m 64) [
@@ -234,20 +234,20 @@ by_spelled negative base (suc more) m small fits =
       | inr high ↦
           let less : limit_of base (suc more) / 128 ≡ limit_of base more = omega arith in
           let rest = by_spelled negative base more (m / 128) small (omega arith) in
-          rw (le-ltb _ _ high) (longer_spelled (limit_of base (suc more)) (low_bits negative (m % 128) + 128) (number_by negative m) (number_by negative (m / 128)) (shortest_by negative more (m / 128)) (omega arith) (omega arith) (split_number negative m) (rw less rest))
+          rw (le-ltb _ _ high) (longer_spelled (limit_of base (suc more)) (low_bits negative (m % 128) + 128) (number_of negative m) (number_of negative (m / 128)) (shortest_by negative more (m / 128)) (omega arith) (omega arith) (split_number negative m) (rw less rest))
     ]
 
-below_zero : (k m : ℕ) → k ≡ suc m → neg_ℤ (pos k) ≡ number_by true m
+below_zero : (k m : ℕ) → k ≡ suc m → neg_ℤ (pos k) ≡ number_of true m
 below_zero k m e = omega (arith, ints, e)
 
-negsuc_is : (m : ℕ) → negsuc m ≡ number_by true m
+negsuc_is : (m : ℕ) → negsuc m ≡ number_of true m
 negsuc_is m = below_zero (suc m) m refl
 
 pub signed_spelled : (base more : ℕ) (n : ℤ) → base ≤ 64 → neg_ℤ (pos (limit_of base more)) ≤ℤ n → n <ℤ pos (limit_of base more) → IsSigned (limit_of base more) n (shortest_signed more n)
 signed_spelled base more (pos m) small low high = by_spelled false base more m small (omega (arith, ints, high))
 signed_spelled base more (negsuc m) small low high =
-    let low2 : neg_ℤ (pos (limit_of base more)) ≤ℤ number_by true m = rw (negsuc_is m) at low in
-    let s : IsSigned (limit_of base more) (number_by true m) (shortest_by true more m) = by_spelled true base more m small (omega (arith, ints, low2)) in
+    let low2 : neg_ℤ (pos (limit_of base more)) ≤ℤ number_of true m = rw (negsuc_is m) at low in
+    let s : IsSigned (limit_of base more) (number_of true m) (shortest_by true more m) = by_spelled true base more m small (omega (arith, ints, low2)) in
     subst (λ (k : ℤ). IsSigned (limit_of base more) k (shortest_by true more m)) (sym (negsuc_is m)) s
 
 -- room for more bytes than the number needs changes nothing
@@ -264,7 +264,7 @@ no_longer negative (suc some) (suc more) m h fits =
 pub signed_no_longer : (some more : ℕ) (n : ℤ) → some ≤ more → neg_ℤ (pos (limit_of 64 some)) ≤ℤ n → n <ℤ pos (limit_of 64 some) → shortest_signed more n ≡ shortest_signed some n
 signed_no_longer some more (pos m) h low high = no_longer false some more m h (omega (arith, ints, high))
 signed_no_longer some more (negsuc m) h low high =
-    let low2 : neg_ℤ (pos (limit_of 64 some)) ≤ℤ number_by true m = rw (negsuc_is m) at low in
+    let low2 : neg_ℤ (pos (limit_of 64 some)) ≤ℤ number_of true m = rw (negsuc_is m) at low in
     no_longer true some more m h (omega (arith, ints, low2))
 
 pub s64_spelled : (n : ℤ) → neg_ℤ (pos (2 ^ 63)) ≤ℤ n → n <ℤ pos (2 ^ 63) → IsSigned (2 ^ 63) n (shortest_signed 9 n)
@@ -309,16 +309,16 @@ seven_small b low =
       | inr ge ↦ rw (le-ltb _ _ ge) (omega (arith, ints), omega (arith, ints))
     ]
 
-by_small : (negative : Bool) (b m : ℕ) → b < 128 → number_by negative m ≡ seven b → m < 64
+by_small : (negative : Bool) (b m : ℕ) → b < 128 → number_of negative m ≡ seven b → m < 64
 by_small false b m low e = let s = seven_small b low in omega (arith, ints, s.0, s.1, e)
 by_small true b m low e = let s = seven_small b low in omega (arith, ints, s.0, s.1, e)
 
-by_above : (negative : Bool) (b m : ℕ) (high : ℤ) → 128 ≤ b → b < 256 → number_by negative m ≡ pos (b - 128) +ℤ pos 128 *ℤ high → high ≡ number_by negative (m / 128)
+by_above : (negative : Bool) (b m : ℕ) (high : ℤ) → 128 ≤ b → b < 256 → number_of negative m ≡ pos (b - 128) +ℤ pos 128 *ℤ high → high ≡ number_of negative (m / 128)
 by_above false b m high top small e = omega (arith, ints, e)
 by_above true b m high top small e = omega (arith, ints, e)
 
-by_least : (negative : Bool) (half more m : ℕ) (text : List ℕ) → AllByRecursion (λ b. b < 256) text → IsSigned half (number_by negative m) text → length (shortest_by negative more m) ≤ length text
-by_least negative half zero m text small s = filled_signed half (number_by negative m) text s
+by_least : (negative : Bool) (half more m : ℕ) (text : List ℕ) → AllByRecursion (λ b. b < 256) text → IsSigned half (number_of negative m) text → length (shortest_by negative more m) ≤ length text
+by_least negative half zero m text small s = filled_signed half (number_of negative m) text s
 by_least negative half (suc more) m [] small s = absurd s
 by_least negative half (suc more) m (b ∷ []) small s = rw (lt-ltb m 64 (by_small negative b m s.0 s.3)) (omega arith)
 by_least negative half (suc more) m (b ∷ c ∷ bs) small s =
@@ -339,3 +339,26 @@ u32_shortest n fits = record { spelled = u32_spelled n fits; least = λ text sma
 
 pub s64_shortest : (n : ℤ) → neg_ℤ (pos (2 ^ 63)) ≤ℤ n → n <ℤ pos (2 ^ 63) → IsShortest (IsSigned (2 ^ 63) n) (shortest_signed 9 n)
 s64_shortest n low high = record { spelled = s64_spelled n low high; least = λ text small s. signed_least (2 ^ 63) 9 n text small s }
+
+-- ---- written byte by byte
+
+pub unsigned_more : (more n : ℕ) → 128 ≤ n → n < limit_of 128 more → shortest_unsigned more n ≡ (n % 128 + 128) ∷ shortest_unsigned (more - 1) (n / 128)
+unsigned_more zero n big fits = absurd (omega (arith, big, fits))
+unsigned_more (suc more) n big fits =
+    let e : suc more - 1 ≡ more = omega arith in
+    rw (le-ltb _ _ big, e) refl
+
+pub signed_more : (negative : Bool) (more m : ℕ) → 64 ≤ m → m < limit_of 64 more → shortest_by negative more m ≡ (low_bits negative (m % 128) + 128) ∷ shortest_by negative (more - 1) (m / 128)
+signed_more negative zero m big fits = absurd (omega (arith, big, fits))
+signed_more negative (suc more) m big fits =
+    let e : suc more - 1 ≡ more = omega arith in
+    rw (le-ltb _ _ big, e) refl
+
+-- a byte, and what stands behind it
+pub one_then : (old new last rest : List ℕ) (byte : ℕ) (all : List ℕ) → all ≡ byte ∷ rest → new ≡ old ++ byte ∷ [] → last ≡ new ++ rest → last ≡ old ++ all
+one_then old new last rest byte all split pushed written =
+    written ∙ ap (λ (z : List ℕ). z ++ rest) pushed ∙ append_assoc old (byte ∷ []) rest ∙ ap (λ (z : List ℕ). old ++ z) (sym split)
+
+pub shortest_by_is : (n : ℤ) (negative : Bool) (m more : ℕ) → n ≡ number_by negative m → shortest_by negative more m ≡ shortest_signed more n
+shortest_by_is n false m more e = rw e refl
+shortest_by_is n true m more e = rw e refl

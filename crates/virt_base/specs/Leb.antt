@@ -106,6 +106,11 @@ abbrev pub shortest_signed : ℕ → ℤ → List ℕ
 shortest_signed more (pos m) = shortest_by false more m
 shortest_signed more (negsuc m) = shortest_by true more m
 
+-- m, or -1 - m where the number is negative
+abbrev pub number_by : Bool → ℕ → ℤ
+number_by false m = pos m
+number_by true m = negsuc m
+
 -- A spelling of the number, and no bytes that spell it are fewer.
 pub record IsShortest (Spells : List ℕ → Type 0) (text : List ℕ) : Type 0 where
   pub spelled : Spells text
