@@ -12,7 +12,7 @@ use Rattle.virt_base.specs.declared.files.FileFail.{FileFail}
 use Rattle.virt_base.specs.declared.files.FileFail.TheVariants.{Missing, Failed, TooLong, NoMemory}
 use Rattle.virt_base.specs.declared.files.WriteFailed.{WriteFailed}
 use Rattle.virt_base.proofs.FailingLaws.{not_listed, still_steady, never_falls, rose}
-use Rattle.virt_base.proofs.TableLaws.{with_more-nothing}
+use Rattle.virt_base.proofs.HeldLaws.{with_more_nothing}
 
 -- ---- counts
 
@@ -225,7 +225,7 @@ or_false true b e = absurd cc
 or_false false b e = (refl, sym e)
 
 prefix : (listed : Bool) (h g : Held) (name bytes : List ℕ) (k : ℕ) → g ≡ (if listed then h else with_more h name (take k bytes)) → (j : ℕ) × (g ≡ with_more h name (take j bytes))
-prefix true h g name bytes k e = (0, e ∙ with_more-nothing h name bytes)
+prefix true h g name bytes k e = (0, e ∙ with_more_nothing h name bytes)
 prefix false h g name bytes k e = (k, e)
 
 pub appends_means : (name bytes : List ℕ) (m n : MemFilesState) (r : Result (Unit {0}) WriteFailed) → MemAppends name bytes m n r → Appends name bytes (files_state m) (files_state n) r

@@ -14,6 +14,7 @@ use Rattle.virt_base.specs.Buffer.{Filled, fill}
 use Rattle.virt_base.specs.Files.{Held, with_file, with_more, set_file}
 use Rattle.virt_base.specs.MemFiles.{first_named, with_room, what_fits}
 use Rattle.virt_base.specs.MemInside.{shown, room_of, held_by, full}
+use Rattle.virt_base.proofs.HeldLaws.{with_file_same}
 use Rattle.virt_base.specs.declared.contents.Named.{Named}
 use Rattle.virt_base.specs.declared.files.Entry.{Entry}
 use Rattle.virt_base.specs.declared.mem_tables.MemFile.{MemFile}
@@ -95,36 +96,6 @@ held_extended m n d bs more old was u =
     ∙ ap (with_file (held_by (find_in m) d) bs) (shown_more old.there old.held more)
     ∙ ap (λ (found : Option MemFile). more_at (held_by (find_in m) d) bs found more) (sym was)
 
--- ---- a name that is absent
-
-if_same : {A : Type 0} (f : List ℕ → A) (n m : List ℕ) (x : A) (b : Bool) → (b ≡ true → n ≡ m) → f n ≡ x → (if b then x else f m) ≡ f m
-if_same f n m x true h e = sym e ∙ ap f (h refl)
-if_same f n m x false h e = refl
-
--- what a name holds is put there again
-pub with_file-same : (h : Held) (n : List ℕ) (bytes : Option (List ℕ)) → h.file n ≡ bytes → with_file h n bytes ≡ h
-with_file-same h n bytes e =
-    ap (λ (g : List ℕ → Option (List ℕ)). record h { file = g })
-    (fun_ext (λ m. if_same h.file n m bytes (bytes_eq n m) (λ e. (bytes_eq-Decides n m).0 e) e))
-
-none_more : (found : Option (List ℕ)) (more : List ℕ) → found ≡ None → found ≡ option_map (λ b. b ++ more) found
-none_more None more e = refl
-none_more (Some x) more e = absurd cc
-
-pub with_more-absent : (h : Held) (n more : List ℕ) → h.file n ≡ None → h ≡ with_more h n more
-with_more-absent h n more e = sym (with_file-same h n _ (none_more (h.file n) more e))
-
-append_none : (o : Option (List ℕ)) → o ≡ option_map (λ old. old ++ []) o
-append_none None = refl
-append_none (Some b) = ap (λ (z : List ℕ). Some z) (sym (append_nil b))
-  where
-    append_nil : (b : List ℕ) → b ++ [] ≡ b
-    append_nil b = search rules
-
--- no bytes at the end change nothing
-pub with_more-nothing : (h : Held) (n bytes : List ℕ) → h ≡ with_more h n (take 0 bytes)
-with_more-nothing h n bytes = sym (with_file-same h n _ (append_none (h.file n)))
-
 -- ---- room
 
 -- a new room under a name
@@ -176,7 +147,7 @@ pub held_unchanged : (m n : Table) (d : Folders) (bs : List ℕ) (old f : MemFil
     → Puts m n bs f → held_by (find_in n) d ≡ held_by (find_in m) d
 held_unchanged m n d bs old f was there held u =
     held_updated m n d bs old f was (ap (λ (h : Filled). h.room) held) u
-    ∙ with_file-same (held_by (find_in m) d) bs (shown (Some f)) (ap shown was ∙ shown_by _ _ _ _ (sym there) (ap (λ (h : Filled). h.bytes) (sym held)))
+    ∙ with_file_same (held_by (find_in m) d) bs (shown (Some f)) (ap shown was ∙ shown_by _ _ _ _ (sym there) (ap (λ (h : Filled). h.bytes) (sym held)))
   where
     shown_by : (a b : Bool) (x y : List ℕ) → a ≡ b → x ≡ y → (if a then Some x else None) ≡ (if b then Some y else None)
     shown_by a b x y p q = cc
