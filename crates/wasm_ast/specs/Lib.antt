@@ -1,1 +1,7 @@
+pub mod Boxed
 pub mod Numeric
+pub mod Types
+pub mod Instructions
+pub mod Expressions
+pub mod Items
+pub mod Modules

@@ -1,3 +1,4 @@
+use crate::boxed::Boxed;
 use crate::module::Indexes;
 use crate::numeric::NumericOp;
 use virt_base::{CoreType, CoreTypes, Items};
@@ -99,7 +100,7 @@ pub struct BranchTable {
 pub enum Instr {
     Plain(Op),
     I64Const(i64),
-    SelectTyped(Box<CoreTypes>),
+    SelectTyped(Boxed<CoreTypes>),
     Unreachable,
     Block(BlockType),
     Loop(BlockType),
@@ -108,7 +109,7 @@ pub enum Instr {
     End,
     Br(u32),
     BrIf(u32),
-    BrTable(Box<BranchTable>),
+    BrTable(Boxed<BranchTable>),
     Return,
     Call(u32),
     CallIndirect { ty: u32, table: u32 },

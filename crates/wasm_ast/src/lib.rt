@@ -1,11 +1,14 @@
 //! The trees of core modules and components, as their binary formats have them.
 #![tactic(auto)]
 
+mod boxed;
 mod component;
 mod instr;
 mod module;
 mod numeric;
+mod section;
 
+pub use boxed::Boxed;
 pub use component::{
     Alias, Canon, CanonOption, CaseType, Component, ComponentExport, ComponentImport, CoreArg,
     CoreExport, CoreInstance, CoreSort, ExternDesc, Instance, LabelType, Labels, NamedItem,
@@ -17,3 +20,4 @@ pub use module::{
     ImportItem, Indexes, Limits, LocalRun, Module, TableType,
 };
 pub use numeric::{Numeric, NumericOp, numeric_of};
+pub use section::{CoreProgress, CoreSection};

@@ -1,0 +1,4 @@
+pub mod TypeLaws
+pub mod InstructionLaws
+pub mod ItemLaws
+pub mod ModuleLaws
