@@ -1,4 +1,5 @@
 pub mod Boxed
+pub mod ComponentItems
 pub mod Numeric
 pub mod Types
 pub mod Instructions

@@ -1,0 +1,6 @@
+//! Reads components.
+#![tactic(auto)]
+
+mod constant;
+
+pub use constant::read_constant;

@@ -1,0 +1,10 @@
+//! The top call: from the words of a command line to the files that it writes and the text that it puts.
+#![tactic(auto)]
+
+mod command;
+mod line;
+mod report;
+mod status;
+mod write_out;
+
+pub use status::{PolicyFault, Status, code};

@@ -1,0 +1,28 @@
+ghost use Rattle.std.specs.Prelude.{◌≡◌, string_bytes};
+ghost use Rattle.virt_engine.specs.Line.{status_text};
+ghost use Rattle.virt_engine.specs.Report.{Puts, Reports};
+
+use crate::line::line_of;
+use crate::status::Status;
+use std::alloc::Global;
+use virt_base::Sink;
+
+/// Puts the text of a status that is due.
+pub fn put_text<S: Sink>(text: String, due: Status, out: &mut S) -> Status
+    ensures { Puts due (string_bytes text) (S.state out.old) (S.state out.new) result }
+{
+    match out.put(text.as_bytes()) {
+        Ok(()) => due,
+        Err(_) => Status::SinkFault,
+    }
+}
+
+/// Puts the text of a refusal; nothing where memory runs out.
+pub fn refuse<S: Sink>(alloc: Global, due: Status, out: &mut S) -> Status
+    ensures { Reports due (status_text due) (S.state out.old) (S.state out.new) result }
+{
+    match line_of(alloc, &due) {
+        Ok(text) => put_text(text, due, out),
+        Err(_) => Status::NoMemory,
+    }
+}

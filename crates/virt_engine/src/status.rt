@@ -1,0 +1,63 @@
+ghost use Rattle.std.specs.Prelude.{◌≡◌};
+ghost use Rattle.virt_engine.specs.Code.{code_of};
+
+use virt_base::{AppFault, Text};
+
+/// Why a policy is refused.
+#[derive(Debug, Drop)]
+pub enum PolicyFault {
+    /// The text is no TOML document.
+    NotToml,
+    /// The key at this path is unknown.
+    BadKey(Text),
+    /// The value at this path is of another type, or not one of those that are known.
+    BadValue(Text),
+    /// The name at this path can't be a file's.
+    BadName(Text),
+}
+
+/// How a call ended.
+#[derive(Debug, Drop)]
+pub enum Status {
+    Done,
+    PolicyRefused(PolicyFault),
+    AppRefused(AppFault),
+    /// The file of this name could not be read, or not be written.
+    FileFault(Text),
+    /// Standard output took not all of the text.
+    SinkFault,
+    /// What is named is above its limit.
+    OverLimit(Text, u64),
+    NoMemory,
+    /// The script is wrong at this path.
+    ScriptRefused(Text),
+    Trapped,
+    ScriptEnded,
+    StepsSpent,
+    BadAnswer,
+    TooDeep,
+    /// The words are no command.
+    Usage,
+}
+
+/// The exit status of a program that ended so.
+pub fn code(status: &Status) -> u8
+    ensures { result ≡ code_of status.now }
+{
+    match status {
+        Status::Done => 0,
+        Status::PolicyRefused(_) => 1,
+        Status::AppRefused(_) => 2,
+        Status::FileFault(_) => 3,
+        Status::SinkFault => 4,
+        Status::OverLimit(_, _) => 5,
+        Status::NoMemory => 6,
+        Status::ScriptRefused(_) => 7,
+        Status::Trapped => 10,
+        Status::ScriptEnded => 11,
+        Status::StepsSpent => 12,
+        Status::BadAnswer => 13,
+        Status::TooDeep => 14,
+        Status::Usage => 64,
+    }
+}
