@@ -2,3 +2,4 @@ pub mod TypeLaws
 pub mod InstructionLaws
 pub mod ItemLaws
 pub mod ModuleLaws
+pub mod ComponentGrammar

@@ -80,14 +80,14 @@ abbrev pub outer_alias : OuterSort → ℕ × ℕ → Alias
 outer_alias s p = aliases.Outer s p.0 p.1
 
 abbrev pub export_of : Alias → ℕ × List ℕ
-export_of (aliases.Export s instance name) = (instance, name)
-export_of (aliases.CoreExport s instance name) = (instance, name)
-export_of (aliases.Outer s count index) = (0, [])
+export_of (aliases.Export _ i n) = (i, n)
+export_of (aliases.CoreExport _ i n) = (i, n)
+export_of (aliases.Outer _ _ _) = (0, [])
 
 abbrev pub outer_of : Alias → ℕ × ℕ
-outer_of (aliases.Outer s count index) = (count, index)
-outer_of (aliases.Export s instance name) = (0, 0)
-outer_of (aliases.CoreExport s instance name) = (0, 0)
+outer_of (aliases.Outer _ count index) = (count, index)
+outer_of (aliases.Export _ _ _) = (0, 0)
+outer_of (aliases.CoreExport _ _ _) = (0, 0)
 
 -- an instance and a name of its exports
 abbrev pub from_instance : Sort → Format Alias
@@ -112,21 +112,21 @@ outer_tag outer_sorts.Type = 3
 outer_tag outer_sorts.Component = 4
 
 abbrev pub alias_tag : Alias → ℕ
-alias_tag (aliases.Export s instance name) = sort_tag s
-alias_tag (aliases.CoreExport s instance name) = 0
-alias_tag (aliases.Outer s count index) = outer_tag s
+alias_tag (aliases.Export s _ _) = sort_tag s
+alias_tag (aliases.CoreExport _ _ _) = 0
+alias_tag (aliases.Outer s _ _) = outer_tag s
 
 -- the byte behind 00: a core sort, or 11 for a core module
 abbrev pub core_alias_tag : Alias → ℕ
-core_alias_tag (aliases.CoreExport s instance name) = core_sort_tag s
-core_alias_tag (aliases.Export s instance name) = 0
-core_alias_tag (aliases.Outer s count index) = 0x11
+core_alias_tag (aliases.CoreExport s _ _) = core_sort_tag s
+core_alias_tag (aliases.Export _ _ _) = 0
+core_alias_tag (aliases.Outer _ _ _) = 0x11
 
 -- the target of a type: an export, or an outer scope
 abbrev pub type_target : Alias → ℕ
-type_target (aliases.Export s instance name) = 0
-type_target (aliases.CoreExport s instance name) = 1
-type_target (aliases.Outer s count index) = 2
+type_target (aliases.Export _ _ _) = 0
+type_target (aliases.CoreExport _ _ _) = 1
+type_target (aliases.Outer _ _ _) = 2
 
 unfoldable pub core_alias_format : Format Alias
 core_alias_format = tagged core_alias_tag (λ b.
