@@ -2,7 +2,9 @@
 #![tactic(auto)]
 
 mod command;
+mod item_writers;
 mod line;
+mod output;
 mod report;
 mod status;
 mod write_out;
