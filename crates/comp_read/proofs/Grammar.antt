@@ -90,3 +90,7 @@ answers bytes c (Err (Unsupported at byte)) e h = no_constant bytes (Unsupported
 pub answers_short : (bytes : List ℕ) (c : Cursor) (r : Result ℤ Stop) → Reads r c (component.read (start bytes)) → is_ok r ≡ true → 0 < length (rest c) → IsNoConstant bytes
 answers_short bytes c (Ok n) e h more = (is_none bytes n (place c) e more, left_over bytes n (place c) e more)
 answers_short bytes c (Err stop) e h more = absurd cc
+
+-- a constant that is spelled is the one that is read
+pub spelled_constant : (bytes : List ℕ) (n : ℤ) → SpellsConstant n bytes → constant_of bytes ≡ Some n
+spelled_constant bytes n s = is_constant bytes n (record { at = 0 + length bytes; rest = [] }) (spelled_read bytes n s) refl

@@ -45,6 +45,10 @@ unfolding back_bytes behind_app
 joined_back is es ls a b c d i l e f g h k =
     rw (k, h, g, f, i, l, e) (append_assoc ((section 5 (vec instance)).write one_instance) ((section 6 (vec alias)).write one_alias) ((section 11 (vec component_export)).write one_export))
 
+pub length-back : length back_bytes ≡ 23
+unfolding back_bytes behind_app instance argument alias component_export extern_name sort stated_desc u32_format name
+length-back = refl
+
 -- ---- what is written is an output
 
 wrapped_fits : (app : List ℕ) → length app < 2 ^ 32 → wrapped.Fits (output_of app)

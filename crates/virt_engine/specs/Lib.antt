@@ -2,5 +2,6 @@ pub mod Code
 pub mod Command
 pub mod Line
 pub mod Output
+pub mod Plan
 pub mod Report
 pub mod Writing

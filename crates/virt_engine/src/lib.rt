@@ -2,11 +2,14 @@
 #![tactic(auto)]
 
 mod command;
+mod engine;
 mod item_writers;
 mod line;
 mod output;
+mod plan;
 mod report;
 mod status;
 mod write_out;
 
+pub use engine::wasi_virt;
 pub use status::{PolicyFault, Status, code};

@@ -17,12 +17,16 @@ pub fn put_text<S: Sink>(text: String, due: Status, out: &mut S) -> Status
     }
 }
 
-/// Puts the text of a refusal; nothing where memory runs out.
+/// Puts the text of a refusal; nothing where memory runs out, or ran out before.
 pub fn refuse<S: Sink>(alloc: Global, due: Status, out: &mut S) -> Status
-    ensures { Reports due (status_text due) (S.state out.old) (S.state out.new) result }
+    ensures report { Reports due (status_text due) (S.state out.old) (S.state out.new) result }
+    ensures silent { result ≡ Status.NoMemory → S.state out.new ≡ S.state out.old }
 {
-    match line_of(alloc, &due) {
-        Ok(text) => put_text(text, due, out),
-        Err(_) => Status::NoMemory,
+    match due {
+        Status::NoMemory => Status::NoMemory,
+        due => match line_of(alloc, &due) {
+            Ok(text) => put_text(text, due, out),
+            Err(_) => Status::NoMemory,
+        },
     }
 }
