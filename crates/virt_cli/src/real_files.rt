@@ -1,0 +1,203 @@
+ghost use Rattle.std.specs.Prelude.{◌≡◌, ℕ, IsTrue, IfErr};
+ghost use Rattle.std.specs.Ordering.{nat_cmp};
+ghost use Rattle.std.specs.Cmp.Lexicographic.{slice_cmp};
+ghost use Rattle.virt_base.specs.Files.{IsWithin, IsListing, AreInOrder};
+
+use crate::real_sink::{one_more, write_whole};
+use std::alloc::Global;
+use std::cmp::Ordering;
+use std::fs;
+use std::fs::{DirEntry, OpenFile, OpenOptions};
+use std::io;
+use std::io::{ErrorKind, Read};
+use std::rt;
+use virt_base::{Entries, Entry, EntryKind, FileFail, Files, Items, Text, WriteFailed};
+
+/// So many bytes are read in one call.
+const PIECE: usize = 16_384;
+
+/// What an error of the machine is here; never that a file is too long.
+fn why(kind: ErrorKind) -> FileFail
+    ensures within { (limit : ℕ) → IsWithin limit (Err result) }
+    ensures listing { IsListing (Err result) }
+{
+    match kind {
+        ErrorKind::NotFound => FileFail::Missing,
+        ErrorKind::OutOfMemory => FileFail::NoMemory,
+        _ => FileFail::Failed,
+    }
+}
+
+/// Reads to the end, unless there are more bytes than the limit.
+fn read_all<R: Read>(file: &mut R, alloc: Global, limit: u64) -> Result<Vec<u8>, FileFail>
+    ensures { IsWithin limit result }
+{
+    let mut bytes = Vec::new(alloc);
+    let mut buffer = [0u8; PIECE];
+    for _ in 0..u64::MAX {
+        match file.read(&mut buffer) {
+            Ok(0) => return Ok(bytes),
+            Ok(count) => {
+                let len = bytes.len() as u64 + count as u64;
+                if len > limit {
+                    return Err(FileFail::TooLong(len));
+                }
+                if bytes.extend_from_slice(&buffer[..count]).is_err() {
+                    return Err(FileFail::NoMemory);
+                }
+            }
+            Err(_) => break,
+        }
+    }
+    Err(FileFail::Failed)
+}
+
+/// The bytes of a file. One that is longer than the limit is not read.
+fn read_file<R: rt::Files>(
+    rt: &R,
+    alloc: Global,
+    name: &str,
+    limit: u64,
+) -> Result<Vec<u8>, FileFail>
+    ensures { IsWithin limit result }
+{
+    let mut file = match fs::open(rt, name) {
+        Ok(file) => file,
+        Err(e) => return Err(why(e.kind())),
+    };
+    match file.metadata() {
+        Ok(found) if found.is_file() && found.len() > limit => Err(FileFail::TooLong(found.len())),
+        Ok(_) => read_all(&mut file, alloc, limit),
+        Err(_) => Err(FileFail::Failed),
+    }
+}
+
+/// An entry that is a file or a folder; another, as a symbolic link, is a failure.
+fn entry_of<R: rt::Files + Alloc>(
+    alloc: Global,
+    found: &DirEntry<R, R::A>,
+) -> Result<Entry, FileFail>
+    ensures { IfErr result (λ fail. IsListing (Err fail)) }
+{
+    let kind = match found.file_type() {
+        Ok(kind) if kind.is_file() => EntryKind::File,
+        Ok(kind) if kind.is_dir() => EntryKind::Folder,
+        _ => return Err(FileFail::Failed),
+    };
+    match Text::from_str(alloc, found.file_name()) {
+        Ok(name) => Ok(Entry { name, kind }),
+        Err(_) => Err(FileFail::NoMemory),
+    }
+}
+
+fn by_name(a: &Entry, b: &Entry) -> Ordering
+    ensures { result ≡ slice_cmp nat_cmp a.now.name b.now.name }
+{
+    a.name.bytes().cmp(b.name.bytes())
+}
+
+/// Whether each name stands before the next in the order of bytes.
+fn are_in_order(entries: &[Entry]) -> bool
+    ensures { IsTrue result → AreInOrder entries.now }
+{
+    let mut first = entries.len();
+    while first > 1 {
+        let before = &entries[first - 2];
+        let after = &entries[first - 1];
+        if by_name(before, after) != Ordering::Less {
+            return false;
+        }
+        first -= 1;
+    }
+    true
+}
+
+/// The entries of a folder, in the order of the bytes of their names.
+fn list_folder<R: rt::Files + Alloc + Clone + Drop>(
+    rt: &R,
+    alloc: Global,
+    name: &str,
+) -> Result<Entries, FileFail>
+    ensures { IsListing result }
+{
+    let folder = match fs::read_dir(rt, name) {
+        Ok(folder) => folder,
+        Err(e) => return Err(why(e.kind())),
+    };
+    let mut entries = Vec::new(alloc);
+    for found in folder {
+        let Ok(found) = found else {
+            return Err(FileFail::Failed);
+        };
+        if entries.push(entry_of(alloc, &found)?).is_err() {
+            return Err(FileFail::NoMemory);
+        }
+    }
+    if entries.sort_by(by_name).is_err() {
+        return Err(FileFail::NoMemory);
+    }
+    if !are_in_order(entries.as_slice()) {
+        return Err(FileFail::Failed);
+    }
+    Ok(Items::new(entries))
+}
+
+/// The machine's files, with their faults counted.
+#[derive(Drop)]
+pub struct RealFiles<'r, R> {
+    rt: &'r R,
+    faults: u64,
+}
+
+impl<'r, R> RealFiles<'r, R> {
+    pub fn new(rt: &'r R) -> RealFiles<'r, R> {
+        RealFiles { rt, faults: 0 }
+    }
+}
+
+impl<R: rt::Files + Alloc + Clone + Drop> Files for RealFiles<'_, R> {
+    ghost use Rattle.virt_cli.specs.Real.{untold_files};
+
+    ghost state = { λ s. untold_files s.faults };
+
+    fn read(&mut self, alloc: Global, name: &Text, limit: u64) -> Result<Vec<u8>, FileFail> {
+        let read = read_file(self.rt, alloc, name.as_str(), limit);
+        if let Err(FileFail::Missing | FileFail::Failed) = &read {
+            self.faults = one_more(self.faults);
+        }
+        read
+    }
+
+    fn list(&mut self, alloc: Global, folder: &Text) -> Result<Entries, FileFail> {
+        let listed = list_folder(self.rt, alloc, folder.as_str());
+        if let Err(FileFail::Missing | FileFail::Failed) = &listed {
+            self.faults = one_more(self.faults);
+        }
+        listed
+    }
+
+    fn create(&mut self, name: &Text) -> Result<(), WriteFailed> {
+        match fs::create(self.rt, name.as_str()) {
+            Ok(_) => Ok(()),
+            Err(_) => {
+                self.faults = one_more(self.faults);
+                Err(WriteFailed)
+            }
+        }
+    }
+
+    fn append(&mut self, name: &Text, bytes: &[u8]) -> Result<(), WriteFailed> {
+        let file = OpenOptions::new().append(true).open(self.rt, name.as_str());
+        let written = match file {
+            Ok(mut file) => write_whole(&mut file, bytes),
+            Err(e) => Err(e),
+        };
+        match written {
+            Ok(()) => Ok(()),
+            Err(_) => {
+                self.faults = one_more(self.faults);
+                Err(WriteFailed)
+            }
+        }
+    }
+}
