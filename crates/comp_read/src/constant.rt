@@ -22,7 +22,12 @@ impl Reader for Same {
     }
 }
 
-fn expect_section(alloc: Global, c: &mut Cursor<'_>, id: u8, content: &'static [u8]) -> Result<(), Stop>
+fn expect_section(
+    alloc: Global,
+    c: &mut Cursor<'_>,
+    id: u8,
+    content: &'static [u8],
+) -> Result<(), Stop>
     ensures input { c.new.bytes ≡ c.old.bytes }
     ensures value { Reads result c.new ((same_section id content.now).read (place c.old)) }
 {

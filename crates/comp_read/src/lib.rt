@@ -2,5 +2,7 @@
 #![tactic(auto)]
 
 mod constant;
+#[cfg(test)]
+mod tests;
 
 pub use constant::read_constant;

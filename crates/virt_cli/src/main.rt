@@ -6,9 +6,8 @@ mod real_sink;
 
 use real_files::RealFiles;
 use real_sink::RealSink;
-use std::env;
-use std::io;
 use std::process::ExitCode;
+use std::{env, io};
 use thiserror::Error;
 use virt_base::Text;
 use virt_engine::{Status, code, wasi_virt};

@@ -1,17 +1,15 @@
-ghost use Rattle.std.specs.Prelude.{◌≡◌, ℕ, IsTrue, IfErr};
-ghost use Rattle.std.specs.Ordering.{nat_cmp};
-ghost use Rattle.std.specs.Cmp.Lexicographic.{slice_cmp};
-ghost use Rattle.virt_base.specs.Files.{IsWithin, IsListing, AreInOrder};
+ghost use Rattle.std.specs.Prelude.{ℕ, IfErr};
+ghost use Rattle.virt_base.specs.Files.{IsWithin, IsListing};
 
 use crate::real_sink::{one_more, write_whole};
 use std::alloc::Global;
 use std::cmp::Ordering;
-use std::fs;
 use std::fs::{DirEntry, OpenFile, OpenOptions};
-use std::io;
 use std::io::{ErrorKind, Read};
-use std::rt;
-use virt_base::{Entries, Entry, EntryKind, FileFail, Files, Items, Text, WriteFailed};
+use std::{fs, io, rt};
+use virt_base::{
+    Entries, Entry, EntryKind, FileFail, Files, Items, Text, WriteFailed, are_in_order,
+};
 
 /// So many bytes are read in one call.
 const PIECE: usize = 16_384;
@@ -90,26 +88,8 @@ fn entry_of<R: rt::Files + Alloc>(
     }
 }
 
-fn by_name(a: &Entry, b: &Entry) -> Ordering
-    ensures { result ≡ slice_cmp nat_cmp a.now.name b.now.name }
-{
+fn by_name(a: &Entry, b: &Entry) -> Ordering {
     a.name.bytes().cmp(b.name.bytes())
-}
-
-/// Whether each name stands before the next in the order of bytes.
-fn are_in_order(entries: &[Entry]) -> bool
-    ensures { IsTrue result → AreInOrder entries.now }
-{
-    let mut first = entries.len();
-    while first > 1 {
-        let before = &entries[first - 2];
-        let after = &entries[first - 1];
-        if by_name(before, after) != Ordering::Less {
-            return false;
-        }
-        first -= 1;
-    }
-    true
 }
 
 /// The entries of a folder, in the order of the bytes of their names.
@@ -199,5 +179,35 @@ impl<R: rt::Files + Alloc + Clone + Drop> Files for RealFiles<'_, R> {
                 Err(WriteFailed)
             }
         }
+    }
+}
+
+#[cfg(test)]
+mod tests {
+    use super::RealFiles;
+    use crate::real_sink::RealSink;
+    use std::io;
+    use std::test::Fail;
+    use virt_base::{FileFail, Files, Sink, Text};
+
+    #[test]
+    fn a_file_is_written_and_read(rt: HostRuntime) -> Result<(), Fail> {
+        let alloc = rt.alloc();
+        let mut files = RealFiles::new(&rt);
+        let name = Text::from_str(alloc, "a_file_of_the_test")?;
+        assert!(rt; files.create(&name).is_ok());
+        assert!(rt; files.append(&name, b"ab").is_ok());
+        assert!(rt; files.append(&name, b"c").is_ok());
+        let read = files.read(alloc, &name, 3);
+        assert!(rt; read.is_ok_and(|bytes| bytes.as_slice() == b"abc".as_slice()));
+        let short = files.read(alloc, &name, 2);
+        assert!(rt; matches!(short, Err(FileFail::TooLong(3))));
+        let absent = files.read(alloc, &Text::from_str(alloc, "no_file_of_the_test")?, 2);
+        assert!(rt; matches!(absent, Err(FileFail::Missing)));
+        let here = files.list(alloc, &Text::from_str(alloc, ".")?);
+        assert!(rt; here.is_ok_and(|entries| !entries.is_empty()));
+        let mut out = RealSink::new(io::writer(&rt));
+        assert!(rt; out.put(b"").is_ok());
+        Ok(())
     }
 }

@@ -137,21 +137,21 @@ take_back k a b = sym (take-append-add a b k)
 
 pub adds_then : (n a b : List ℕ) (s t u : FilesState) (r : Result (Unit {0}) WriteFailed) → Adds n a s t (Ok tt) → Adds n b t u r → Adds n (a ++ b) s u r
 adds_then n a b s t u r p q =
-  let told_t = λ (told : s.told ≡ true). p.goes.told ∙ told in
-  record {
-    goes = goes_on s t u p.goes q.goes;
-    cause = on_err r (λ rose. omega (arith, p.goes.later, rose)) q.cause;
-    ok = on_ok r (λ k told. k (told_t told) ∙ ap (λ (h : Held). with_more h n b) (p.ok told) ∙ with_more-twice s.held n a b) q.ok;
-    failed = on_err r (λ k told.
-      let left = k (told_t told) in
-      (length a + left.0, left.1 ∙ ap (λ (h : Held). with_more h n (take left.0 b)) (p.ok told) ∙ with_more-twice s.held n a (take left.0 b) ∙ ap (λ (z : List ℕ). with_more s.held n z) (take_back left.0 a b))) q.failed;
-    quiet = λ told steady fits.
-      let all = fits_of s.held n (a ++ b) fits in
-      let first = p.quiet told steady (room_of s.held n a (fits_front s.held n a b all)) in
-      let there : no_room t.held n b ≡ false = subst (λ (h : Held). no_room h n b ≡ false) (sym (p.ok told)) (room_of (with_more s.held n a) n b (fits_behind s.held n a b all)) in
-      let second = q.quiet (told_t told) (p.goes.steady steady) there in
-      (second.0 ∙ first.0, second.1);
-  }
+    let told_t = λ (told : s.told ≡ true). p.goes.told ∙ told in
+    record {
+      goes = goes_on s t u p.goes q.goes;
+      cause = on_err r (λ rose. omega (arith, p.goes.later, rose)) q.cause;
+      ok = on_ok r (λ k told. k (told_t told) ∙ ap (λ (h : Held). with_more h n b) (p.ok told) ∙ with_more-twice s.held n a b) q.ok;
+      failed = on_err r (λ k told.
+          let left = k (told_t told) in
+          (length a + left.0, left.1 ∙ ap (λ (h : Held). with_more h n (take left.0 b)) (p.ok told) ∙ with_more-twice s.held n a (take left.0 b) ∙ ap (λ (z : List ℕ). with_more s.held n z) (take_back left.0 a b))) q.failed;
+      quiet = λ told steady fits.
+          let all = fits_of s.held n (a ++ b) fits in
+          let first = p.quiet told steady (room_of s.held n a (fits_front s.held n a b all)) in
+          let there : no_room t.held n b ≡ false = subst (λ (h : Held). no_room h n b ≡ false) (sym (p.ok told)) (room_of (with_more s.held n a) n b (fits_behind s.held n a b all)) in
+          let second = q.quiet (told_t told) (p.goes.steady steady) there in
+          (second.0 ∙ first.0, second.1);
+    }
 
 -- a part that was not added whole is a part of all that was due
 pub adds_broken : (n a b : List ℕ) (s t : FilesState) (e : WriteFailed) (r : Result (Unit {0}) WriteFailed) → IsErr r → Adds n a s t (Err e) → Adds n (a ++ b) s t r
@@ -162,31 +162,31 @@ adds_broken n a b s t e (Err f) h p = record {
   ok = tt;
   failed = λ told. let left = p.failed told in (min left.0 (length a), left.1 ∙ ap (λ (z : List ℕ). with_more s.held n z) (take_front left.0 a b));
   quiet = λ told steady fits.
-    let bad = p.quiet told steady (room_of s.held n a (fits_front s.held n a b (fits_of s.held n (a ++ b) fits))) in
-    absurd (true_false bad.1);
+      let bad = p.quiet told steady (room_of s.held n a (fits_front s.held n a b (fits_of s.held n (a ++ b) fits))) in
+      absurd (true_false bad.1);
 }
 
 -- a file that was made, and what was added to it
 pub writes_of : (n bytes : List ℕ) (s t u : FilesState) (r : Result (Unit {0}) WriteFailed) → Creates n s t (Ok tt) → Adds n bytes t u r → Writes n bytes s u r
 writes_of n bytes s t u r p q =
-  let told_t = λ (told : s.told ≡ true). p.goes.told ∙ told in
-  record {
-    goes = goes_on s t u p.goes q.goes;
-    cause = on_err r (λ rose. omega (arith, p.goes.later, rose)) q.cause;
-    ok = on_ok r (λ k told. k (told_t told) ∙ ap (λ (h : Held). with_more h n bytes) (p.ok told) ∙ with_more-with_file s.held n [] bytes) q.ok;
-    failed = on_err r (λ k told.
-      let left = k (told_t told) in
-      inr (inr (left.0, left.1 ∙ ap (λ (h : Held). with_more h n (take left.0 bytes)) (p.ok told) ∙ with_more-with_file s.held n [] (take left.0 bytes)))) q.failed;
-    quiet = λ told steady place room.
-      let made = p.steadily.quiet told steady place in
-      let there : Fits (with_file s.held n (Some [])) n bytes = record { old = []; there = file-with_file s.held n (Some []); short = omega (arith, room) } in
-      let fits : no_room t.held n bytes ≡ false = subst (λ (h : Held). no_room h n bytes ≡ false) (sym (p.ok told)) (room_of (with_file s.held n (Some [])) n bytes there) in
-      let added = q.quiet (told_t told) (p.goes.steady steady) fits in
-      (added.0 ∙ made, added.1);
-  }
+    let told_t = λ (told : s.told ≡ true). p.goes.told ∙ told in
+    record {
+      goes = goes_on s t u p.goes q.goes;
+      cause = on_err r (λ rose. omega (arith, p.goes.later, rose)) q.cause;
+      ok = on_ok r (λ k told. k (told_t told) ∙ ap (λ (h : Held). with_more h n bytes) (p.ok told) ∙ with_more-with_file s.held n [] bytes) q.ok;
+      failed = on_err r (λ k told.
+          let left = k (told_t told) in
+          inr (inr (left.0, left.1 ∙ ap (λ (h : Held). with_more h n (take left.0 bytes)) (p.ok told) ∙ with_more-with_file s.held n [] (take left.0 bytes)))) q.failed;
+      quiet = λ told steady place room.
+          let made = p.steadily.quiet told steady place in
+          let there : Fits (with_file s.held n (Some [])) n bytes = record { old = []; there = file-with_file s.held n (Some []); short = omega (arith, room) } in
+          let fits : no_room t.held n bytes ≡ false = subst (λ (h : Held). no_room h n bytes ≡ false) (sym (p.ok told)) (room_of (with_file s.held n (Some [])) n bytes there) in
+          let added = q.quiet (told_t told) (p.goes.steady steady) fits in
+          (added.0 ∙ made, added.1);
+    }
 
 left_of : (n bytes : List ℕ) (old new : Held) → (new ≡ old) ⊎ (new ≡ with_file old n None) ⊎ (new ≡ with_file old n (Some [])) → LeftOf n bytes old new
-left_of n bytes old new w = elim w [ | inl a ↦ inl a | inr v ↦ elim v [ | inl b ↦ inr (inl b) | inr c ↦ inr (inr (0, c)) ] ]
+left_of n bytes old new w = elim w [ inl a ↦ inl a | inr v ↦ elim v [ inl b ↦ inr (inl b) | inr c ↦ inr (inr (0, c)) ] ]
 
 pub writes_broken : (n bytes : List ℕ) (s t : FilesState) (e : WriteFailed) (r : Result (Unit {0}) WriteFailed) → IsErr r → Creates n s t (Err e) → Writes n bytes s t r
 writes_broken n bytes s t e (Ok x) h p = absurd cc
@@ -229,7 +229,7 @@ first_broken n a b c s t e r h p = adds_broken n a (b ++ c) s t e r h (adds_of n
 pub second_broken : (n a b c : List ℕ) (s t u : FilesState) (e : WriteFailed) (r : Result (Unit {0}) WriteFailed) → IsErr r → Appends n a s t (Ok tt) → Adds n b t u (Err e) → Adds n (a ++ (b ++ c)) s u r
 second_broken n a b c s t u e r h p q =
     subst (λ (z : List ℕ). Adds n z s u r) (append_assoc a b c)
-      (adds_broken n (a ++ b) c s u e r h (adds_then n a b s t u (Err e) (adds_of n a s t (Ok tt) p) q))
+    (adds_broken n (a ++ b) c s u e r h (adds_then n a b s t u (Err e) (adds_of n a s t (Ok tt) p) q))
 
 pub all_parts : (n a b c : List ℕ) (s t u v : FilesState) (r : Result (Unit {0}) WriteFailed) → Appends n a s t (Ok tt) → Adds n b t u (Ok tt) → Appends n c u v r → Adds n (a ++ (b ++ c)) s v r
 all_parts n a b c s t u v r p q w =

@@ -75,7 +75,7 @@ not_silent : (due : Status) (text : List ℕ) (k l : SinkState) (result : Status
 not_silent due text k l result loud p e = elim p.put [
   | inl w ↦ loud (sym w.status ∙ e)
   | inr b ↦ fault_is_not (sym b.status ∙ e)
-  ]
+]
   where
     fault_is_not : SinkFault ≡ NoMemory → ⊥
     fault_is_not h = cc
@@ -94,18 +94,18 @@ left_then s t u name bytes other stays left same = subst (λ (h : Held). LeftOf 
 
 pub ran_finish : (c : Command) (p : Ready) (s t u : FilesState) (k l : SinkState) (result : Status) → Plans c s t (Ok p) → Finishes c.out p t u k l result → RanCommand c s u k l result
 ran_finish c p s t u k l result q f words named =
-  let ready : IsReady c s p = q.ready in
-  let wrote = wrote_of c p s ready in
-  let told_t = λ (told : s.told ≡ true). q.goes.told ∙ told in
-  let quiet : FilesQuiet words s u = λ told steady none fits.
-      let room = fits c named (ready.due told) in
-      let first = (q.quiet told steady (no_fault_of s.held words c named none)).0 in
-      let place : no_place t.held c.out ≡ false = subst (λ (h : Held). no_place h c.out ≡ false) (sym q.stays) room.0 in
-      let short : length (output_bytes p.app.items) ≤ t.held.room c.out = subst (λ (h : Held). length (output_bytes p.app.items) ≤ h.room c.out) (sym q.stays) (room.1 p.app.items (ready.app told)) in
-      let short' : length (p.front.items ++ (p.app.items ++ p.back.items)) ≤ t.held.room c.out = subst (λ (z : List ℕ). length z ≤ t.held.room c.out) (sym ready.output) short in
-      f.quiet (told_t told) (q.goes.steady steady) place short' ∙ first in
-  elim f.end [
-    | inl w ↦ record {
+    let ready : IsReady c s p = q.ready in
+    let wrote = wrote_of c p s ready in
+    let told_t = λ (told : s.told ≡ true). q.goes.told ∙ told in
+    let quiet : FilesQuiet words s u = λ told steady none fits.
+    let room = fits c named (ready.due told) in
+    let first = (q.quiet told steady (no_fault_of s.held words c named none)).0 in
+    let place : no_place t.held c.out ≡ false = subst (λ (h : Held). no_place h c.out ≡ false) (sym q.stays) room.0 in
+    let short : length (output_bytes p.app.items) ≤ t.held.room c.out = subst (λ (h : Held). length (output_bytes p.app.items) ≤ h.room c.out) (sym q.stays) (room.1 p.app.items (ready.app told)) in
+    let short' : length (p.front.items ++ (p.app.items ++ p.back.items)) ≤ t.held.room c.out = subst (λ (z : List ℕ). length z ≤ t.held.room c.out) (sym ready.output) short in
+    f.quiet (told_t told) (q.goes.steady steady) place short' ∙ first in
+    elim f.end [
+      | inl w ↦ record {
         goes = goes_on s t u q.goes f.goes;
         due = Done;
         text = string_bytes p.done_line;
@@ -114,19 +114,19 @@ ran_finish c p s t u k l result q f words named =
         kept = λ h. absurd (not_silent Done (string_bytes p.done_line) k l result done_is_loud w.1 h);
         quiet = quiet;
       }
-    | inr w ↦
-      let puts : Puts (FileFault c.out) (status_text (FileFault c.out)) k l result =
+      | inr w ↦
+          let puts : Puts (FileFault c.out) (status_text (FileFault c.out)) k l result =
           subst (λ (z : List ℕ). Puts (FileFault c.out) z k l result) ready.fault_line (subst (λ (d : Status). Puts d (string_bytes p.fault_line) k l result) ready.fault w.2) in
-      record {
-        goes = goes_on s t u q.goes f.goes;
-        due = FileFault c.out;
-        text = status_text (FileFault c.out);
-        files = (c, named, refl, omega (arith, q.goes.later, w.0), inr (refl, (wrote, λ told. left_then s t u c.out _ (output_bytes p.app.items) q.stays (w.1 (told_t told)) ready.output)));
-        report = inl puts;
-        kept = λ h. absurd (not_silent (FileFault c.out) (status_text (FileFault c.out)) k l result (fault_is_loud c.out) puts h);
-        quiet = quiet;
-      }
-  ]
+          record {
+            goes = goes_on s t u q.goes f.goes;
+            due = FileFault c.out;
+            text = status_text (FileFault c.out);
+            files = (c, named, refl, omega (arith, q.goes.later, w.0), inr (refl, (wrote, λ told. left_then s t u c.out _ (output_bytes p.app.items) q.stays (w.1 (told_t told)) ready.output)));
+            report = inl puts;
+            kept = λ h. absurd (not_silent (FileFault c.out) (status_text (FileFault c.out)) k l result (fault_is_loud c.out) puts h);
+            quiet = quiet;
+          }
+    ]
 
 -- no command
 
@@ -145,15 +145,15 @@ ran_usage words s k l result none r silent = record {
 
 put_of : (due : Status) (text : List ℕ) (k l : SinkState) (result : Status) → Reports due text k l result → ¬ (Rose k.faults l.faults) → (result ≡ due) ⊎ (result ≡ NoMemory)
 put_of due text k l result r quiet = elim r [
-  | inl p ↦ elim p.put [ | inl w ↦ inl w.status | inr b ↦ absurd (quiet b.cause) ]
+  | inl p ↦ elim p.put [ inl w ↦ inl w.status | inr b ↦ absurd (quiet b.cause) ]
   | inr n ↦ inr n.0
-  ]
+]
 
 then : (result due is : Status) → due ≡ is → (result ≡ due) ⊎ (result ≡ NoMemory) → (result ≡ is) ⊎ (result ≡ NoMemory)
-then result due is e w = elim w [ | inl a ↦ inl (a ∙ e) | inr b ↦ inr b ]
+then result due is e w = elim w [ inl a ↦ inl (a ∙ e) | inr b ↦ inr b ]
 
 none_left : (result is : Status) → (result ≡ NoMemory) ⊎ (result ≡ NoMemory) → (result ≡ is) ⊎ (result ≡ NoMemory)
-none_left result is w = elim w [ | inl a ↦ inr a | inr b ↦ inr b ]
+none_left result is w = elim w [ inl a ↦ inr a | inr b ↦ inr b ]
 
 by_due : (due : Status) (text : List ℕ) (words : List (List ℕ)) (s t : FilesState) (k l : SinkState) (result : Status)
     → DueOf words s t due text → Reports due text k l result → Completes words s t k l result
@@ -227,9 +227,9 @@ memory_not_done h = cc
 
 due_of_done : (due : Status) (text : List ℕ) (k l : SinkState) (result : Status) → Reports due text k l result → result ≡ Done → due ≡ Done
 due_of_done due text k l result r e = elim r [
-  | inl p ↦ elim p.put [ | inl w ↦ sym w.status ∙ e | inr b ↦ absurd (fault_not_done (sym b.status ∙ e)) ]
+  | inl p ↦ elim p.put [ inl w ↦ sym w.status ∙ e | inr b ↦ absurd (fault_not_done (sym b.status ∙ e)) ]
   | inr n ↦ absurd (memory_not_done (sym n.0 ∙ e))
-  ]
+]
 
 pub delivers : (words : List (List ℕ)) (s t : FilesState) (k l : SinkState) (result : Status) → Ran words s t k l result → s.told ≡ true → result ≡ Done → Delivers words s t
 delivers words s t k l result r told e = delivers_by r.due r.text words s t r.files (due_of_done r.due r.text k l result r.report e) told

@@ -22,7 +22,13 @@ fn finish<F: Files, S: Sink>(ready: Ready, name: &Text, files: &mut F, out: &mut
         fault,
         fault_line,
     } = ready;
-    match write_out(name, front.as_slice(), app.as_slice(), back.as_slice(), files) {
+    match write_out(
+        name,
+        front.as_slice(),
+        app.as_slice(),
+        back.as_slice(),
+        files,
+    ) {
         Ok(()) => put_text(done_line, Status::Done, out),
         Err(_) => put_text(fault_line, fault, out),
     }
@@ -49,7 +55,12 @@ fn run_words<F: Files, S: Sink>(alloc: Global, words: &[Text], files: &mut F, ou
 /// Does what the words behind the program's name say: `virt APP -p POLICY -o OUT`, in this order, writes to OUT the
 /// component APP in its adapter, and puts one line that says what came of it. For now APP has the constant's form, and
 /// POLICY holds no bytes.
-pub fn wasi_virt<F: Files, S: Sink>(alloc: Global, words: &[Text], files: &mut F, out: &mut S) -> Status
+pub fn wasi_virt<F: Files, S: Sink>(
+    alloc: Global,
+    words: &[Text],
+    files: &mut F,
+    out: &mut S,
+) -> Status
     // why the status was due, what was put for it, and what has become of the files
     ensures ran { Ran words.now (F.state files.old) (F.state files.new) (S.state out.old) (S.state out.new) result }
 

@@ -4,7 +4,9 @@ ghost use Rattle.wasm_ast.specs.ComponentItems.{sort, extern_name, argument, inl
 
 use std::alloc::Global;
 use virt_base::{NoMemory, Text};
-use wasm_ast::{Alias, ComponentExport, CoreSort, ExternDesc, Instance, NamedItem, OuterSort, Sort};
+use wasm_ast::{
+    Alias, ComponentExport, CoreSort, ExternDesc, Instance, NamedItem, OuterSort, Sort,
+};
 use wasm_format::{Names, U32, Vecs, Writer, put_byte};
 
 /// The sorts of arguments and exports.
@@ -113,7 +115,11 @@ impl Writer for CoreAliases {
     #[tactic(auto, unfolding(wasm_ast::specs::ComponentItems::core_alias_format))]
     fn write(&self, alloc: Global, out: &mut Vec<u8>, value: &Alias) -> Result<(), NoMemory> {
         match value {
-            Alias::CoreExport { sort, instance, name } => {
+            Alias::CoreExport {
+                sort,
+                instance,
+                name,
+            } => {
                 let tag = match sort {
                     CoreSort::Func => 0,
                     CoreSort::Table => 1,
@@ -148,7 +154,11 @@ impl Writer for Aliases {
     #[tactic(auto, unfolding(wasm_ast::specs::ComponentItems::alias, wasm_ast::specs::ComponentItems::type_alias_format))]
     fn write(&self, alloc: Global, out: &mut Vec<u8>, value: &Alias) -> Result<(), NoMemory> {
         match value {
-            Alias::Export { sort, instance, name } => {
+            Alias::Export {
+                sort,
+                instance,
+                name,
+            } => {
                 let tag = match sort {
                     Sort::Func => 1,
                     Sort::Type => 3,
@@ -163,17 +173,28 @@ impl Writer for Aliases {
                 put_byte(alloc, out, 0)?;
                 CoreAliases.write(alloc, out, value)
             }
-            Alias::Outer { sort: OuterSort::CoreModule, .. } => {
+            Alias::Outer {
+                sort: OuterSort::CoreModule,
+                ..
+            } => {
                 put_byte(alloc, out, 0)?;
                 CoreAliases.write(alloc, out, value)
             }
-            Alias::Outer { sort: OuterSort::Type, count, index } => {
+            Alias::Outer {
+                sort: OuterSort::Type,
+                count,
+                index,
+            } => {
                 put_byte(alloc, out, 3)?;
                 put_byte(alloc, out, 2)?;
                 U32.write(alloc, out, count)?;
                 U32.write(alloc, out, index)
             }
-            Alias::Outer { sort: OuterSort::Component, count, index } => {
+            Alias::Outer {
+                sort: OuterSort::Component,
+                count,
+                index,
+            } => {
                 put_byte(alloc, out, 4)?;
                 put_byte(alloc, out, 2)?;
                 U32.write(alloc, out, count)?;
@@ -240,7 +261,12 @@ impl Writer for ComponentExports {
     ghost format = { λ _. component_export };
 
     #[tactic(auto, unfolding(wasm_ast::specs::ComponentItems::component_export))]
-    fn write(&self, alloc: Global, out: &mut Vec<u8>, value: &ComponentExport) -> Result<(), NoMemory> {
+    fn write(
+        &self,
+        alloc: Global,
+        out: &mut Vec<u8>,
+        value: &ComponentExport,
+    ) -> Result<(), NoMemory> {
         ExternNames.write(alloc, out, &value.name)?;
         Sorts.write(alloc, out, &value.sort)?;
         U32.write(alloc, out, &value.index)?;

@@ -9,6 +9,8 @@ mod output;
 mod plan;
 mod report;
 mod status;
+#[cfg(test)]
+mod tests;
 mod write_out;
 
 pub use engine::wasi_virt;

@@ -78,13 +78,21 @@ fn app_line(alloc: Global, fault: &AppFault) -> Result<String, AllocError>
 }
 
 /// The line of a call that wrote an output: how many bytes it read and wrote, and how many functions the output imports.
-pub fn done_line(alloc: Global, in_bytes: usize, out_bytes: usize, functions: usize) -> Result<String, AllocError>
+pub fn done_line(
+    alloc: Global,
+    in_bytes: usize,
+    out_bytes: usize,
+    functions: usize,
+) -> Result<String, AllocError>
     ensures { IfOk result (λ text. string_bytes text ≡ done_text in_bytes out_bytes functions) }
 {
-    format!(in alloc; "done: {in_bytes} bytes in, {out_bytes} bytes out, {functions} functions imported\n")
+    format!(in alloc;
+        "done: {in_bytes} bytes in, {out_bytes} bytes out, {functions} functions imported\n"
+    )
 }
 
-const USAGE: &str = "usage: wasi-virt virt APP -p POLICY -o OUT; run COMPONENT -s SCRIPT [-p POLICY] [--steps N]; gen N OUT\n";
+const USAGE: &str =
+    "usage: wasi-virt virt APP -p POLICY -o OUT; run COMPONENT -s SCRIPT [-p POLICY] [--steps N]; gen N OUT\n";
 
 /// The text of a status that is no success.
 pub fn line_of(alloc: Global, status: &Status) -> Result<String, AllocError>

@@ -20,8 +20,11 @@ const PREAMBLE: [u8; 8] = [0x00, 0x61, 0x73, 0x6D, 0x0D, 0x00, 0x01, 0x00];
 
 /// The id of the section that holds a component.
 const COMPONENT: u8 = 4;
+
 const INSTANCES: u8 = 5;
+
 const ALIASES: u8 = 6;
+
 const EXPORTS: u8 = 11;
 
 #[tactic(auto, unfolding(crate::specs::Output::front_of, wasm_format::specs::Format::u32_format))]
@@ -72,10 +75,11 @@ fn instances(alloc: Global) -> Result<Items<Instance>, NoMemory>
 fn aliases(alloc: Global) -> Result<Items<Alias>, NoMemory>
     ensures { IfOk result (λ list. list ≡ one_alias) }
 {
+    let name = Text::from_str(alloc, "f")?;
     let function = Alias::Export {
         sort: Sort::Func,
         instance: 0,
-        name: Text::from_str(alloc, "f")?,
+        name,
     };
     list_of(alloc, function)
 }
@@ -83,8 +87,9 @@ fn aliases(alloc: Global) -> Result<Items<Alias>, NoMemory>
 fn exports(alloc: Global) -> Result<Items<ComponentExport>, NoMemory>
     ensures { IfOk result (λ list. list ≡ one_export) }
 {
+    let exported = Text::from_str(alloc, "f")?;
     let function = ComponentExport {
-        name: Text::from_str(alloc, "f")?,
+        name: exported,
         sort: Sort::Func,
         index: 0,
         desc: None,

@@ -88,7 +88,12 @@ fn test_form(alloc: Global, app: &[u8]) -> Result<(), Status>
     }
 }
 
-fn lines_for(alloc: Global, out: &Text, in_bytes: usize, out_bytes: usize) -> Result<(String, Status, String), AllocError>
+fn lines_for(
+    alloc: Global,
+    out: &Text,
+    in_bytes: usize,
+    out_bytes: usize,
+) -> Result<(String, Status, String), AllocError>
     ensures done { IfOk result (λ p. string_bytes p.0 ≡ done_text in_bytes out_bytes 0) }
     ensures fault { IfOk result (λ p. p.1 ≡ Status.FileFault out.now) }
     ensures line { IfOk result (λ p. string_bytes p.2 ≡ status_text (Status.FileFault out.now)) }

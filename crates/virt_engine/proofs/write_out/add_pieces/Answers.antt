@@ -8,5 +8,5 @@ returns-in_err-append g c = broken_piece _ c.loop-at.at c.min.result c.args.byte
 pub loop-at-preserved : goal.loop-at-preserved
 loop-at-preserved g c = record {
   within = omega arith;
-  added = next_piece _ c.loop-at.at c.min.result c.args.bytes.now _ _ _ c.loop-at.invariant.added c.in_ok-append.ensures
+  added = next_piece _ c.loop-at.at c.min.result c.args.bytes.now _ _ _ c.loop-at.invariant.added c.in_ok-append.ensures;
 }

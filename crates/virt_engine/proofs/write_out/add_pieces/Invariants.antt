@@ -5,7 +5,7 @@ use Rattle.virt_engine.proofs.write_out.add_pieces.Given as goal
 abbrev pub invariant-loop-at : goal.invariant-loop-at
 invariant-loop-at g l = record {
   within : l.at ≤ length l.bytes;
-  added : Adds l.name (take l.at l.bytes) (g.F.Files.state l.fn.files) (g.F.Files.state l.files) (Ok tt)
+  added : Adds l.name (take l.at l.bytes) (g.F.Files.state l.fn.files) (g.F.Files.state l.files) (Ok tt);
 }
 
 abbrev pub decreases-loop-at : goal.decreases-loop-at
