@@ -1,6 +1,6 @@
 -- Entries in order.
 use Rattle.std.proofs.Common.{◌≡◌, ℕ, ◌≤◌, List, [], ◌∷◌, length, Bool, true, false, refl, arith}
-use Rattle.std.specs.Prelude.{Option, Some, None, ◌&&◌, if◌then◌else◌}
+use Rattle.std.specs.Prelude.{Some, ◌&&◌, if◌then◌else◌}
 use Rattle.std.specs.Str.{bytes_eq}
 use Rattle.virt_base.specs.MemFiles.{first_named, all_in_order}
 use Rattle.virt_base.specs.declared.contents.Named.{Named}

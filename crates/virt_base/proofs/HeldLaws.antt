@@ -4,7 +4,7 @@ use Rattle.std.specs.Prelude.{Option, Some, None, if◌then◌else◌, option_ma
 use Rattle.std.specs.Str.{bytes_eq}
 use Rattle.std.proofs.lemmas.Slice.Eq.{bytes_eq-Decides}
 use mathlib.Core.Path.{fun_ext}
-use Rattle.virt_base.specs.Files.{Held, set_file, with_file, with_more}
+use Rattle.virt_base.specs.Files.{Held, with_file, with_more}
 
 same_text : (n : List ℕ) → bytes_eq n n ≡ true
 same_text n = search rules

@@ -1,7 +1,7 @@
 -- Calls of files in memory.
-use Rattle.std.proofs.Common.{◌≡◌, ℕ, ◌+◌, ◌-◌, ◌≤◌, ◌<◌, List, [], ◌∷◌, ◌++◌, length, take, Bool, true, false, cond, ltb, Result, Ok, Err, is_err, refl, sym, ap, subst, ◌∙◌, arith, take_all}
-use Rattle.std.specs.Prelude.{◌||◌, Option, Some, None, if◌then◌else◌, unwrap_or}
-use Rattle.virt_base.specs.Failing.{Calls, is_listed, is_steady, after}
+use Rattle.std.proofs.Common.{◌≡◌, ℕ, List, [], Bool, true, false, Result, is_err, refl, ap, ◌∙◌}
+use Rattle.std.specs.Prelude.{◌||◌, Some, if◌then◌else◌}
+use Rattle.virt_base.specs.Failing.{Calls, is_listed, after}
 use Rattle.virt_base.specs.Files.{Held, with_file, with_more, no_place, no_room}
 use Rattle.virt_base.specs.MemFiles.{MemFilesState, MemCreates, MemAppends, what_fits}
 use Rattle.virt_base.specs.declared.files.WriteFailed.{WriteFailed}

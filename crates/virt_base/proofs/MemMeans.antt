@@ -1,12 +1,12 @@
 -- A call of files in memory is one of files.
-use Rattle.std.proofs.Common.{◌≡◌, ℕ, ◌+◌, ◌-◌, ◌≤◌, ◌<◌, List, [], ◌∷◌, ◌++◌, length, take, Bool, true, false, cond, ltb, Result, Ok, Err, is_err, refl, sym, ap, subst, ◌∙◌, arith, take_all, inl, inr, ◌⊎◌}
+use Rattle.std.proofs.Common.{◌≡◌, ℕ, ◌+◌, ◌-◌, ◌≤◌, ◌<◌, List, [], length, take, Bool, true, false, Result, Ok, Err, refl, sym, ap, subst, ◌∙◌, arith, take_all, inl, inr}
 use Rattle.std.proofs.lemmas.Bool.{ltb-false, le-ltb, cases_lt, lt-ltb}
 use Rattle.std.specs.Prelude.{◌||◌, Option, Some, None, IsSome, is_none, if◌then◌else◌, unwrap_or, IfOk, Vec}
 use Rattle.std.specs.declared.alloc.Global.{Global}
 use Rattle.virt_base.specs.Fault.{Rose}
 use Rattle.virt_base.specs.Failing.{Calls, is_listed, is_steady, after}
-use Rattle.virt_base.specs.Files.{Held, FilesState, Goes, FailsOnly, AreInOrder, Reads, Lists, Creates, Appends, with_file, with_more, no_file, no_folder, no_place, no_room, is_over}
-use Rattle.virt_base.specs.MemFiles.{MemFilesState, files_state, read_due, list_due, what_fits, MemReads, MemLists, MemCreates, MemAppends, create_fails, append_fails}
+use Rattle.virt_base.specs.Files.{Held, Goes, AreInOrder, Reads, Lists, Creates, Appends, with_file, with_more, no_file, no_folder, no_place, no_room, is_over}
+use Rattle.virt_base.specs.MemFiles.{MemFilesState, files_state, read_due, list_due, what_fits, MemReads, MemLists, MemCreates, MemAppends, create_fails}
 use Rattle.virt_base.specs.declared.files.Entry.{Entry}
 use Rattle.virt_base.specs.declared.files.FileFail.{FileFail}
 use Rattle.virt_base.specs.declared.files.FileFail.TheVariants.{Missing, Failed, TooLong, NoMemory}

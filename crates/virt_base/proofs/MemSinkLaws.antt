@@ -1,12 +1,11 @@
 -- A put of a sink in memory is a put.
-use Rattle.std.proofs.Common.{◌≡◌, ℕ, ◌+◌, ◌-◌, ◌≤◌, ◌<◌, List, [], ◌∷◌, ◌++◌, length, take, Bool, true, false, cond, ltb, Result, Ok, Err, is_err, refl, sym, ap, subst, ◌∙◌, arith, take_all, append-nil}
-use Rattle.std.proofs.lemmas.Bool.{ltb-false, le-ltb, cases_lt, lt-ltb}
+use Rattle.std.proofs.Common.{◌≡◌, ℕ, ◌+◌, ◌-◌, ◌≤◌, List, ◌++◌, length, take, Bool, true, false, cond, ltb, Result, Ok, Err, refl, sym, ap, ◌∙◌, arith, take_all, append-nil}
+use Rattle.std.proofs.lemmas.Bool.{ltb-false}
 use Rattle.std.specs.Prelude.{◌||◌}
-use Rattle.virt_base.specs.Fault.{Rose}
 use Rattle.virt_base.specs.Buffer.{Filled, fill}
-use Rattle.virt_base.specs.Failing.{Calls, is_listed, is_steady, after}
-use Rattle.virt_base.specs.Sink.{SinkState, Puts, is_full}
-use Rattle.virt_base.specs.MemSink.{MemSinkState, sink_state, put_fails, MemPuts}
+use Rattle.virt_base.specs.Failing.{Calls, is_listed, after}
+use Rattle.virt_base.specs.Sink.{Puts, is_full}
+use Rattle.virt_base.specs.MemSink.{MemSinkState, sink_state, MemPuts}
 use Rattle.virt_base.specs.declared.sink.PutFailed.{PutFailed}
 use Rattle.virt_base.proofs.FailingLaws.{not_listed, still_steady, never_falls, rose}
 

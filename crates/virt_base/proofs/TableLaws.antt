@@ -1,6 +1,6 @@
 -- A file that was changed in a map, seen as what is held.
-use Rattle.std.proofs.Common.{take_all, ◌≡◌, ◌≤◌, ◌+◌, ◌-◌, ◌++◌, take, length, nat_le, ltb, ℕ, List, [], ◌∷◌, Bool, true, false, cond, arith, refl, ap, sym, ◌∙◌, rules, subst}
-use Rattle.std.specs.Prelude.{Option, Some, None, is_some, if◌then◌else◌, String, option_map, option_to_list, max, unwrap_or, Result, Ok, Err, OnOk, OnErr}
+use Rattle.std.proofs.Common.{◌≡◌, ◌-◌, ◌++◌, take, length, ℕ, List, [], ◌∷◌, Bool, true, false, arith, refl, ap, sym, ◌∙◌}
+use Rattle.std.specs.Prelude.{Option, Some, None, is_some, if◌then◌else◌, String, option_map, max, unwrap_or, Result, Ok, Err, OnOk, OnErr}
 use Rattle.std.specs.BTreeMap.{BTreeMap, UpdatesBy, get_by_text}
 use Rattle.std.specs.Str.{bytes_eq}
 use Rattle.std.specs.String.{string_cmp, string_bytes}
@@ -11,9 +11,9 @@ use Rattle.std.proofs.lemmas.Slice.Eq.{bytes_eq-Decides}
 use Rattle.std.proofs.lemmas.Map.Text.{btree_map_updates_text}
 use mathlib.Core.Path.{fun_ext}
 use Rattle.virt_base.specs.Buffer.{Filled, fill}
-use Rattle.virt_base.specs.Files.{Held, with_file, with_more, set_file}
+use Rattle.virt_base.specs.Files.{Held, with_file, with_more}
 use Rattle.virt_base.specs.MemFiles.{first_named, with_room, what_fits}
-use Rattle.virt_base.specs.MemInside.{shown, room_of, held_by, full}
+use Rattle.virt_base.specs.MemInside.{shown, room_of, held_by}
 use Rattle.virt_base.proofs.HeldLaws.{with_file_same}
 use Rattle.virt_base.specs.declared.contents.Named.{Named}
 use Rattle.virt_base.specs.declared.files.Entry.{Entry}

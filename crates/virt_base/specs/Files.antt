@@ -1,6 +1,6 @@
 -- What a `Files` means: its count of faults, and what it holds where it tells that.
 use Rattle.std.specs.Prelude.{ℕ, ◌+◌, ◌≤◌, ◌<◌, ◌≡◌, ◌++◌, ◌⊎◌, ◌&&◌, not, List, [], ◌∷◌, Bool, true, false, Option, Some, None, IsSome, is_none, length, take, option_map, nat_lt}
-use Rattle.std.specs.Prelude.{if◌then◌else◌, Result, Ok, Err, is_err, IfOk, IfErr, OnOk, OnErr, Vec}
+use Rattle.std.specs.Prelude.{if◌then◌else◌, Result, Ok, Err, is_err, IfErr, OnOk, OnErr, Vec}
 use Rattle.std.specs.Str.{bytes_eq}
 use Rattle.std.specs.Ordering.{nat_cmp, is_lt}
 use Rattle.std.specs.Cmp.Lexicographic.{slice_cmp}

@@ -1,5 +1,5 @@
 -- Folders by name.
-use Rattle.std.specs.Prelude.{ℕ, ◌≡◌, List, Option, Some, String}
+use Rattle.std.specs.Prelude.{ℕ, ◌≡◌, List, Some, String}
 use Rattle.std.specs.BTreeMap.{BTreeMap, get_by_text}
 use Rattle.std.specs.declared.alloc.Global.{Global}
 use Rattle.virt_base.specs.Files.{AreInOrder}

@@ -1,5 +1,5 @@
-use Rattle.std.proofs.Common.{rules, ◌≡◌, refl, sym, ap, ◌∙◌, true, false, [], List, ℕ}
-use Rattle.std.specs.Prelude.{Option, Some, ◌||◌}
+use Rattle.std.proofs.Common.{rules, ◌≡◌, refl, sym, ap, ◌∙◌, false, []}
+use Rattle.std.specs.Prelude.{Some, ◌||◌}
 use Rattle.std.specs.BTreeMap.{get_by_text}
 use Rattle.virt_base.specs.Files.{with_file}
 use Rattle.virt_base.specs.MemInside.{shown, held_by, is_no_place}

@@ -1,5 +1,5 @@
-use Rattle.std.proofs.Common.{rules, ◌≡◌, refl, sym, ap, ◌∙◌, subst, List, ℕ}
-use Rattle.std.specs.Prelude.{Option, Some}
+use Rattle.std.proofs.Common.{rules, ◌≡◌, sym, ◌∙◌, subst}
+use Rattle.std.specs.Prelude.{Some}
 use Rattle.std.specs.BTreeMap.{get_by_text}
 use Rattle.virt_base.specs.declared.mem_tables.MemFile.{MemFile}
 use Rattle.virt_base.specs.Files.{with_more}

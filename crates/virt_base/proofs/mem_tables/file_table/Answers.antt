@@ -1,6 +1,6 @@
-use Rattle.std.proofs.Common.{◌≡◌, ◌∙◌, refl, sym, ap, true, length, ℕ, List, None, rules}
+use Rattle.std.proofs.Common.{◌≡◌, ◌∙◌, ap, true, rules}
 use Rattle.std.specs.BTreeMap.{get_by_text}
-use Rattle.std.specs.Prelude.{Some, Option, string_bytes, option_map}
+use Rattle.std.specs.Prelude.{string_bytes}
 use Rattle.virt_base.specs.MemInside.{full}
 use Rattle.virt_base.specs.declared.mem_tables.MemFile.{MemFile}
 use Rattle.virt_base.proofs.TableLaws.{first_or-step, first_or-start}

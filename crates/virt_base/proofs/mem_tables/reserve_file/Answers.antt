@@ -1,9 +1,8 @@
-use Rattle.std.proofs.Common.{rules, ◌≡◌, arith, false, refl, sym, ap, ◌∙◌, subst, List, ℕ}
-use Rattle.std.specs.Prelude.{Option, Some, None, string_bytes, if◌then◌else◌}
+use Rattle.std.proofs.Common.{rules, ◌≡◌, arith, false, refl, sym, ap, ◌∙◌, List, ℕ}
+use Rattle.std.specs.Prelude.{Some, None, string_bytes, if◌then◌else◌}
 use Rattle.std.specs.Str.{bytes_eq}
 use Rattle.std.specs.BTreeMap.{get_by_text}
 use Rattle.virt_base.specs.Buffer.{Filled}
-use Rattle.virt_base.specs.MemInside.{shown}
 use Rattle.virt_base.specs.declared.mem_tables.MemFile.{MemFile}
 use Rattle.virt_base.proofs.TableLaws.{held_with_room, held_noted, held_unchanged, on_ok, on_err}
 use Rattle.virt_base.proofs.mem_tables.reserve_file.Goals as goal

@@ -1,4 +1,4 @@
-use Rattle.std.proofs.Common.{◌≡◌, ◌∙◌, sym, ap, subst, List, ℕ, rules, true, false, is_err}
+use Rattle.std.proofs.Common.{◌≡◌, ◌∙◌, ap, subst, List, ℕ, rules, true, false, is_err}
 use Rattle.std.specs.BTreeMap.{get_by_text}
 use Rattle.virt_base.specs.Failing.{after}
 use Rattle.virt_base.specs.MemInside.{held_in}

@@ -1,4 +1,4 @@
-use Rattle.std.proofs.Common.{◌≡◌, ◌∙◌, ap, List, ℕ}
+use Rattle.std.proofs.Common.{◌∙◌, ap, List, ℕ}
 use Rattle.std.specs.BTreeMap.{get_by_text}
 use Rattle.virt_base.specs.Files.{Held}
 use Rattle.virt_base.specs.MemFiles.{MemFilesState, with_room}
