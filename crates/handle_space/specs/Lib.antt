@@ -1,0 +1,3 @@
+pub mod HandleMap
+pub mod Shown
+pub mod Answers
