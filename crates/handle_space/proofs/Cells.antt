@@ -1,27 +1,27 @@
 -- How the calls keep the list of freed cells, and what they make of the handle map.
-use Rattle.std.proofs.Common.{◌≡◌, ◌≢◌, ℕ, zero, suc, ◌+◌, ◌-◌, ◌<◌, ◌≤◌, ◌==◌, true, false, List, [], ◌∷◌, ◌++◌, map, length, get_or, set, Option, Some, None, is_some, IsSome, count_by, cond, slice_get, refl, sym, ap, ap₂, subst, ◌∙◌, arith, length-set, eq-eqb}
+use Rattle.std.proofs.Common.{◌≡◌, ◌≢◌, ℕ, zero, suc, ◌+◌, ◌-◌, ◌<◌, ◌==◌, false, List, [], ◌∷◌, map, length, get_or, set, Option, Some, None, is_some, IsSome, count_by, cond, slice_get, refl, sym, ap, subst, ◌∙◌, arith, length-set}
 use Rattle.std.specs.Option.{option_map}
 use Rattle.std.proofs.lemmas.Bool.{ne_eqb}
-use Rattle.std.proofs.lemmas.List.{map-set, length-map, get_or-map, get_or-set_same, get_or-set_other, get_or_past, map_push, length_push, get_or_append_left, get_or_push}
-use Rattle.std.proofs.lemmas.List.Sums.{sum_by-set, sum_by_push}
-use Rattle.std.proofs.lemmas.Option.{slice_get_within, slice_get-get_or, get_or_from_slice_get, slice_get-map, slice_get_read}
+use Rattle.std.proofs.lemmas.List.{map-set, length-map, get_or-map, get_or-set_same, get_or-set_other}
+use Rattle.std.proofs.lemmas.List.Sums.{sum_by-set}
+use Rattle.std.proofs.lemmas.Option.{slice_get_within, slice_get-get_or, get_or_from_slice_get, slice_get_read}
 use Rattle.handle_space.specs.declared.cell.Cell.{Cell}
 use Rattle.handle_space.specs.declared.cell.Cell.TheVariants.{Free, Own, Borrow}
 use Rattle.handle_space.specs.HandleMap.{Entry, HandleMap, Answered, most_live, live_count, entry_at, answered, with_entry, without, add}
-use Rattle.handle_space.specs.Shown.{entry_in, next_in, freed_from, IsChain, IsSound, shown}
+use Rattle.handle_space.specs.Shown.{entry_in, freed_from, IsChain, IsSound, shown}
 
 -- a read after a write at the same cell, and at another one
-pub slice_get-set_same : {X : Type 0} (xs : List X) (i : ℕ) (y : X) → i < length xs → slice_get (set xs i y) i ≡ Some y
+slice_get-set_same : {X : Type 0} (xs : List X) (i : ℕ) (y : X) → i < length xs → slice_get (set xs i y) i ≡ Some y
 slice_get-set_same xs i y within = slice_get-get_or (set xs i y) i y (omega (arith, length-set xs i y)) ∙ ap Some (get_or-set_same xs i y y within)
 
-pub slice_get-set_other : {X : Type 0} (xs : List X) (i j : ℕ) (y x : X) → j ≢ i → slice_get xs j ≡ Some x → slice_get (set xs i y) j ≡ Some x
+slice_get-set_other : {X : Type 0} (xs : List X) (i j : ℕ) (y x : X) → j ≢ i → slice_get xs j ≡ Some x → slice_get (set xs i y) j ≡ Some x
 slice_get-set_other xs i j y x other found =
     let within = slice_get_within xs j x found in
     slice_get-get_or (set xs i y) j y (omega (arith, length-set xs i y))
     ∙ ap Some (get_or-set_other xs i j y y other ∙ get_or_from_slice_get xs j x y found)
 
 -- a cell starts one chain at most
-pub chain_unique : (cs : List Cell) (at : Option ℕ) (m n : ℕ) → IsChain cs at m → IsChain cs at n → m ≡ n
+chain_unique : (cs : List Cell) (at : Option ℕ) (m n : ℕ) → IsChain cs at m → IsChain cs at n → m ≡ n
 chain_unique cs None zero zero p q = refl
 chain_unique cs None zero (suc n) p q = absurd q
 chain_unique cs None (suc m) n p q = absurd p
@@ -37,11 +37,11 @@ chain_unique cs (Some at) (suc m) (suc n) p q =
 abbrev pub IsOff : List Cell → ℕ → ℕ → Type 0
 IsOff cs at n = (m : ℕ) → m < n → IsChain cs (Some at) (suc m) → ⊥
 
-pub off_next : (cs : List Cell) (at n : ℕ) → IsOff cs at (suc n) → IsOff cs at n
+off_next : (cs : List Cell) (at n : ℕ) → IsOff cs at (suc n) → IsOff cs at n
 off_next cs at n off m below = off m (omega arith)
 
 -- a write at a cell that is not on the chain keeps it, and the indexes on it
-pub chain-set : (cs : List Cell) (at : ℕ) (c : Cell) (n : ℕ) (from : Option ℕ) → IsOff cs at n → IsChain cs from n → IsChain (set cs at c) from n
+chain-set : (cs : List Cell) (at : ℕ) (c : Cell) (n : ℕ) (from : Option ℕ) → IsOff cs at n → IsChain cs from n → IsChain (set cs at c) from n
 chain-set cs at c zero None off p = tt
 chain-set cs at c (suc n) None off p = absurd p
 chain-set cs at c zero (Some from) off p = absurd p
@@ -49,7 +49,7 @@ chain-set cs at c (suc n) (Some from) off p =
     let other : from ≢ at = λ same. off n (omega arith) (subst (λ k. IsChain cs (Some k) (suc n)) same p) in
     (p.0, slice_get-set_other cs at from c _ other p.1, chain-set cs at c n p.0 (off_next cs at n off) p.2)
 
-pub freed_from-set : (cs : List Cell) (at : ℕ) (c : Cell) (n : ℕ) (from : Option ℕ) → IsOff cs at n → IsChain cs from n → freed_from (set cs at c) from n ≡ freed_from cs from n
+freed_from-set : (cs : List Cell) (at : ℕ) (c : Cell) (n : ℕ) (from : Option ℕ) → IsOff cs at n → IsChain cs from n → freed_from (set cs at c) from n ≡ freed_from cs from n
 freed_from-set cs at c zero from off p = refl
 freed_from-set cs at c (suc n) None off p = refl
 freed_from-set cs at c (suc n) (Some from) off p =
@@ -58,7 +58,7 @@ freed_from-set cs at c (suc n) (Some from) off p =
     rw (here, p.1) (ap (λ is. suc from ∷ is) (freed_from-set cs at c n p.0 (off_next cs at n off) p.2))
 
 -- how many cells have a handle after a write
-pub live-set : (cs : List Cell) (at : ℕ) (old new : Cell) → slice_get cs at ≡ Some old → count_by is_some (map entry_in (set cs at new)) + cond (is_some (entry_in old)) 1 0 ≡ count_by is_some (map entry_in cs) + cond (is_some (entry_in new)) 1 0
+live-set : (cs : List Cell) (at : ℕ) (old new : Cell) → slice_get cs at ≡ Some old → count_by is_some (map entry_in (set cs at new)) + cond (is_some (entry_in old)) 1 0 ≡ count_by is_some (map entry_in cs) + cond (is_some (entry_in new)) 1 0
 live-set cs at old new found =
     let within = slice_get_within cs at old found in
     let read : get_or (map entry_in cs) at None ≡ entry_in old =
@@ -70,37 +70,24 @@ live-set cs at old new found =
 abbrev pub count_of : {X : Type 0} → Option X → ℕ
 count_of o = cond (is_some o) 1 0
 
-pub count_of-some : {X : Type 0} (o : Option X) → IsSome o → count_of o ≡ 1
+count_of-some : {X : Type 0} (o : Option X) → IsSome o → count_of o ≡ 1
 count_of-some None h = absurd (cc)
 count_of-some (Some x) h = refl
 
 -- a cell with a handle is on no chain
-pub live_is_off : (cs : List Cell) (at n : ℕ) (old : Cell) → slice_get cs at ≡ Some old → IsSome (entry_in old) → IsOff cs at n
+live_is_off : (cs : List Cell) (at n : ℕ) (old : Cell) → slice_get cs at ≡ Some old → IsSome (entry_in old) → IsOff cs at n
 live_is_off cs at n (Free next) found live m below p = absurd (cc)
 live_is_off cs at n (Own resource rep lent) found live m below p = let q = p.1 in absurd (cc)
 live_is_off cs at n (Borrow resource rep) found live m below p = let q = p.1 in absurd (cc)
 
--- the entry of the cell of an index
-pub entry_of_index : (cs : List Cell) (at : ℕ) (freed : Option ℕ) (free : ℕ) (old : Cell) → slice_get cs at ≡ Some old → get_or (None ∷ map entry_in cs) (suc at) None ≡ entry_in old
-entry_of_index cs at freed free old found =
-    get_or-map entry_in cs at old None (slice_get_within cs at old found) ∙ ap entry_in (get_or_from_slice_get cs at old old found)
-
 -- the first freed cell is free
-pub first_is_free : (cs : List Cell) (at n : ℕ) → IsSound cs (Some at) n → (next : Option ℕ) × (slice_get cs at ≡ Some (Free next))
+first_is_free : (cs : List Cell) (at n : ℕ) → IsSound cs (Some at) n → (next : Option ℕ) × (slice_get cs at ≡ Some (Free next))
 first_is_free cs at zero sound = absurd sound.linked
 first_is_free cs at (suc n) sound = (sound.linked.0, sound.linked.1)
 
-pub some_is_free : (cs : List Cell) (at n : ℕ) → IsSound cs (Some at) n → 0 < n
-some_is_free cs at zero sound = absurd sound.linked
-some_is_free cs at (suc n) sound = omega arith
-
-pub none_is_free : (cs : List Cell) (n : ℕ) → IsSound cs None n → n ≡ 0
-none_is_free cs zero sound = refl
-none_is_free cs (suc n) sound = absurd sound.linked
-
 -- ---- another handle in a cell that has one
 
-pub sound-put : (cs : List Cell) (at : ℕ) (freed : Option ℕ) (free : ℕ) (old new : Cell) → slice_get cs at ≡ Some old → IsSome (entry_in old) → IsSome (entry_in new) → IsSound cs freed free → IsSound (set cs at new) freed free
+sound-put : (cs : List Cell) (at : ℕ) (freed : Option ℕ) (free : ℕ) (old new : Cell) → slice_get cs at ≡ Some old → IsSome (entry_in old) → IsSome (entry_in new) → IsSound cs freed free → IsSound (set cs at new) freed free
 sound-put cs at freed free old new found was is sound = record {
   linked = chain-set cs at new free freed (live_is_off cs at free old found was) sound.linked;
   total = omega (arith, sound.total, live-set cs at old new found, count_of-some (entry_in old) was, count_of-some (entry_in new) is, length-set cs at new);
@@ -109,7 +96,7 @@ sound-put cs at freed free old new found was is sound = record {
 
 -- ---- a cell is freed
 
-pub sound-free : (cs : List Cell) (at : ℕ) (freed : Option ℕ) (free : ℕ) (old : Cell) → slice_get cs at ≡ Some old → IsSome (entry_in old) → IsSound cs freed free → IsSound (set cs at (Free freed)) (Some at) (free + 1)
+sound-free : (cs : List Cell) (at : ℕ) (freed : Option ℕ) (free : ℕ) (old : Cell) → slice_get cs at ≡ Some old → IsSome (entry_in old) → IsSound cs freed free → IsSound (set cs at (Free freed)) (Some at) (free + 1)
 sound-free cs at freed free old found was sound =
     let within = slice_get_within cs at old found in
     let more : free + 1 ≡ suc free = omega arith in
@@ -121,7 +108,7 @@ sound-free cs at freed free old found was sound =
 
 -- ---- the cell freed last is used again
 
-pub off_of_chain : (cs : List Cell) (at n : ℕ) → IsChain cs (Some at) (suc n) → IsOff cs at n
+off_of_chain : (cs : List Cell) (at n : ℕ) → IsChain cs (Some at) (suc n) → IsOff cs at n
 off_of_chain cs at n p m below again = absurd (omega (arith, chain_unique cs (Some at) (suc m) (suc n) again p))
 
 pub sound-reuse : (cs : List Cell) (at free : ℕ) (next : Option ℕ) (new : Cell) → slice_get cs at ≡ Some (Free next) → IsSome (entry_in new) → IsSound cs (Some at) free → IsSound (set cs at new) next (free - 1)
@@ -140,29 +127,18 @@ sound-reuse cs at (suc n) next new found is sound =
 
 -- ---- one more cell
 
-pub sound-push : (cs : List Cell) (free : ℕ) (new : Cell) → length cs < most_live → IsSome (entry_in new) → IsSound cs None free → IsSound (cs ++ new ∷ []) None free
-sound-push cs zero new room is sound = record {
-  linked = tt;
-  total =
-      let live : count_by is_some (map entry_in (cs ++ new ∷ [])) ≡ count_by is_some (map entry_in cs) + count_of (entry_in new) =
-      ap (count_by is_some) (map_push entry_in cs new) ∙ sum_by_push (λ o. cond (is_some o) 1 0) (map entry_in cs) (entry_in new) in
-      omega (arith, sound.total, live, count_of-some (entry_in new) is, length_push cs new);
-  few = omega (arith, length_push cs new);
-}
-sound-push cs (suc n) new room is sound = absurd sound.linked
-
 -- ---- the same of the handle map
 
-pub shown_as : (cs : List Cell) (freed : Option ℕ) (free : ℕ) (es : List (Option (Entry ℕ))) (is : List ℕ) → map entry_in cs ≡ es → freed_from cs freed free ≡ is → shown cs freed free ≡ record { entries = None ∷ es; freed = is }
+shown_as : (cs : List Cell) (freed : Option ℕ) (free : ℕ) (es : List (Option (Entry ℕ))) (is : List ℕ) → map entry_in cs ≡ es → freed_from cs freed free ≡ is → shown cs freed free ≡ record { entries = None ∷ es; freed = is }
 shown_as cs freed free es is entries indexes = rw (entries, indexes) refl
 
-pub shown-put : (cs : List Cell) (at : ℕ) (freed : Option ℕ) (free : ℕ) (old new : Cell) (e : Entry ℕ) → slice_get cs at ≡ Some old → IsSome (entry_in old) → entry_in new ≡ Some e → IsSound cs freed free → shown (set cs at new) freed free ≡ with_entry (shown cs freed free) (suc at) e
+shown-put : (cs : List Cell) (at : ℕ) (freed : Option ℕ) (free : ℕ) (old new : Cell) (e : Entry ℕ) → slice_get cs at ≡ Some old → IsSome (entry_in old) → entry_in new ≡ Some e → IsSound cs freed free → shown (set cs at new) freed free ≡ with_entry (shown cs freed free) (suc at) e
 shown-put cs at freed free old new e found was is sound =
     shown_as (set cs at new) freed free _ _
     (map-set entry_in cs at new ∙ ap (set (map entry_in cs) at) is)
     (freed_from-set cs at new free freed (live_is_off cs at free old found was) sound.linked)
 
-pub shown-free : (cs : List Cell) (at : ℕ) (freed : Option ℕ) (free : ℕ) (old : Cell) → slice_get cs at ≡ Some old → IsSome (entry_in old) → IsSound cs freed free → shown (set cs at (Free freed)) (Some at) (free + 1) ≡ without (shown cs freed free) (suc at)
+shown-free : (cs : List Cell) (at : ℕ) (freed : Option ℕ) (free : ℕ) (old : Cell) → slice_get cs at ≡ Some old → IsSome (entry_in old) → IsSound cs freed free → shown (set cs at (Free freed)) (Some at) (free + 1) ≡ without (shown cs freed free) (suc at)
 shown-free cs at freed free old found was sound =
     let within = slice_get_within cs at old found in
     let more : free + 1 ≡ suc free = omega arith in
@@ -172,10 +148,10 @@ shown-free cs at freed free old found was sound =
     (rw here (ap (λ is. suc at ∷ is) (freed_from-set cs at (Free freed) free freed (live_is_off cs at free old found was) sound.linked))))
 
 -- A table with a free cell, or with fewer cells than the most, is not full.
-pub not_full : (cs : List Cell) (freed : Option ℕ) (free : ℕ) → count_by is_some (map entry_in cs) < most_live → (live_count (shown cs freed free) == most_live) ≡ false
+not_full : (cs : List Cell) (freed : Option ℕ) (free : ℕ) → count_by is_some (map entry_in cs) < most_live → (live_count (shown cs freed free) == most_live) ≡ false
 not_full cs freed free few = ne_eqb (live_count (shown cs freed free)) most_live (λ same. omega arith)
 
-pub shown-reuse : (cs : List Cell) (at free : ℕ) (next : Option ℕ) (new : Cell) (e : Entry ℕ) → slice_get cs at ≡ Some (Free next) → entry_in new ≡ Some e → IsSound cs (Some at) free → add (shown cs (Some at) free) e ≡ Some (answered (at + 1) (shown (set cs at new) next (free - 1)))
+shown-reuse : (cs : List Cell) (at free : ℕ) (next : Option ℕ) (new : Cell) (e : Entry ℕ) → slice_get cs at ≡ Some (Free next) → entry_in new ≡ Some e → IsSound cs (Some at) free → add (shown cs (Some at) free) e ≡ Some (answered (at + 1) (shown (set cs at new) next (free - 1)))
 shown-reuse cs at zero next new e found is sound = absurd sound.linked
 shown-reuse cs at (suc n) next new e found is sound =
     let p = sound.linked in
@@ -188,21 +164,6 @@ shown-reuse cs at (suc n) next new e found is sound =
     let entries : map entry_in (set cs at new) ≡ set (map entry_in cs) at (Some e) = map-set entry_in cs at new ∙ ap (set (map entry_in cs) at) is in
     let indexes : freed_from (set cs at new) next n ≡ freed_from cs next n = freed_from-set cs at new n next (off_of_chain cs at n p) rest in
     rw (room, found, index, less, entries, indexes) refl
-
-pub shown-push : (cs : List Cell) (free : ℕ) (new : Cell) (e : Entry ℕ) → length cs < most_live → entry_in new ≡ Some e → IsSound cs None free → add (shown cs None free) e ≡ Some (answered (length cs + 1) (shown (cs ++ new ∷ []) None free))
-shown-push cs zero new e room is sound =
-    let few : (live_count (shown cs None zero) == most_live) ≡ false = not_full cs None zero (omega (arith, sound.total)) in
-    let index : length cs + 1 ≡ suc (length (map entry_in cs)) = omega (arith, length-map cs entry_in) in
-    let entries : map entry_in (cs ++ new ∷ []) ≡ map entry_in cs ++ Some e ∷ [] = map_push entry_in cs new ∙ ap (λ o. map entry_in cs ++ o ∷ []) is in
-    rw (few, index, entries) refl
-shown-push cs (suc n) new e room is sound = absurd sound.linked
-
--- A table whose cells are all in use is full where there are as many as there may be, and only there.
-pub shown-full : (cs : List Cell) (free : ℕ) (e : Entry ℕ) → most_live ≤ length cs → IsSound cs None free → add (shown cs None free) e ≡ None
-shown-full cs free e all sound =
-    let none : free ≡ 0 = none_is_free cs free sound in
-    let full : (live_count (shown cs None free) == most_live) ≡ true = eq-eqb (live_count (shown cs None free)) most_live (omega (arith, sound.total, sound.few)) in
-    rw full refl
 
 -- ---- the same by the index of a live entry, which is one more than its cell
 
@@ -235,12 +196,6 @@ put_shown cs (suc at) freed free new live is sound =
     let place : suc at - 1 ≡ at = omega arith in
     rw place (put_shown_entry cs at freed free old.0 new (entry_in new) old.1 old.2 refl is sound)
 
-pub remove_room : (cs : List Cell) (index : ℕ) (freed : Option ℕ) (free : ℕ) → IsSome (entry_at (shown cs freed free) index) → IsSound cs freed free → free < most_live
-remove_room cs zero freed free live sound = absurd (cc)
-remove_room cs (suc at) freed free live sound =
-    let old = cell_of_place cs at live in
-    omega (arith, sound.total, sound.few, live-set cs at old.0 (Free None) old.1, count_of-some (entry_in old.0) old.2)
-
 pub remove_sound : (cs : List Cell) (index : ℕ) (freed : Option ℕ) (free : ℕ) → IsSome (entry_at (shown cs freed free) index) → IsSound cs freed free → IsSound (set cs (index - 1) (Free freed)) (Some (index - 1)) (free + 1)
 remove_sound cs zero freed free live sound = absurd (cc)
 remove_sound cs (suc at) freed free live sound =
@@ -264,22 +219,6 @@ is_added m (Some e) answer is each = ap Some (each e refl)
 pub reuse_added : (cs : List Cell) (at free : ℕ) (next : Option ℕ) (new : Cell) → slice_get cs at ≡ Some (Free next) → IsSome (entry_in new) → IsSound cs (Some at) free → option_map (λ e. add (shown cs (Some at) free) e) (entry_in new) ≡ Some (Some (answered (at + 1) (shown (set cs at new) next (free - 1))))
 reuse_added cs at free next new found is sound =
     is_added (shown cs (Some at) free) (entry_in new) _ is (λ e same. shown-reuse cs at free next new e found same sound)
-
-pub push_added : (cs : List Cell) (free : ℕ) (new : Cell) → length cs < most_live → IsSome (entry_in new) → IsSound cs None free → option_map (λ e. add (shown cs None free) e) (entry_in new) ≡ Some (Some (answered (length cs + 1) (shown (cs ++ new ∷ []) None free)))
-push_added cs free new room is sound =
-    is_added (shown cs None free) (entry_in new) _ is (λ e same. shown-push cs free new e room same sound)
-
-is_full : (m : HandleMap ℕ) (o : Option (Entry ℕ)) → IsSome o → ((e : Entry ℕ) → add m e ≡ None) → option_map (λ e. add m e) o ≡ Some None
-is_full m None is each = absurd (cc)
-is_full m (Some e) is each = ap Some (each e)
-
-pub push_full : (cs : List Cell) (free : ℕ) (new : Cell) → most_live ≤ length cs → IsSome (entry_in new) → IsSound cs None free → option_map (λ e. add (shown cs None free) e) (entry_in new) ≡ Some None
-push_full cs free new all is sound = is_full (shown cs None free) (entry_in new) is (λ e. shown-full cs free e all sound)
-
-pub push_room : (cs : List Cell) (free : ℕ) (new : Cell) → length cs < most_live → IsSome (entry_in new) → IsSound cs None free → option_map (λ e. add (shown cs None free) e) (entry_in new) ≡ Some None → ⊥
-push_room cs free new room is sound full =
-    let added = push_added cs free new room is sound in
-    cc
 
 -- what reading the first freed cell gave
 pub first_read : (cs : List Cell) (at free : ℕ) (next : Option ℕ) (cell : Cell) → cell ≡ get_or cs at cell → cell ≡ Free next → IsSound cs (Some at) free → slice_get cs at ≡ Some (Free next)

@@ -1,5 +1,5 @@
 -- Handle tables (Component Model, CanonicalABI.md, "Table State" and "Resource State"), over whatever a handle stands for.
-use Rattle.std.specs.Prelude.{◌≡◌, ℕ, ◌+◌, ◌-◌, ◌<◌, ◌==◌, ◌&&◌, Bool, true, false, List, [], ◌∷◌, ◌++◌, length, count_by, Option, Some, None, is_some, nat_lt, if◌then◌else◌, slice_index_or, slice_set, IsSomeAnd}
+use Rattle.std.specs.Prelude.{ℕ, ◌+◌, ◌-◌, ◌<◌, ◌==◌, ◌&&◌, Bool, true, false, List, [], ◌∷◌, ◌++◌, length, count_by, Option, Some, None, is_some, nat_lt, if◌then◌else◌, slice_index_or, slice_set, IsSomeAnd}
 use Rattle.std.specs.Option.{option_map, option_and_then}
 
 -- A handle: its resource, what it stands for, whether it owns or borrows, and how often it is lent now.

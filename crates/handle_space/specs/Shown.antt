@@ -1,5 +1,5 @@
 -- What contracts see of a table: the handle map that its cells stand for.
-use Rattle.std.specs.Prelude.{◌≡◌, ℕ, zero, suc, ◌+◌, ◌≤◌, Bool, true, false, List, [], ◌∷◌, map, length, count_by, Option, Some, None, is_some, slice_get}
+use Rattle.std.specs.Prelude.{◌≡◌, ℕ, zero, suc, ◌+◌, ◌≤◌, true, false, List, [], ◌∷◌, map, length, count_by, Option, Some, None, is_some, slice_get}
 use Rattle.handle_space.specs.declared.cell.Cell.{Cell}
 use Rattle.handle_space.specs.declared.cell.Cell.TheVariants.{Free, Own, Borrow}
 use Rattle.handle_space.specs.HandleMap.{Entry, HandleMap, most_live}

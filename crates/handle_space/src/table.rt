@@ -1,7 +1,7 @@
-ghost use Rattle.std.specs.Prelude.{◌≡◌, ◌↔◌, Some, None, IsSome, IfOk, OnErr, IsErrOf};
+ghost use Rattle.std.specs.Prelude.{◌≡◌, ◌<◌, ◌↔◌, Some, None, IsSome, IfOk, OnErr, IsErrOf};
 ghost use Rattle.std.specs.Option.{option_map};
-ghost use Rattle.handle_space.specs.HandleMap.{empty, own_entry, borrow_entry, answered, entry_at, with_entry, without, IsLent};
-ghost use Rattle.handle_space.specs.HandleMap.{add as add_of, lend as lend_of, unlend as unlend_of, take as take_of, take_own as take_own_of, rep_of as rep_from};
+ghost use Rattle.handle_space.specs.HandleMap.{empty, own_entry, borrow_entry, answered, entry_at, entry_of, live_count, most_live, with_entry, without, IsLent};
+ghost use Rattle.handle_space.specs.HandleMap.{add, lend, unlend, take, take_own, rep_of};
 ghost use Rattle.handle_space.specs.Answers.{held_of};
 ghost use Rattle.handle_space.specs.Shown.{entry_in};
 
@@ -84,8 +84,9 @@ impl HandleTable {
     ///
     /// `Full` exactly where 268,435,455 handles are live, else `NoMemory` where memory ran out. The table stays as it was.
     pub fn add_own(&mut self, _alloc: Global, resource: u32, rep: u32) -> Result<u32, AddFault>
-        ensures added { IfOk result (λ index. add_of self.old (own_entry resource rep) ≡ Some (answered index self.new)) }
-        ensures full { IsErrOf result AddFault.Full ↔ (add_of self.old (own_entry resource rep) ≡ None) }
+        ensures added { IfOk result (λ index. add self.old (own_entry resource rep) ≡ Some (answered index self.new)) }
+        ensures unused { IfOk result (λ index. (0 < index) × (entry_at self.old index ≡ None)) }
+        ensures full { IsErrOf result AddFault.Full ↔ (live_count self.old ≡ most_live) }
         ensures same { OnErr result (self.new ≡ self.old) }
     {
         self.add(Cell::Own {
@@ -101,8 +102,9 @@ impl HandleTable {
     ///
     /// As those of `add_own`.
     pub fn add_borrow(&mut self, _alloc: Global, resource: u32, rep: u32) -> Result<u32, AddFault>
-        ensures added { IfOk result (λ index. add_of self.old (borrow_entry resource rep) ≡ Some (answered index self.new)) }
-        ensures full { IsErrOf result AddFault.Full ↔ (add_of self.old (borrow_entry resource rep) ≡ None) }
+        ensures added { IfOk result (λ index. add self.old (borrow_entry resource rep) ≡ Some (answered index self.new)) }
+        ensures unused { IfOk result (λ index. (0 < index) × (entry_at self.old index ≡ None)) }
+        ensures full { IsErrOf result AddFault.Full ↔ (live_count self.old ≡ most_live) }
         ensures same { OnErr result (self.new ≡ self.old) }
     {
         self.add(Cell::Borrow { resource, rep })
@@ -111,8 +113,9 @@ impl HandleTable {
     // Adds a handle at the index freed last, or else at a new one.
     fn add(&mut self, cell: Cell) -> Result<u32, AddFault>
         requires { IsSome (entry_in cell) }
-        ensures added { IfOk result (λ index. option_map (λ e. add_of self.old e) (entry_in cell) ≡ Some (Some (answered index self.new))) }
-        ensures full { IsErrOf result AddFault.Full ↔ (option_map (λ e. add_of self.old e) (entry_in cell) ≡ Some None) }
+        ensures added { IfOk result (λ index. option_map (λ e. add self.old e) (entry_in cell) ≡ Some (Some (answered index self.new))) }
+        ensures unused { IfOk result (λ index. (0 < index) × (entry_at self.old index ≡ None)) }
+        ensures full { IsErrOf result AddFault.Full ↔ (live_count self.old ≡ most_live) }
         ensures same { OnErr result (self.new ≡ self.old) }
     {
         if let Some(place) = self.freed {
@@ -137,32 +140,30 @@ impl HandleTable {
     ///
     /// `Trap` exactly where no handle of this resource is at the index, or it is lent 2^64 - 1 times. The table stays as it was.
     pub fn lend(&mut self, index: u32, resource: u32) -> Result<Taken, Trap>
-        ensures lent { IfOk result (λ taken. lend_of self.old index resource ≡ Some (answered (held_of taken) self.new)) }
-        ensures traps { OnErr result (lend_of self.old index resource ≡ None) }
+        ensures lent { IfOk result (λ taken. lend self.old index resource ≡ Some (answered (held_of taken) self.new)) }
+        ensures traps { OnErr result (lend self.old index resource ≡ None) }
         ensures same { OnErr result (self.new ≡ self.old) }
     {
-        match self.cell(index) {
+        match self.find(index, resource) {
             Cell::Own {
-                resource: of,
+                resource,
                 rep,
                 lent,
             } => {
-                if of != resource || lent == u64::MAX {
+                if lent == u64::MAX {
                     return Err(Trap);
                 }
-                self.put(index, Cell::Own {
-                    resource,
-                    rep,
-                    lent: lent + 1,
-                });
+                self.put(
+                    index,
+                    Cell::Own {
+                        resource,
+                        rep,
+                        lent: lent + 1,
+                    },
+                );
                 Ok(Taken::Own(rep))
             }
-            Cell::Borrow { resource: of, rep } => {
-                if of != resource {
-                    return Err(Trap);
-                }
-                Ok(Taken::Borrow(rep))
-            }
+            Cell::Borrow { rep, .. } => Ok(Taken::Borrow(rep)),
             Cell::Free(_) => Err(Trap),
         }
     }
@@ -170,18 +171,21 @@ impl HandleTable {
     /// Ends a loan of the handle at an index, which is lent.
     pub fn unlend(&mut self, index: u32)
         requires { IsLent self.old index }
-        ensures { self.new ≡ unlend_of self.old index }
+        ensures { self.new ≡ unlend self.old index }
     {
         match self.cell(index) {
             Cell::Own {
                 resource,
                 rep,
                 lent,
-            } => self.put(index, Cell::Own {
-                resource,
-                rep,
-                lent: lent - 1,
-            }),
+            } => self.put(
+                index,
+                Cell::Own {
+                    resource,
+                    rep,
+                    lent: lent - 1,
+                },
+            ),
             Cell::Borrow { .. } | Cell::Free(_) => unreachable!(),
         }
     }
@@ -192,23 +196,16 @@ impl HandleTable {
     ///
     /// `Trap` exactly where no handle of this resource is at the index, or it borrows, or it is lent. The table stays as it was.
     pub fn take_own(&mut self, index: u32, resource: u32) -> Result<u32, Trap>
-        ensures taken { IfOk result (λ rep. take_own_of self.old index resource ≡ Some (answered rep self.new)) }
-        ensures traps { OnErr result (take_own_of self.old index resource ≡ None) }
+        ensures taken { IfOk result (λ rep. take_own self.old index resource ≡ Some (answered rep self.new)) }
+        ensures traps { OnErr result (take_own self.old index resource ≡ None) }
         ensures same { OnErr result (self.new ≡ self.old) }
     {
-        match self.cell(index) {
-            Cell::Own {
-                resource: of,
-                rep,
-                lent,
-            } => {
-                if of != resource || lent != 0 {
-                    return Err(Trap);
-                }
+        match self.find(index, resource) {
+            Cell::Own { rep, lent: 0, .. } => {
                 self.remove(index);
                 Ok(rep)
             }
-            Cell::Borrow { .. } | Cell::Free(_) => Err(Trap),
+            Cell::Own { .. } | Cell::Borrow { .. } | Cell::Free(_) => Err(Trap),
         }
     }
 
@@ -218,31 +215,17 @@ impl HandleTable {
     ///
     /// `Trap` exactly where no handle of this resource is at the index, or it is lent. The table stays as it was.
     pub fn take(&mut self, index: u32, resource: u32) -> Result<Taken, Trap>
-        ensures taken { IfOk result (λ taken. take_of self.old index resource ≡ Some (answered (held_of taken) self.new)) }
-        ensures traps { OnErr result (take_of self.old index resource ≡ None) }
+        ensures taken { IfOk result (λ taken. take self.old index resource ≡ Some (answered (held_of taken) self.new)) }
+        ensures traps { OnErr result (take self.old index resource ≡ None) }
         ensures same { OnErr result (self.new ≡ self.old) }
     {
-        match self.cell(index) {
-            Cell::Own {
-                resource: of,
-                rep,
-                lent,
-            } => {
-                if of != resource || lent != 0 {
-                    return Err(Trap);
-                }
-                self.remove(index);
-                Ok(Taken::Own(rep))
-            }
-            Cell::Borrow { resource: of, rep } => {
-                if of != resource {
-                    return Err(Trap);
-                }
-                self.remove(index);
-                Ok(Taken::Borrow(rep))
-            }
-            Cell::Free(_) => Err(Trap),
-        }
+        let taken = match self.find(index, resource) {
+            Cell::Own { rep, lent: 0, .. } => Taken::Own(rep),
+            Cell::Borrow { rep, .. } => Taken::Borrow(rep),
+            Cell::Own { .. } | Cell::Free(_) => return Err(Trap),
+        };
+        self.remove(index);
+        Ok(taken)
     }
 
     /// What the handle at an index stands for, lent or not.
@@ -251,20 +234,30 @@ impl HandleTable {
     ///
     /// `Trap` exactly where no handle of this resource is at the index.
     pub fn rep_of(&self, index: u32, resource: u32) -> Result<u32, Trap>
-        ensures found { IfOk result (λ rep. rep_from self.now index resource ≡ Some rep) }
-        ensures traps { OnErr result (rep_from self.now index resource ≡ None) }
+        ensures found { IfOk result (λ rep. rep_of self.now index resource ≡ Some rep) }
+        ensures traps { OnErr result (rep_of self.now index resource ≡ None) }
     {
-        match self.cell(index) {
-            Cell::Own {
-                resource: of, rep, ..
-            }
-            | Cell::Borrow { resource: of, rep } => {
-                if of != resource {
-                    return Err(Trap);
-                }
-                Ok(rep)
-            }
+        match self.find(index, resource) {
+            Cell::Own { rep, .. } | Cell::Borrow { rep, .. } => Ok(rep),
             Cell::Free(_) => Err(Trap),
+        }
+    }
+
+    // The handle of this resource at an index, and a free cell where there is none.
+    fn find(&self, index: u32, resource: u32) -> Cell
+        ensures entry { entry_in result ≡ entry_of self.now index resource }
+        ensures live { IsSome (entry_in result) → IsSome (entry_at self.now index) }
+    {
+        let cell = self.cell(index);
+        match cell {
+            Cell::Own { resource: of, .. } | Cell::Borrow { resource: of, .. } => {
+                if of == resource {
+                    cell
+                } else {
+                    Cell::Free(None)
+                }
+            }
+            Cell::Free(_) => cell,
         }
     }
 

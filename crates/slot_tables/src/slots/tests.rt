@@ -1,7 +1,6 @@
 ghost use Rattle.std.specs.Prelude.{◌≡◌, ◌<◌};
 
-use super::Kept;
-use super::Slots;
+use super::{Kept, Slots};
 use crate::cells::{Cells, Full, Place};
 use std::alloc::{AllocError, Global};
 use std::marker::Brand;
@@ -35,7 +34,11 @@ fn give_and_free<L: Ledger, R: Abort>(rt: &R, alloc: Global, blank: Blank) -> Re
 }
 
 // A place is read and written through `Cells`.
-fn read_and_write<L: Ledger, R: Abort>(rt: &R, alloc: Global, blank: Blank) -> Result<(), AllocError>
+fn read_and_write<L: Ledger, R: Abort>(
+    rt: &R,
+    alloc: Global,
+    blank: Blank,
+) -> Result<(), AllocError>
     requires name { blank.name ≡ L.name }
     requires parts { blank.parts ≡ L.parts }
     requires some { 0 < L.parts }

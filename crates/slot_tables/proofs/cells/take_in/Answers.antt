@@ -1,9 +1,9 @@
-use Rattle.std.proofs.Common.{◌≡◌, ap, subst, ◌∙◌, arith}
+use Rattle.std.proofs.Common.{ap, subst, ◌∙◌}
 use Rattle.std.specs.Option.{option_map}
 use Rattle.std.proofs.lemmas.List.{map-set}
 use Rattle.std.proofs.lemmas.Option.{slice_get-map}
 use Rattle.slot_tables.specs.Places.{entry_of, IsSound}
-use Rattle.slot_tables.specs.declared.cells.Place.TheVariants.{Free, Used}
+use Rattle.slot_tables.specs.declared.cells.Place.TheVariants.{Used}
 use Rattle.slot_tables.proofs.Chain.{sound-take}
 use Rattle.slot_tables.proofs.cells.take_in.Goals as goal
 

@@ -1,5 +1,5 @@
 use Rattle.std.proofs.Common.{arith}
-use Rattle.handle_space.proofs.Cells.{live_place, remove_room, remove_sound, remove_shown}
+use Rattle.handle_space.proofs.Cells.{live_place, remove_sound, remove_shown}
 use Rattle.handle_space.proofs.table.HandleTable.remove.Goals as goal
 
 pub overflow_sub-place : goal.overflow_sub-place

@@ -1,6 +1,5 @@
-use Rattle.std.proofs.Common.{◌≡◌, ℕ, ◌<◌, Some, map, length, get_or, slice_get, ap, sym, ◌∙◌, arith, refl}
+use Rattle.std.proofs.Common.{Some, ap, ◌∙◌, refl}
 use Rattle.std.specs.Option.{option_map}
-use Rattle.std.proofs.lemmas.List.{length-map}
 use Rattle.std.proofs.lemmas.Option.{slice_get-map, slice_get_read}
 use Rattle.slot_tables.specs.Places.{entry_of}
 use Rattle.slot_tables.proofs.Chain.{live_within}

@@ -1,8 +1,7 @@
-use Rattle.std.proofs.Common.{◌≡◌, ℕ, ◌+◌, None, map, replicate, [], ◌∷◌, ◌++◌, length, ap, sym, ◌∙◌, arith}
+use Rattle.std.proofs.Common.{◌≡◌, None, [], ◌∷◌, ◌++◌, length, ap, ◌∙◌, arith}
 use Rattle.std.proofs.lemmas.List.{map_push, replicate_more}
 use Rattle.std.proofs.lemmas.Grind.{common_steps}
 use Rattle.slot_tables.specs.Places.{entry_of}
-use Rattle.slot_tables.specs.declared.cells.Place.TheVariants.{Free}
 use Rattle.slot_tables.proofs.Chain.{sound-push}
 use Rattle.slot_tables.proofs.slots.Slots.new.Goals as goal
 

@@ -1,4 +1,4 @@
-use Rattle.std.proofs.Common.{◌≡◌, ◌<◌, None, map, replicate, vec_len, vec_capacity}
+use Rattle.std.proofs.Common.{◌≡◌, None, map, replicate, vec_len, vec_capacity}
 use Rattle.slot_tables.specs.Places.{entry_of, IsSound}
 use Rattle.slot_tables.proofs.slots.Slots.new.Given as goal
 
