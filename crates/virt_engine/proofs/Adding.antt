@@ -1,34 +1,15 @@
 -- Bytes added to a file, part after part.
-use Rattle.std.proofs.Common.{rules, ◌≡◌, ℕ, ◌+◌, ◌-◌, ◌≤◌, ◌<◌, List, [], ◌∷◌, ◌++◌, length, take, drop, min, Bool, true, false, ltb, Result, Ok, Err, refl, ap, sym, subst, ◌∙◌, append_assoc, arith, inl, inr, cond, is_err}
+use Rattle.std.proofs.Common.{◌≡◌, ℕ, ◌+◌, ◌-◌, ◌≤◌, List, [], ◌++◌, length, take, drop, min, true, false, Result, Ok, Err, refl, ap, sym, subst, ◌∙◌, append_assoc, arith, inl, inr}
 use Rattle.std.specs.Prelude.{IsErr, Option, Some, None, ◌⊎◌, OnOk, OnErr, option_map}
-use Rattle.std.specs.Str.{bytes_eq}
 use Rattle.std.proofs.lemmas.Bool.{ltb-false, le-ltb}
-use Rattle.std.proofs.lemmas.List.{take_min, take-append-le, length-append, append-nil, take-append-drop, take_all}
+use Rattle.std.proofs.lemmas.List.{take_min, take-append-le, length-append, take-append-drop, take_all}
 use Rattle.std.proofs.Math.Seq.{take-append-add, take-add}
-use Rattle.std.proofs.lemmas.Slice.Eq.{bytes_eq-Decides}
-use mathlib.Core.Path.{fun_ext}
-use Rattle.virt_base.specs.Fault.{Rose}
-use Rattle.virt_base.specs.Files.{FilesState, Held, Goes, FailsOnly, set_file, with_file, with_more, no_place, no_room, is_over, Creates, Appends}
+use Rattle.virt_base.specs.Files.{FilesState, Held, Goes, with_file, with_more, no_room, is_over, Creates, Appends}
 use Rattle.virt_base.specs.declared.files.WriteFailed.{WriteFailed}
+use Rattle.virt_base.proofs.HeldLaws.{with_file_twice, file_there, with_more_with_file, with_more_nothing}
 use Rattle.virt_engine.specs.Writing.{Adds, LeftOf, Writes}
 
 -- ---- changes of one name
-
-bytes_eq-same : (xs : List ℕ) → bytes_eq xs xs ≡ true
-bytes_eq-same xs = search rules
-
-same_bytes : (a b : List ℕ) → bytes_eq a b ≡ true → a ≡ b
-same_bytes a b e = (bytes_eq-Decides a b).0 e
-
-if_twice : (b : Bool) (o p q : Option (List ℕ)) → cond b p (cond b o q) ≡ cond b p q
-if_twice true o p q = refl
-if_twice false o p q = refl
-
-with_file-twice : (h : Held) (n : List ℕ) (o p : Option (List ℕ)) → with_file (with_file h n o) n p ≡ with_file h n p
-with_file-twice h n o p = ap (λ (g : List ℕ → Option (List ℕ)). record h { file = g }) (fun_ext (λ m. if_twice (bytes_eq n m) o p (h.file m)))
-
-file-with_file : (h : Held) (n : List ℕ) (o : Option (List ℕ)) → (with_file h n o).file n ≡ o
-file-with_file h n o = let same = bytes_eq-same n in rw same refl
 
 map_twice : (a b : List ℕ) (o : Option (List ℕ)) → option_map (λ old. old ++ b) (option_map (λ old. old ++ a) o) ≡ option_map (λ old. old ++ (a ++ b)) o
 map_twice a b None = refl
@@ -37,26 +18,9 @@ map_twice a b (Some old) = ap (λ (z : List ℕ). Some z) (append_assoc old a b)
 with_more-twice : (h : Held) (n a b : List ℕ) → with_more (with_more h n a) n b ≡ with_more h n (a ++ b)
 with_more-twice h n a b =
     let first : Option (List ℕ) = option_map (λ old. old ++ a) (h.file n) in
-    ap (λ (o : Option (List ℕ)). with_file (with_file h n first) n (option_map (λ old. old ++ b) o)) (file-with_file h n first)
-    ∙ with_file-twice h n first (option_map (λ old. old ++ b) first)
+    ap (λ (o : Option (List ℕ)). with_file (with_file h n first) n (option_map (λ old. old ++ b) o)) (file_there h n first)
+    ∙ with_file_twice h n first (option_map (λ old. old ++ b) first)
     ∙ ap (λ (o : Option (List ℕ)). with_file h n o) (map_twice a b (h.file n))
-
-with_more-with_file : (h : Held) (n old bytes : List ℕ) → with_more (with_file h n (Some old)) n bytes ≡ with_file h n (Some (old ++ bytes))
-with_more-with_file h n old bytes =
-    ap (λ (o : Option (List ℕ)). with_file (with_file h n (Some old)) n (option_map (λ x. x ++ bytes) o)) (file-with_file h n (Some old))
-    ∙ with_file-twice h n (Some old) (Some (old ++ bytes))
-
-append_none : (o : Option (List ℕ)) → option_map (λ old. old ++ []) o ≡ o
-append_none None = refl
-append_none (Some b) = ap (λ (z : List ℕ). Some z) (append-nil b)
-
-if_same : (f : List ℕ → Option (List ℕ)) (n m : List ℕ) (b : Bool) → (b ≡ true → n ≡ m) → cond b (f n) (f m) ≡ f m
-if_same f n m true h = ap f (h refl)
-if_same f n m false h = refl
-
-with_more-nothing : (h : Held) (n : List ℕ) → with_more h n [] ≡ h
-with_more-nothing h n = ap (λ (g : List ℕ → Option (List ℕ)). record h { file = g })
-    (fun_ext (λ m. ap (λ (o : Option (List ℕ)). cond (bytes_eq n m) o (h.file m)) (append_none (h.file n)) ∙ if_same h.file n m (bytes_eq n m) (λ e. same_bytes n m e)))
 
 -- ---- room
 
@@ -85,7 +49,7 @@ fits_front h n a b f = record { old = f.old; there = f.there; short = omega (ari
 fits_behind : (h : Held) (n a b : List ℕ) → Fits h n (a ++ b) → Fits (with_more h n a) n b
 fits_behind h n a b f = record {
   old = f.old ++ a;
-  there = file-with_file h n (option_map (λ old. old ++ a) (h.file n)) ∙ ap (λ (o : Option (List ℕ)). option_map (λ old. old ++ a) o) f.there;
+  there = file_there h n (option_map (λ old. old ++ a) (h.file n)) ∙ ap (λ (o : Option (List ℕ)). option_map (λ old. old ++ a) o) f.there;
   short = omega (arith, f.short, length-append a b, length-append f.old a);
 }
 
@@ -123,7 +87,7 @@ pub adds_nothing : (n : List ℕ) (s : FilesState) → Adds n [] s s (Ok tt)
 adds_nothing n s = record {
   goes = record { later = omega arith; told = refl; steady = λ h. h };
   cause = tt;
-  ok = λ told. sym (with_more-nothing s.held n);
+  ok = λ told. with_more_nothing s.held n [];
   failed = tt;
   quiet = λ told steady fits. (refl, refl);
 }
@@ -173,13 +137,13 @@ writes_of n bytes s t u r p q =
     record {
       goes = goes_on s t u p.goes q.goes;
       cause = on_err r (λ rose. omega (arith, p.goes.later, rose)) q.cause;
-      ok = on_ok r (λ k told. k (told_t told) ∙ ap (λ (h : Held). with_more h n bytes) (p.ok told) ∙ with_more-with_file s.held n [] bytes) q.ok;
+      ok = on_ok r (λ k told. k (told_t told) ∙ ap (λ (h : Held). with_more h n bytes) (p.ok told) ∙ with_more_with_file s.held n [] bytes) q.ok;
       failed = on_err r (λ k told.
           let left = k (told_t told) in
-          inr (inr (left.0, left.1 ∙ ap (λ (h : Held). with_more h n (take left.0 bytes)) (p.ok told) ∙ with_more-with_file s.held n [] (take left.0 bytes)))) q.failed;
+          inr (inr (left.0, left.1 ∙ ap (λ (h : Held). with_more h n (take left.0 bytes)) (p.ok told) ∙ with_more_with_file s.held n [] (take left.0 bytes)))) q.failed;
       quiet = λ told steady place room.
           let made = p.steadily.quiet told steady place in
-          let there : Fits (with_file s.held n (Some [])) n bytes = record { old = []; there = file-with_file s.held n (Some []); short = omega (arith, room) } in
+          let there : Fits (with_file s.held n (Some [])) n bytes = record { old = []; there = file_there s.held n (Some []); short = omega (arith, room) } in
           let fits : no_room t.held n bytes ≡ false = subst (λ (h : Held). no_room h n bytes ≡ false) (sym (p.ok told)) (room_of (with_file s.held n (Some [])) n bytes there) in
           let added = q.quiet (told_t told) (p.goes.steady steady) fits in
           (added.0 ∙ made, added.1);

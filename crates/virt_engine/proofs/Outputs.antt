@@ -1,17 +1,17 @@
 -- The output of an application of the constant's form.
-use Rattle.std.proofs.Common.{rules, ◌≡◌, ℕ, ℤ, ◌+◌, ◌<◌, ◌^◌, List, [], ◌∷◌, ◌++◌, length, subst, refl, sym, ap, ◌∙◌, append_assoc, arith, lit<}
-use Rattle.std.specs.Prelude.{Some, codes, true}
+use Rattle.std.proofs.Common.{rules, ◌≡◌, ℕ, ◌<◌, ◌^◌, List, [], ◌∷◌, ◌++◌, length, subst, refl, ap, append_assoc}
+use Rattle.std.specs.Prelude.{true}
 use Rattle.std.specs.Str.{is_utf8}
 use Rattle.std.proofs.lemmas.Str.{is_utf8-from_IsUtf8, IsUtf8-from_ascii}
-use Rattle.wasm_format.specs.Format.{Format, sized, vec, u32_format, name}
-use Rattle.wasm_format.proofs.Laws.{IsExact, IsExactToEnd, to_end, exact_both, exact_image, exact_fixed, exact_sized, exact_vec, anything_to_end}
+use Rattle.wasm_format.specs.Format.{sized, vec, u32_format, name}
+use Rattle.wasm_format.proofs.Laws.{IsExact, to_end, exact_both, exact_image, exact_fixed, exact_sized, exact_vec, anything_to_end}
 use Rattle.wasm_ast.specs.ComponentItems.{argument, instance, alias, extern_name, sort, stated_desc, component_export}
 use Rattle.wasm_ast.proofs.ComponentGrammar.{exact_instance, exact_alias, exact_component_export}
 use Rattle.wasm_ast.specs.declared.component.Instance.{Instance}
 use Rattle.wasm_ast.specs.declared.component.Alias.{Alias}
 use Rattle.wasm_ast.specs.declared.component.ComponentExport.{ComponentExport}
-use Rattle.comp_read.specs.Constant.{section, SpellsConstant}
-use Rattle.virt_engine.specs.Output.{Wrapped, wrapped, preamble, behind_app, output_of, one_instance, one_alias, one_export, front_of, back_bytes, output_bytes, IsOutputOf}
+use Rattle.comp_read.specs.Constant.{section}
+use Rattle.virt_engine.specs.Output.{wrapped, preamble, behind_app, output_of, one_instance, one_alias, one_export, front_of, back_bytes, output_bytes, IsOutputOf}
 
 ruleset exact = (to_end, exact_both, exact_image, exact_fixed, exact_sized, exact_vec, anything_to_end)
 

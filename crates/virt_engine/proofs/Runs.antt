@@ -1,21 +1,21 @@
 -- A whole call, by what its parts did.
-use Rattle.std.proofs.Common.{◌≡◌, ◌≢◌, ℕ, ℤ, ◌+◌, ◌≤◌, ◌<◌, ◌^◌, List, [], ◌∷◌, ◌++◌, length, Bool, true, false, ltb, refl, sym, ap, subst, ◌∙◌, inl, inr, arith, Result, Ok, Err, cond, string_bytes}
-use Rattle.std.specs.Prelude.{◌⊎◌, Option, Some, None, is_some, codes}
+use Rattle.std.proofs.Common.{◌≡◌, ◌≢◌, ℕ, ℤ, ◌≤◌, List, [], ◌++◌, length, true, false, refl, sym, ap, subst, ◌∙◌, inl, inr, arith, Ok, Err, string_bytes}
+use Rattle.std.specs.Prelude.{◌⊎◌, Option, Some, None, codes}
 use Rattle.std.proofs.lemmas.Bool.{le-ltb}
 use Rattle.virt_base.specs.Fault.{Rose}
 use Rattle.virt_base.specs.Files.{FilesState, Held, with_file, no_place}
 use Rattle.virt_base.specs.Sink.{SinkState}
-use Rattle.comp_read.specs.Constant.{SpellsConstant, constant_of}
+use Rattle.comp_read.specs.Constant.{SpellsConstant}
 use Rattle.comp_read.proofs.Grammar.{spelled_constant}
 use Rattle.virt_engine.specs.declared.plan.Ready.{Ready}
 use Rattle.virt_engine.specs.declared.status.Status.{Status}
 use Rattle.virt_engine.specs.declared.status.Status.TheVariants.{Done, PolicyRefused, AppRefused, FileFault, SinkFault, OverLimit, NoMemory, ScriptRefused, Trapped, ScriptEnded, StepsSpent, BadAnswer, TooDeep, Usage}
 use Rattle.virt_engine.specs.Command.{Command, command_of}
-use Rattle.virt_engine.specs.Line.{done_text, status_text}
-use Rattle.virt_engine.specs.Output.{IsOutputOf, output_bytes}
-use Rattle.virt_engine.specs.Report.{Puts, Reports, Written, Broken}
+use Rattle.virt_engine.specs.Line.{status_text}
+use Rattle.virt_engine.specs.Output.{output_bytes}
+use Rattle.virt_engine.specs.Report.{Puts, Reports}
 use Rattle.virt_engine.specs.Writing.{LeftOf}
-use Rattle.virt_engine.specs.Plan.{app_limit, policy_limit, with_input, unless_form, unless_policy, app_verdict, verdict_of, on_command, verdict, IsAccepted, IsFileFault, Plans, IsReady, RefusalOf, Wrote, DueOf, OutputFits, FilesQuiet, Finishes, Ran, RanCommand, Completes, Accepts, Delivers}
+use Rattle.virt_engine.specs.Plan.{app_limit, policy_limit, with_input, unless_form, unless_policy, app_verdict, verdict_of, on_command, verdict, IsAccepted, IsFileFault, Plans, IsReady, RefusalOf, Wrote, DueOf, FilesQuiet, Finishes, Ran, RanCommand, Completes, Accepts, Delivers}
 use Rattle.virt_engine.proofs.Adding.{goes_on}
 use Rattle.virt_engine.proofs.Outputs.{is_output}
 

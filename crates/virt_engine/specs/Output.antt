@@ -1,8 +1,8 @@
 -- The output: the application, unchanged, in a component that instantiates it and exports what it exports.
-use Rattle.std.specs.Prelude.{◌≡◌, ◌≢◌, ℕ, ℤ, zero, suc, pos, negsuc, ◌-◌, ◌+◌, ◌^◌, ◌%◌, List, [], ◌∷◌, ◌++◌, length, codes, Option, Some, None, slice_get, option_map, if◌then◌else◌}
+use Rattle.std.specs.Prelude.{◌≡◌, ℕ, ℤ, zero, suc, pos, negsuc, ◌-◌, ◌+◌, ◌^◌, List, [], ◌∷◌, ◌++◌, length, codes, Option, Some, None, slice_get, option_map, if◌then◌else◌}
 use Rattle.std.specs.Str.{bytes_eq}
 use Rattle.std.specs.Option.{option_and_then}
-use Rattle.wasm_format.specs.Format.{Format, both, image, sized, fixed, anything, vec, u32_format}
+use Rattle.wasm_format.specs.Format.{Format, both, image, anything, vec, u32_format}
 use Rattle.wasm_ast.specs.declared.component.Sort.TheVariants as sorts
 use Rattle.wasm_ast.specs.declared.component.Instance.{Instance}
 use Rattle.wasm_ast.specs.declared.component.Instance.TheVariants.{Instantiate, Inline}

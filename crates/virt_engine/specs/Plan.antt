@@ -1,6 +1,6 @@
 -- What a call of `virt` comes to.
-use Rattle.std.specs.Prelude.{ℕ, ℤ, ◌+◌, ◌≤◌, ◌<◌, ◌≡◌, ◌≢◌, ◌++◌, ◌⊎◌, List, [], ◌∷◌, Bool, true, false, Option, Some, None, IsSome, is_some, length, take, codes, nat_lt, if◌then◌else◌}
-use Rattle.std.specs.Prelude.{Result, Ok, Err, IfErr, IfOk, Vec, vec_len, string_bytes}
+use Rattle.std.specs.Prelude.{ℕ, ℤ, ◌≤◌, ◌<◌, ◌≡◌, ◌≢◌, ◌++◌, ◌⊎◌, List, [], ◌∷◌, true, false, Option, Some, None, IsSome, is_some, length, codes, nat_lt, if◌then◌else◌}
+use Rattle.std.specs.Prelude.{Result, Ok, Err, IfErr, IfOk, Vec, string_bytes}
 use Rattle.std.specs.declared.alloc.Global.{Global}
 use Rattle.virt_base.specs.Fault.{Rose}
 use Rattle.virt_base.specs.Files.{FilesState, Held, Goes, with_file, no_place}
@@ -9,7 +9,7 @@ use Rattle.virt_base.specs.declared.fault.AppFault.TheVariants.{Malformed}
 use Rattle.comp_read.specs.Constant.{SpellsConstant, constant_of}
 use Rattle.virt_engine.specs.declared.status.PolicyFault.TheVariants.{BadKey}
 use Rattle.virt_engine.specs.declared.status.Status.{Status}
-use Rattle.virt_engine.specs.declared.status.Status.TheVariants.{Done, PolicyRefused, AppRefused, FileFault, SinkFault, OverLimit, NoMemory, ScriptRefused, Trapped, ScriptEnded, StepsSpent, BadAnswer, TooDeep, Usage}
+use Rattle.virt_engine.specs.declared.status.Status.TheVariants.{Done, PolicyRefused, AppRefused, FileFault, OverLimit, NoMemory, Usage}
 use Rattle.virt_engine.specs.declared.plan.Ready.{Ready}
 use Rattle.virt_engine.specs.Command.{Command, command_of}
 use Rattle.virt_engine.specs.Line.{done_text, status_text}

@@ -1,9 +1,9 @@
 -- How the text of a status relates to the sink that it is put to.
-use Rattle.std.specs.Prelude.{ℕ, ◌≡◌, ◌++◌, ◌⊎◌, List, true, false, length, take}
+use Rattle.std.specs.Prelude.{ℕ, ◌≡◌, ◌++◌, ◌⊎◌, List, true, false, take}
 use Rattle.virt_base.specs.Fault.{Rose}
 use Rattle.virt_base.specs.Sink.{SinkState, is_full}
 use Rattle.virt_engine.specs.declared.status.Status.{Status}
-use Rattle.virt_engine.specs.declared.status.Status.TheVariants.{Done, PolicyRefused, AppRefused, FileFault, SinkFault, OverLimit, NoMemory, ScriptRefused, Trapped, ScriptEnded, StepsSpent, BadAnswer, TooDeep, Usage}
+use Rattle.virt_engine.specs.declared.status.Status.TheVariants.{PolicyRefused, AppRefused, FileFault, SinkFault, OverLimit, NoMemory, Usage}
 
 -- the whole text is there
 pub record Written (due : Status) (text : List ℕ) (s t : SinkState) (result : Status) : Type 0 where

@@ -1,5 +1,5 @@
 -- What becomes of a file that is written anew, piece by piece.
-use Rattle.std.specs.Prelude.{ℕ, ◌≡◌, ◌≤◌, ◌++◌, ◌⊎◌, List, true, false, Option, Some, None, Result, is_err, OnOk, OnErr, length, take}
+use Rattle.std.specs.Prelude.{ℕ, ◌≡◌, ◌≤◌, ◌⊎◌, List, true, false, Some, None, Result, is_err, OnOk, OnErr, length, take}
 use Rattle.virt_base.specs.Fault.{Rose}
 use Rattle.virt_base.specs.Files.{FilesState, Held, Goes, with_file, with_more, no_place, no_room}
 use Rattle.virt_base.specs.declared.files.WriteFailed.{WriteFailed}

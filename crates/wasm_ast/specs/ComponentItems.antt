@@ -25,10 +25,10 @@ sort_tag sorts.Instance = 5
 
 unfoldable pub sort : Format Sort
 sort = tagged sort_tag (λ b.
-  choose (b == 1) (value sorts.Func) (
-  choose (b == 3) (value sorts.Type) (
-  choose (b == 5) (value sorts.Instance)
-  (lacking b))))
+    choose (b == 1) (value sorts.Func) (
+    choose (b == 3) (value sorts.Type) (
+    choose (b == 5) (value sorts.Instance)
+    (lacking b))))
 
 -- 00 or 01, which are read alike, and a name; 00 is written
 unfoldable pub extern_name : Format (List ℕ)
@@ -64,9 +64,9 @@ inline_of (instances.Instantiate component args) = []
 
 unfoldable pub instance : Format Instance
 instance = tagged instance_tag (λ b.
-  choose (b == 0) (image (λ p. instances.Instantiate p.0 p.1) instantiated (both u32_format (vec argument))) (
-  choose (b == 1) (image instances.Inline inline_of (vec inline_export))
-  (lacking b)))
+    choose (b == 0) (image (λ p. instances.Instantiate p.0 p.1) instantiated (both u32_format (vec argument))) (
+    choose (b == 1) (image instances.Inline inline_of (vec inline_export))
+    (lacking b)))
 
 -- ---- aliases: a sort, and a target that the sort allows
 
@@ -130,27 +130,27 @@ type_target (aliases.Outer _ _ _) = 2
 
 unfoldable pub core_alias_format : Format Alias
 core_alias_format = tagged core_alias_tag (λ b.
-  choose (b == 0) (behind (1 ∷ []) (from_core_instance core_sorts.Func)) (
-  choose (b == 1) (behind (1 ∷ []) (from_core_instance core_sorts.Table)) (
-  choose (b == 2) (behind (1 ∷ []) (from_core_instance core_sorts.Memory)) (
-  choose (b == 3) (behind (1 ∷ []) (from_core_instance core_sorts.Global)) (
-  choose (b == 0x11) (behind (2 ∷ []) (from_outside outer_sorts.CoreModule))
-  (lacking b))))))
+    choose (b == 0) (behind (1 ∷ []) (from_core_instance core_sorts.Func)) (
+    choose (b == 1) (behind (1 ∷ []) (from_core_instance core_sorts.Table)) (
+    choose (b == 2) (behind (1 ∷ []) (from_core_instance core_sorts.Memory)) (
+    choose (b == 3) (behind (1 ∷ []) (from_core_instance core_sorts.Global)) (
+    choose (b == 0x11) (behind (2 ∷ []) (from_outside outer_sorts.CoreModule))
+    (lacking b))))))
 
 unfoldable pub type_alias_format : Format Alias
 type_alias_format = tagged type_target (λ b.
-  choose (b == 0) (from_instance sorts.Type) (
-  choose (b == 2) (from_outside outer_sorts.Type)
-  (lacking b)))
+    choose (b == 0) (from_instance sorts.Type) (
+    choose (b == 2) (from_outside outer_sorts.Type)
+    (lacking b)))
 
 unfoldable pub alias : Format Alias
 alias = tagged alias_tag (λ b.
-  choose (b == 0) core_alias_format (
-  choose (b == 1) (behind (0 ∷ []) (from_instance sorts.Func)) (
-  choose (b == 3) type_alias_format (
-  choose (b == 4) (behind (2 ∷ []) (from_outside outer_sorts.Component)) (
-  choose (b == 5) (behind (0 ∷ []) (from_instance sorts.Instance))
-  (lacking b))))))
+    choose (b == 0) core_alias_format (
+    choose (b == 1) (behind (0 ∷ []) (from_instance sorts.Func)) (
+    choose (b == 3) type_alias_format (
+    choose (b == 4) (behind (2 ∷ []) (from_outside outer_sorts.Component)) (
+    choose (b == 5) (behind (0 ∷ []) (from_instance sorts.Instance))
+    (lacking b))))))
 
 -- ---- exports
 
@@ -175,16 +175,16 @@ type_of_desc (descs.Instance ty) = ty
 -- a type that equals another, or a fresh resource
 unfoldable pub type_bound : Format ExternDesc
 type_bound = tagged bound_tag (λ b.
-  choose (b == 0) (image descs.TypeEq type_of_desc u32_format) (
-  choose (b == 1) (value descs.Resource)
-  (lacking b)))
+    choose (b == 0) (image descs.TypeEq type_of_desc u32_format) (
+    choose (b == 1) (value descs.Resource)
+    (lacking b)))
 
 unfoldable pub extern_desc : Format ExternDesc
 extern_desc = tagged desc_tag (λ b.
-  choose (b == 1) (image descs.Func type_of_desc u32_format) (
-  choose (b == 3) type_bound (
-  choose (b == 5) (image descs.Instance type_of_desc u32_format)
-  (lacking b))))
+    choose (b == 1) (image descs.Func type_of_desc u32_format) (
+    choose (b == 3) type_bound (
+    choose (b == 5) (image descs.Instance type_of_desc u32_format)
+    (lacking b))))
 
 abbrev pub option_tag : {A : Type 0} → Option A → ℕ
 option_tag None = 0
@@ -196,9 +196,9 @@ some_desc (Some d) = d
 
 unfoldable pub stated_desc : Format (Option ExternDesc)
 stated_desc = tagged option_tag (λ b.
-  choose (b == 0) (value None) (
-  choose (b == 1) (image Some some_desc extern_desc)
-  (lacking b)))
+    choose (b == 0) (value None) (
+    choose (b == 1) (image Some some_desc extern_desc)
+    (lacking b)))
 
 abbrev pub export_from : List ℕ × (Sort × (ℕ × Option ExternDesc)) → ComponentExport
 export_from p = record { name = p.0; sort = p.1.0; index = p.1.1.0; desc = p.1.1.1 }

@@ -98,25 +98,25 @@ counted (Some n) = vec_of n segment
 -- sections 0 to 6, behind the id
 unfoldable pub low_section : CoreProgress → ℕ → Format CoreSection
 low_section s b =
-  choose (b == 0) (image (λ u. kind.Custom) (λ p. tt) (sized note)) (
-  choose (b == 1) (image kind.Types types_of (ranked s.rank 1 (sized (vec core_func)))) (
-  choose (b == 2) (image kind.Imports imports_of (ranked s.rank 2 (sized (vec import)))) (
-  choose (b == 3) (image kind.Functions functions_of (ranked s.rank 3 (sized (vec u32_format)))) (
-  choose (b == 4) (image kind.Tables tables_of (ranked s.rank 4 (sized (vec table_type)))) (
-  choose (b == 5) (image kind.Memories memories_of (ranked s.rank 5 (sized (vec limits)))) (
-  choose (b == 6) (image kind.Globals globals_of (ranked s.rank 6 (sized (vec global))))
-  (lacking b)))))))
+    choose (b == 0) (image (λ u. kind.Custom) (λ p. tt) (sized note)) (
+    choose (b == 1) (image kind.Types types_of (ranked s.rank 1 (sized (vec core_func)))) (
+    choose (b == 2) (image kind.Imports imports_of (ranked s.rank 2 (sized (vec import)))) (
+    choose (b == 3) (image kind.Functions functions_of (ranked s.rank 3 (sized (vec u32_format)))) (
+    choose (b == 4) (image kind.Tables tables_of (ranked s.rank 4 (sized (vec table_type)))) (
+    choose (b == 5) (image kind.Memories memories_of (ranked s.rank 5 (sized (vec limits)))) (
+    choose (b == 6) (image kind.Globals globals_of (ranked s.rank 6 (sized (vec global))))
+    (lacking b)))))))
 
 -- sections from 7 on. There are as many bodies as functions.
 unfoldable pub high_section : CoreProgress → ℕ → Format CoreSection
 high_section s b =
-  choose (b == 7) (image kind.Exports exports_of (ranked s.rank 7 (sized (vec export)))) (
-  choose (b == 8) (image kind.Start number_in (ranked s.rank 8 (sized u32_format))) (
-  choose (b == 9) (image kind.Elements elements_of (ranked s.rank 9 (sized (vec elements)))) (
-  choose (b == 10) (image kind.Code code_of (ranked s.rank 11 (sized (vec_of (length s.found.functions) (sized body))))) (
-  choose (b == 11) (image kind.Segments segments_of (ranked s.rank 12 (sized (counted s.found.data_count)))) (
-  choose (b == 12) (image kind.DataCount number_in (ranked s.rank 10 (sized u32_format)))
-  (lacking b))))))
+    choose (b == 7) (image kind.Exports exports_of (ranked s.rank 7 (sized (vec export)))) (
+    choose (b == 8) (image kind.Start number_in (ranked s.rank 8 (sized u32_format))) (
+    choose (b == 9) (image kind.Elements elements_of (ranked s.rank 9 (sized (vec elements)))) (
+    choose (b == 10) (image kind.Code code_of (ranked s.rank 11 (sized (vec_of (length s.found.functions) (sized body))))) (
+    choose (b == 11) (image kind.Segments segments_of (ranked s.rank 12 (sized (counted s.found.data_count)))) (
+    choose (b == 12) (image kind.DataCount number_in (ranked s.rank 10 (sized u32_format)))
+    (lacking b))))))
 
 unfoldable pub section : CoreProgress → Format CoreSection
 section s = tagged section_tag (λ b. choose (nat_lt b 7) (low_section s b) (high_section s b))
@@ -167,10 +167,10 @@ if_there make (Some n) = make n ∷ []
 
 abbrev pub sections_of : Module → List CoreSection
 sections_of m =
-  unless_empty kind.Types m.types ++ (unless_empty kind.Imports m.imports ++ (unless_empty kind.Functions m.functions ++ (
-  unless_empty kind.Tables m.tables ++ (unless_empty kind.Memories m.memories ++ (unless_empty kind.Globals m.globals ++ (
-  unless_empty kind.Exports m.exports ++ (if_there kind.Start m.start ++ (unless_empty kind.Elements m.elements ++ (
-  if_there kind.DataCount m.data_count ++ (unless_empty kind.Code m.code ++ unless_empty kind.Segments m.segments))))))))))
+    unless_empty kind.Types m.types ++ (unless_empty kind.Imports m.imports ++ (unless_empty kind.Functions m.functions ++ (
+    unless_empty kind.Tables m.tables ++ (unless_empty kind.Memories m.memories ++ (unless_empty kind.Globals m.globals ++ (
+    unless_empty kind.Exports m.exports ++ (if_there kind.Start m.start ++ (unless_empty kind.Elements m.elements ++ (
+    if_there kind.DataCount m.data_count ++ (unless_empty kind.Code m.code ++ unless_empty kind.Segments m.segments))))))))))
 
 -- ---- modules
 

@@ -1,4 +1,3 @@
-use Rattle.std.proofs.Common.{rules, ◌++◌, append_assoc}
 use Rattle.virt_engine.proofs.Outputs.{instances_fit, aliases_fit, exports_fit, joined_back}
 use Rattle.virt_engine.proofs.output.back.Goals as goal
 

@@ -1,5 +1,5 @@
 use Rattle.std.proofs.Common.{arith}
-use Rattle.virt_engine.proofs.Adding.{next_piece, broken_piece, all_pieces}
+use Rattle.virt_engine.proofs.Adding.{next_piece, broken_piece}
 use Rattle.virt_engine.proofs.write_out.add_pieces.Goals as goal
 
 pub returns-in_err-append : goal.returns-in_err-append
