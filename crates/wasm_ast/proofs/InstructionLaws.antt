@@ -5,7 +5,7 @@ use Rattle.wasm_format.proofs.NumberLaws.{exact_s32, exact_s64}
 use Rattle.wasm_format.proofs.SectionLaws.{AreExact}
 use Rattle.wasm_format.proofs.UntilLaws.{exact_until}
 use Rattle.wasm_format.specs.Format.{Format}
-use Rattle.wasm_ast.specs.Instructions.{mem_arg, branch_table, variable_op, load_op, memory_op, second_op, high_op, op_of, control, instr_of, instr}
+use Rattle.wasm_ast.specs.Instructions.{mem_arg, branch_table, variable_op, load_op, memory_op, second_op, other_op, high_op, op_of, control, instr_of, instr}
 use Rattle.wasm_ast.specs.Expressions.{nested, expr}
 use Rattle.wasm_ast.proofs.TypeLaws.{exact, exact_core_type, exact_ref_type, exact_block_type}
 
@@ -33,9 +33,12 @@ exact_second_op : (b : ℕ) → IsExact (second_op b)
 unfolding second_op
 exact_second_op b = search exact depth 18
 
+exact_other_op : (b : ℕ) → IsExact (other_op b)
+exact_other_op b = search (exact, exact_s32, exact_ref_type, exact_second_op) depth 14
+
 exact_high_op : (b : ℕ) → IsExact (high_op b)
 unfolding high_op
-exact_high_op b = search (exact, exact_s32, exact_ref_type, exact_second_op) depth 14
+exact_high_op b = search (exact, exact_other_op) depth 4
 
 exact_op_of : (b : ℕ) → IsExact (op_of b)
 unfolding op_of

@@ -1,7 +1,8 @@
 -- The formats of a module's items are exact, each by the laws of what it is made of.
+use Rattle.std.proofs.Common.{ℕ}
 use Rattle.wasm_format.proofs.Laws.{IsExact, exact_name, anything_to_end}
 use Rattle.wasm_format.specs.Format.{Format}
-use Rattle.wasm_ast.specs.Items.{import_item, import, export_item, export, global, local_run, body, kind_and_funcs, elements, segment}
+use Rattle.wasm_ast.specs.Items.{import_item, import, export_item, export, global, local_run, body, kind_and_funcs, low_elements, high_elements, elements, segment}
 use Rattle.wasm_ast.proofs.TypeLaws.{exact, exact_core_type, exact_ref_type, exact_limits, exact_table_type, exact_global_type}
 use Rattle.wasm_ast.proofs.InstructionLaws.{exact_expr}
 
@@ -37,9 +38,17 @@ exact_kind_and_funcs : IsExact kind_and_funcs
 unfolding kind_and_funcs
 exact_kind_and_funcs = search exact depth 8
 
+exact_low_elements : (b : ℕ) → IsExact (low_elements b)
+unfolding low_elements
+exact_low_elements b = search (exact, exact_kind_and_funcs, exact_expr) depth 14
+
+exact_high_elements : (b : ℕ) → IsExact (high_elements b)
+unfolding high_elements
+exact_high_elements b = search (exact, exact_ref_type, exact_expr) depth 14
+
 pub exact_elements : IsExact elements
 unfolding elements
-exact_elements = search (exact, exact_kind_and_funcs, exact_ref_type, exact_expr) depth 20
+exact_elements = search (exact, exact_low_elements, exact_high_elements) depth 6
 
 pub exact_segment : IsExact segment
 unfolding segment

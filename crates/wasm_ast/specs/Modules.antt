@@ -15,9 +15,13 @@ use Rattle.wasm_ast.specs.declared.module.Data.{Data}
 use Rattle.wasm_ast.specs.declared.module.Module.{Module}
 use Rattle.wasm_ast.specs.declared.section.CoreSection.{CoreSection}
 use Rattle.wasm_ast.specs.declared.section.CoreSection.TheVariants as kind
-use Rattle.wasm_ast.specs.declared.section.CoreProgress.{CoreProgress}
 use Rattle.wasm_ast.specs.Types.{core_func, limits, table_type}
 use Rattle.wasm_ast.specs.Items.{import, export, global, elements, body, segment}
+
+-- What is read so far: the sections of a module, and the place of the last one in their order, from 1.
+pub record Progress : Type 0 where
+  pub rank : ℕ
+  pub found : Module
 
 -- ---- one section
 
@@ -96,7 +100,7 @@ counted None = vec segment
 counted (Some n) = vec_of n segment
 
 -- sections 0 to 6, behind the id
-unfoldable pub low_section : CoreProgress → ℕ → Format CoreSection
+unfoldable pub low_section : Progress → ℕ → Format CoreSection
 low_section s b =
     choose (b == 0) (image (λ u. kind.Custom) (λ p. tt) (sized note)) (
     choose (b == 1) (image kind.Types types_of (ranked s.rank 1 (sized (vec core_func)))) (
@@ -108,7 +112,7 @@ low_section s b =
     (lacking b)))))))
 
 -- sections from 7 on. There are as many bodies as functions.
-unfoldable pub high_section : CoreProgress → ℕ → Format CoreSection
+unfoldable pub high_section : Progress → ℕ → Format CoreSection
 high_section s b =
     choose (b == 7) (image kind.Exports exports_of (ranked s.rank 7 (sized (vec export)))) (
     choose (b == 8) (image kind.Start number_in (ranked s.rank 8 (sized u32_format))) (
@@ -118,12 +122,12 @@ high_section s b =
     choose (b == 12) (image kind.DataCount number_in (ranked s.rank 10 (sized u32_format)))
     (lacking b))))))
 
-unfoldable pub section : CoreProgress → Format CoreSection
+unfoldable pub section : Progress → Format CoreSection
 section s = tagged section_tag (λ b. choose (nat_lt b 7) (low_section s b) (high_section s b))
 
 -- ---- all sections
 
-abbrev pub add_section : CoreProgress → CoreSection → CoreProgress
+abbrev pub add_section : Progress → CoreSection → Progress
 add_section s kind.Custom = s
 add_section s (kind.Types x) = record { rank = 1; found = record s.found { types = x } }
 add_section s (kind.Imports x) = record { rank = 2; found = record s.found { imports = x } }
@@ -143,16 +147,16 @@ is_count_of None n = true
 is_count_of (Some count) n = n == count
 
 -- There are as many bodies as functions, and as many segments as the data count says.
-abbrev pub has_counts : CoreProgress → Bool
+abbrev pub has_counts : Progress → Bool
 has_counts s = (length s.found.code == length s.found.functions) && is_count_of s.found.data_count (length s.found.segments)
 
-unfoldable pub sections : Sections CoreProgress CoreSection
+unfoldable pub sections : Sections Progress CoreSection
 sections = record { form = section; next = add_section; can_end = has_counts }
 
 abbrev pub no_module : Module
 no_module = record { types = []; imports = []; functions = []; tables = []; memories = []; globals = []; exports = []; start = None; elements = []; data_count = None; code = []; segments = [] }
 
-abbrev pub no_sections : CoreProgress
+abbrev pub no_sections : Progress
 no_sections = record { rank = 0; found = no_module }
 
 -- ---- what is written: a section for each list that is not empty, in order
@@ -178,7 +182,7 @@ abbrev pub preamble : List ℕ
 preamble = 0 ∷ 0x61 ∷ 0x73 ∷ 0x6D ∷ 1 ∷ 0 ∷ 0 ∷ 0 ∷ []
 
 -- the sections behind the preamble
-unfoldable pub all_sections : Format CoreProgress
+unfoldable pub all_sections : Format Progress
 all_sections = to_the_end sections no_sections (λ s. sections_of s.found)
 
 unfoldable pub core_module : Format Module

@@ -20,4 +20,4 @@ pub use module::{
     ImportItem, Indexes, Limits, LocalRun, Module, TableType,
 };
 pub use numeric::{Numeric, NumericOp, numeric_of};
-pub use section::{CoreProgress, CoreSection};
+pub use section::CoreSection;

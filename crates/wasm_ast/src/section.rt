@@ -1,5 +1,5 @@
 use crate::module::{
-    Body, CoreFunc, Data, Elements, Export, Global, Import, Indexes, Limits, Module, TableType,
+    Body, CoreFunc, Data, Elements, Export, Global, Import, Indexes, Limits, TableType,
 };
 use virt_base::Items;
 
@@ -19,12 +19,4 @@ pub enum CoreSection {
     DataCount(u32),
     Code(Items<Body>),
     Segments(Items<Data>),
-}
-
-/// The sections of a module that are read so far.
-#[derive(Debug, Drop)]
-pub struct CoreProgress {
-    /// The place of the last section in the order of sections, from 1; 0 where there is none.
-    pub rank: u8,
-    pub found: Module,
 }

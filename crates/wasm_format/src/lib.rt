@@ -15,7 +15,7 @@ mod writer;
 mod tests;
 
 pub use literal::{expect_bytes, expect_tag, next_is_tag};
-pub use names::{ByteLists, Names, take_sized};
+pub use names::{ByteLists, Names, take_name, take_sized};
 pub use numbers::{S32, S33Index, S64, U32};
 pub use put::{put_byte, put_bytes, put_signed, put_u32};
 pub use reader::{CountedVecs, Reader, Sized, Vecs};

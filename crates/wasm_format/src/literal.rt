@@ -1,5 +1,5 @@
 ghost use Rattle.std.specs.Prelude.{◌≡◌, ◌∷◌, ◌++◌, [], ℕ, List, length, drop, true, false, MatchOption};
-ghost use Rattle.virt_base.specs.Place.{place, rest};
+ghost use Rattle.virt_base.specs.Place.{place, rest, Gives};
 ghost use Rattle.wasm_format.specs.Format.{literal, fixed, is_tag_byte};
 ghost use Rattle.wasm_format.specs.Reads.{Reads};
 
@@ -34,6 +34,7 @@ fn begins_with(bytes: &[u8], front: &[u8]) -> bool
 pub fn expect_bytes(c: &mut Cursor<'_>, bytes: &[u8]) -> Result<(), Stop>
     ensures input { c.new.bytes ≡ c.old.bytes }
     ensures value { Reads result c.new ((fixed bytes.now tt).read (place c.old)) }
+    ensures given { Gives result c.new ((fixed bytes.now tt).read (place c.old)) }
 {
     if !begins_with(&c.bytes[c.at..], bytes) {
         return Err(Stop::Malformed);

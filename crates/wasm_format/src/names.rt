@@ -23,6 +23,19 @@ pub fn take_sized<'a>(alloc: Global, c: &mut Cursor<'a>) -> Result<&'a [u8], Sto
     Ok(&c.bytes[start..start + size])
 }
 
+/// Takes a length, and so many bytes of text in UTF-8.
+#[tactic(auto, unfolding(crate::specs::Format::name), using(crate::proofs::NameLaws::name_is, crate::proofs::NameLaws::name_not))]
+pub fn take_name<'a>(alloc: Global, c: &mut Cursor<'a>) -> Result<&'a [u8], Stop>
+    ensures input { c.new.bytes ≡ c.old.bytes }
+    ensures value { ReadsAs (λ s. s.now) result c.new (name.read (place c.old)) }
+{
+    let bytes = take_sized(alloc, c)?;
+    match str::from_utf8(bytes) {
+        Ok(_) => Ok(bytes),
+        Err(_) => Err(Stop::Malformed),
+    }
+}
+
 /// Bytes behind their length.
 #[derive(Clone, Copy)]
 pub struct ByteLists;

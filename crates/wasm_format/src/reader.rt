@@ -56,7 +56,7 @@ impl<R: Reader> Reader for Vecs<R> {
 /// A count that must be this one, and that many.
 #[derive(Drop)]
 pub struct CountedVecs<R> {
-    pub count: u32,
+    pub count: usize,
     pub item: R,
 }
 
@@ -67,7 +67,7 @@ impl<R: Reader> Reader for CountedVecs<R> {
 
     fn read(&self, alloc: Global, c: &mut Cursor<'_>) -> Result<Items<R::Value>, Stop> {
         let count = U32.read(alloc, c)?;
-        if count != self.count {
+        if count as usize != self.count {
             return Err(Stop::Malformed);
         }
         items_of(&self.item, alloc, c, count)

@@ -1,0 +1,2 @@
+pub mod BlockTypes
+pub mod ModuleAnswers

@@ -1,0 +1,15 @@
+//! The reader of core modules.
+#![tactic(auto)]
+
+mod instrs;
+mod items;
+mod nesting;
+mod ops;
+mod reading;
+mod sections;
+mod types;
+
+#[cfg(test)]
+mod tests;
+
+pub use reading::{CoreModules, ReadFault, read_module};
