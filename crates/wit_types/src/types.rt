@@ -1,0 +1,75 @@
+use virt_base::{Items, Text};
+
+/// A value type of the Component Model (Binary.md, "Type Definitions"). The number of a handle type names a resource.
+#[derive(Drop)]
+#[cycle(types)]
+pub enum WitType {
+    Bool,
+    S8,
+    U8,
+    S16,
+    U16,
+    S32,
+    U32,
+    S64,
+    U64,
+    Char,
+    Str,
+    Record(Fields),
+    Tuple(Types),
+    Variant(Cases),
+    List(Box<WitType>),
+    Flags(Labels),
+    Enum(Labels),
+    Option(Box<WitType>),
+    Result(Option<Box<WitType>>, Option<Box<WitType>>),
+    Own(u32),
+    Borrow(u32),
+}
+
+/// Names in order.
+pub type Labels = Items<Text>;
+
+/// Types in order.
+#[derive(Drop)]
+#[cycle(types)]
+pub struct Types {
+    pub items: Vec<WitType>,
+}
+
+/// A named type: a field of a record, or a parameter.
+#[derive(Drop)]
+#[cycle(types)]
+pub struct Field {
+    pub name: Text,
+    pub ty: WitType,
+}
+
+/// Named types in order.
+#[derive(Drop)]
+#[cycle(types)]
+pub struct Fields {
+    pub items: Vec<Field>,
+}
+
+/// A case of a variant, and the type of its payload if it has one.
+#[derive(Drop)]
+#[cycle(types)]
+pub struct Case {
+    pub name: Text,
+    pub ty: Option<Box<WitType>>,
+}
+
+/// Cases in order.
+#[derive(Drop)]
+#[cycle(types)]
+pub struct Cases {
+    pub items: Vec<Case>,
+}
+
+/// The type of a function.
+#[derive(Drop)]
+pub struct FuncType {
+    pub params: Fields,
+    pub result: Option<WitType>,
+}

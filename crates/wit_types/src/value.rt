@@ -1,0 +1,24 @@
+use virt_base::Text;
+
+/// A value of a type. A tuple is a `Record`. An enum, an option and a result are a `Variant`, by the number of the case:
+/// none is 0 and some is 1, ok is 0 and error is 1. The lowest bit of `Flags` is the first label's.
+#[derive(Drop)]
+#[cycle(values)]
+pub enum Value {
+    Bool(bool),
+    Int(i128),
+    Char(char),
+    Str(Text),
+    List(Values),
+    Record(Values),
+    Variant(u32, Option<Box<Value>>),
+    Flags(u32),
+    Handle(u32),
+}
+
+/// Values in order.
+#[derive(Drop)]
+#[cycle(values)]
+pub struct Values {
+    pub items: Vec<Value>,
+}
