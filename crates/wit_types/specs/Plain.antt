@@ -80,7 +80,7 @@ unfoldable mutual
   plain (Flags labels) = FlagsType labels
   plain (Enum labels) = VariantType AsEnum (bare labels)
   plain (Option' _ ty) = VariantType AsOption (Bare [] (More [] (plain ty) End))
-  plain (Result' ok err) = VariantType AsResult (plain_payload [] ok (plain_payload [] err End))
+  plain (Result' ok err) = VariantType AsResult (plain_case [] ok (plain_case [] err End))
   plain (Own resource) = OwnType resource
   plain (Borrow resource) = BorrowType resource
 
@@ -94,11 +94,11 @@ unfoldable mutual
 
   pub plain_cases : {n : _} → Row_of-Case n → Parts
   plain_cases end_of-Case = End
-  plain_cases (more_of-Case name payload rest) = plain_payload name payload (plain_cases rest)
+  plain_cases (more_of-Case name payload rest) = plain_case name payload (plain_cases rest)
 
-  pub plain_payload : Name → Held-WitType-Result-0 → Parts → Parts
-  plain_payload name None' rest = Bare name rest
-  plain_payload name (Some' _ ty) rest = More name (plain ty) rest
+  pub plain_case : Name → Held-WitType-Result-0 → Parts → Parts
+  plain_case name None' rest = Bare name rest
+  plain_case name (Some' _ ty) rest = More name (plain ty) rest
 
 -- the same of lists
 abbrev pub fields_of : List Field → Parts
@@ -109,13 +109,18 @@ abbrev pub types_of : List WitType → Parts
 types_of [] = End
 types_of (t ∷ ts) = More [] (plain t) (types_of ts)
 
-abbrev pub with_payload : Name → Opt (Box WitType Global) → Parts → Parts
-with_payload name None rest = Bare name rest
-with_payload name (Some b) rest = More name (plain b.value) rest
+abbrev pub payload_of : Opt (Box WitType Global) → Opt Plain
+payload_of None = None
+payload_of (Some b) = Some (plain b.value)
+
+-- a case with its payload, if it has one
+abbrev pub case_part : Name → Opt Plain → Parts → Parts
+case_part name None rest = Bare name rest
+case_part name (Some ty) rest = More name ty rest
 
 abbrev pub cases_of : List Case → Parts
 cases_of [] = End
-cases_of (c ∷ cs) = with_payload (out-Case c).name (out-Case c).ty (cases_of cs)
+cases_of (c ∷ cs) = case_part (out-Case c).name (payload_of (out-Case c).ty) (cases_of cs)
 
 -- the type of a function
 pub record PlainFunc : Type 0 where
