@@ -3,6 +3,7 @@
 
 mod type_copies;
 mod types;
+mod typing;
 mod value;
 mod value_copies;
 

@@ -1,7 +1,7 @@
 use virt_base::{Items, Text};
 
 /// A value type of the Component Model (Binary.md, "Type Definitions"). The number of a handle type names a resource.
-#[derive(Drop)]
+#[derive(Debug, Drop)]
 #[cycle(types)]
 pub enum WitType {
     Bool,
@@ -31,14 +31,14 @@ pub enum WitType {
 pub type Labels = Items<Text>;
 
 /// Types in order.
-#[derive(Drop)]
+#[derive(Debug, Drop)]
 #[cycle(types)]
 pub struct Types {
     pub items: Vec<WitType>,
 }
 
 /// A named type: a field of a record, or a parameter.
-#[derive(Drop)]
+#[derive(Debug, Drop)]
 #[cycle(types)]
 pub struct Field {
     pub name: Text,
@@ -46,14 +46,14 @@ pub struct Field {
 }
 
 /// Named types in order.
-#[derive(Drop)]
+#[derive(Debug, Drop)]
 #[cycle(types)]
 pub struct Fields {
     pub items: Vec<Field>,
 }
 
 /// A case of a variant, and the type of its payload if it has one.
-#[derive(Drop)]
+#[derive(Debug, Drop)]
 #[cycle(types)]
 pub struct Case {
     pub name: Text,
@@ -61,14 +61,14 @@ pub struct Case {
 }
 
 /// Cases in order.
-#[derive(Drop)]
+#[derive(Debug, Drop)]
 #[cycle(types)]
 pub struct Cases {
     pub items: Vec<Case>,
 }
 
 /// The type of a function.
-#[derive(Drop)]
+#[derive(Debug, Drop)]
 pub struct FuncType {
     pub params: Fields,
     pub result: Option<WitType>,

@@ -2,7 +2,7 @@ use virt_base::Text;
 
 /// A value of a type. A tuple is a `Record`. An enum, an option and a result are a `Variant`, by the number of the case:
 /// none is 0 and some is 1, ok is 0 and error is 1. The lowest bit of `Flags` is the first label's.
-#[derive(Drop)]
+#[derive(Debug, Drop)]
 #[cycle(values)]
 pub enum Value {
     Bool(bool),
@@ -17,7 +17,7 @@ pub enum Value {
 }
 
 /// Values in order.
-#[derive(Drop)]
+#[derive(Debug, Drop)]
 #[cycle(values)]
 pub struct Values {
     pub items: Vec<Value>,
