@@ -158,5 +158,4 @@ fields_of-push (u ∷ xs) (v ∷ ys) x y e n h =
     let rest = fields_of-push xs ys x y tail n h in
     cc
 
-
 pub ruleset plains = (plain-Record, plain-Variant, plain-Tuple, plain-Result, plain-Option, plain-List, plain-Bool, plain-S8, plain-U8, plain-S16, plain-U16, plain-S32, plain-U32, plain-S64, plain-U64, plain-Char, plain-Str, plain-Flags, plain-Enum, plain-Own, plain-Borrow)

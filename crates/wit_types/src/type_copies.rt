@@ -20,10 +20,7 @@ fn copy_labels(alloc: Global, labels: &Labels) -> Result<Labels, NoMemory>
 }
 
 #[cycle(copy_type)]
-fn copy_payload(
-    alloc: Global,
-    ty: &Option<Box<WitType>>,
-) -> Result<Option<Box<WitType>>, NoMemory>
+fn copy_payload(alloc: Global, ty: &Option<Box<WitType>>) -> Result<Option<Box<WitType>>, NoMemory>
     ensures { IfOk result (λ copy. payload_of copy ≡ payload_of ty.now) }
 {
     match ty {

@@ -8,10 +8,7 @@ use std::alloc::Global;
 use virt_base::NoMemory;
 
 #[cycle(copy_value)]
-fn copy_payload(
-    alloc: Global,
-    payload: &Option<Box<Value>>,
-) -> Result<Option<Box<Value>>, NoMemory>
+fn copy_payload(alloc: Global, payload: &Option<Box<Value>>) -> Result<Option<Box<Value>>, NoMemory>
     ensures { IfOk result (λ copy. payload_of copy ≡ payload_of payload.now) }
 {
     match payload {
