@@ -52,6 +52,10 @@ abbrev mutual
 
 -- ---- size
 
+-- a discriminant, then a payload at the greatest alignment of the payloads, with room for the greatest
+abbrev pub variant_size : (discriminant payload_alignment payload_size : ℕ) → ℕ
+variant_size discriminant payload_alignment payload_size = align_to (align_to discriminant payload_alignment + payload_size) (max discriminant payload_alignment)
+
 abbrev mutual
   pub size : Plain → ℕ
   size BoolType = 1
@@ -61,10 +65,7 @@ abbrev mutual
   size StringType = 8
   size (ListType _) = 8
   size (RecordType _ fields) = align_to (end_of fields 0) (greatest_alignment fields)
-  size (VariantType _ cases) =
-      let tag = discriminant_size (count cases) in
-      let payloads = greatest_alignment cases in
-      align_to (align_to tag payloads + greatest_size cases) (max tag payloads)
+  size (VariantType _ cases) = variant_size (discriminant_size (count cases)) (greatest_alignment cases) (greatest_size cases)
   size (FlagsType labels) = flags_size (length labels)
   size (OwnType _) = 4
   size (BorrowType _) = 4

@@ -1,0 +1,145 @@
+-- Bounds on alignments and sizes, and layout by the lists of a type's parts.
+use Rattle.std.proofs.Common.{◌≡◌, ◌≤◌, ◌+◌, ◌*◌, ◌-◌, ℕ, max, arith, List, [], ◌∷◌, length, Option, Some, None, refl, sym, ◌∙◌, ap}
+use Rattle.std.proofs.lemmas.Bool.Decides.{nat_tests}
+use Rattle.wit_types.specs.declared.types.Case.{Case, out-Case}
+use Rattle.wit_types.specs.Plain.{Name, Width, OneByte, TwoBytes, FourBytes, EightBytes, VariantForm, AsEnum, Plain, Parts, BoolType, SignedType, UnsignedType, CharType, StringType, ListType, RecordType, VariantType, FlagsType, OwnType, BorrowType, End, More, Bare, bare, payload_of, case_part, cases_of}
+use Rattle.wit_types.specs.Layout.{bytes, alignment, greatest_alignment, discriminant_size, flags_size, count, align_to, variant_size, size, end_of, greatest_size}
+use Rattle.wit_types.specs.Limits.{parts, all_parts}
+use Rattle.wit_types.proofs.PlainLemmas.{plains}
+
+-- ---- bounds
+
+pub record IsSmallPower (n : ℕ) : Type 0 where
+  pub least : 1 ≤ n
+  pub most : n ≤ 8
+
+within_eight : (n : ℕ) → 1 ≤ n → n ≤ 8 → IsSmallPower n
+within_eight n a b = record { least = a; most = b }
+
+pub bytes_bounds : (w : Width) → IsSmallPower (bytes w)
+bytes_bounds OneByte = within_eight 1 (omega arith) (omega arith)
+bytes_bounds TwoBytes = within_eight 2 (omega arith) (omega arith)
+bytes_bounds FourBytes = within_eight 4 (omega arith) (omega arith)
+bytes_bounds EightBytes = within_eight 8 (omega arith) (omega arith)
+
+pub discriminant_bounds : (n : ℕ) → IsSmallPower (discriminant_size n)
+discriminant_bounds n = record { least = grind (arith, nat_tests); most = grind (arith, nat_tests) }
+
+pub discriminant_most : (n : ℕ) → discriminant_size n ≤ 4
+discriminant_most n = grind (arith, nat_tests)
+
+pub flags_bounds : (n : ℕ) → IsSmallPower (flags_size n)
+flags_bounds n = record { least = grind (arith, nat_tests); most = grind (arith, nat_tests) }
+
+pub flags_most : (n : ℕ) → flags_size n ≤ 4
+flags_most n = grind (arith, nat_tests)
+
+max_bounds : (m n : ℕ) → IsSmallPower m → IsSmallPower n → IsSmallPower (max m n)
+max_bounds m n a b = record { least = omega arith; most = omega arith }
+
+mutual
+  pub alignment_bounds : (p : Plain) → IsSmallPower (alignment p)
+  alignment_bounds BoolType = within_eight 1 (omega arith) (omega arith)
+  alignment_bounds (SignedType w) = bytes_bounds w
+  alignment_bounds (UnsignedType w) = bytes_bounds w
+  alignment_bounds CharType = within_eight 4 (omega arith) (omega arith)
+  alignment_bounds StringType = within_eight 4 (omega arith) (omega arith)
+  alignment_bounds (ListType _) = within_eight 4 (omega arith) (omega arith)
+  alignment_bounds (RecordType _ ps) = greatest_alignment_bounds ps
+  alignment_bounds (VariantType _ cs) = max_bounds _ _ (discriminant_bounds (count cs)) (greatest_alignment_bounds cs)
+  alignment_bounds (FlagsType labels) = flags_bounds (length labels)
+  alignment_bounds (OwnType _) = within_eight 4 (omega arith) (omega arith)
+  alignment_bounds (BorrowType _) = within_eight 4 (omega arith) (omega arith)
+
+  pub greatest_alignment_bounds : (ps : Parts) → IsSmallPower (greatest_alignment ps)
+  greatest_alignment_bounds End = within_eight 1 (omega arith) (omega arith)
+  greatest_alignment_bounds (More _ p ps) = max_bounds _ _ (alignment_bounds p) (greatest_alignment_bounds ps)
+  greatest_alignment_bounds (Bare _ ps) = greatest_alignment_bounds ps
+
+pub align_to_most : (at by : ℕ) → 1 ≤ by → align_to at by ≤ at + (by - 1)
+align_to_most at by h = grind arith
+
+variant_most : (d a s : ℕ) → IsSmallPower d → IsSmallPower a → variant_size d a s ≤ d + 14 + s
+variant_most d a s hd ha = omega (arith, align_to_most d a ha.least, align_to_most (align_to d a + s) (max d a) (max_bounds d a hd ha).least)
+
+mutual
+  pub size_most : (p : Plain) → size p + 8 ≤ 32 * parts p
+  size_most BoolType = omega arith
+  size_most (SignedType w) = omega (arith, (bytes_bounds w).most)
+  size_most (UnsignedType w) = omega (arith, (bytes_bounds w).most)
+  size_most CharType = omega arith
+  size_most StringType = omega arith
+  size_most (ListType _) = omega arith
+  size_most (RecordType _ ps) =
+      omega (arith, align_to_most (end_of ps 0) (greatest_alignment ps) (greatest_alignment_bounds ps).least, (greatest_alignment_bounds ps).most, end_of_most ps 0)
+  size_most (VariantType _ cs) =
+      omega (arith, variant_most (discriminant_size (count cs)) (greatest_alignment cs) (greatest_size cs) (discriminant_bounds (count cs)) (greatest_alignment_bounds cs), discriminant_most (count cs), greatest_size_most cs)
+  size_most (FlagsType labels) = omega (arith, flags_most (length labels))
+  size_most (OwnType _) = omega arith
+  size_most (BorrowType _) = omega arith
+
+  pub end_of_most : (ps : Parts) (at : ℕ) → end_of ps at ≤ at + 32 * all_parts ps
+  end_of_most End at = omega arith
+  end_of_most (More _ p ps) at =
+      omega (arith, end_of_most ps (align_to at (alignment p) + size p), align_to_most at (alignment p) (alignment_bounds p).least, (alignment_bounds p).most, size_most p)
+  end_of_most (Bare _ ps) at = end_of_most ps at
+
+  pub greatest_size_most : (ps : Parts) → greatest_size ps ≤ 32 * all_parts ps
+  greatest_size_most End = omega arith
+  greatest_size_most (More _ p ps) = omega (arith, size_most p, greatest_size_most ps)
+  greatest_size_most (Bare _ ps) = greatest_size_most ps
+
+-- the bounds as tactics take them
+pub greatest_alignment_least : (ps : Parts) → 1 ≤ greatest_alignment ps
+greatest_alignment_least ps = (greatest_alignment_bounds ps).least
+
+pub greatest_alignment_most : (ps : Parts) → greatest_alignment ps ≤ 8
+greatest_alignment_most ps = (greatest_alignment_bounds ps).most
+
+-- ---- cases without payloads
+
+pub count-bare : (labels : List Name) → count (bare labels) ≡ length labels
+count-bare [] = refl
+count-bare (_ ∷ labels) = omega (arith, count-bare labels)
+
+pub greatest_alignment-bare : (labels : List Name) → greatest_alignment (bare labels) ≡ 1
+greatest_alignment-bare [] = refl
+greatest_alignment-bare (_ ∷ labels) = greatest_alignment-bare labels
+
+pub greatest_size-bare : (labels : List Name) → greatest_size (bare labels) ≡ 0
+greatest_size-bare [] = refl
+greatest_size-bare (_ ∷ labels) = greatest_size-bare labels
+
+only_discriminant : (d : ℕ) → 1 ≤ d → variant_size d 1 0 ≡ d
+only_discriminant d h = grind arith
+
+-- an enum has a discriminant alone
+pub enum_size : (labels : List Name) → size (VariantType AsEnum (bare labels)) ≡ discriminant_size (length labels)
+enum_size labels = rw (count-bare, greatest_alignment-bare, greatest_size-bare) (only_discriminant (discriminant_size (length labels)) (discriminant_bounds (length labels)).least)
+
+pub enum_alignment : (labels : List Name) → alignment (VariantType AsEnum (bare labels)) ≡ discriminant_size (length labels)
+enum_alignment labels = rw (count-bare, greatest_alignment-bare) (omega (arith, (discriminant_bounds (length labels)).least))
+
+-- ---- a case and the others
+
+pub count-case_part : (name : Name) (p : Option Plain) (rest : Parts) → count (case_part name p rest) ≡ count rest + 1
+count-case_part name None rest = refl
+count-case_part name (Some t) rest = refl
+
+pub count-cases_of : (cs : List Case) → count (cases_of cs) ≡ length cs
+count-cases_of [] = refl
+count-cases_of (c ∷ cs) = omega (arith, count-case_part (out-Case c).name (payload_of (out-Case c).ty) (cases_of cs), count-cases_of cs)
+
+pub all_parts-case_part : (name : Name) (p : Option Plain) (rest : Parts) → all_parts (case_part name p rest) ≡ all_parts (case_part [] p End) + all_parts rest
+all_parts-case_part name None rest = omega arith
+all_parts-case_part name (Some t) rest = omega arith
+
+pub greatest_size-case_part : (name : Name) (p : Option Plain) (rest : Parts) → greatest_size (case_part name p rest) ≡ max (greatest_size (case_part [] p End)) (greatest_size rest)
+greatest_size-case_part name None rest = omega arith
+greatest_size-case_part name (Some t) rest = omega arith
+
+pub greatest_alignment-case_part : (name : Name) (p : Option Plain) (rest : Parts) → greatest_alignment (case_part name p rest) ≡ max (greatest_alignment (case_part [] p End)) (greatest_alignment rest)
+greatest_alignment-case_part name None rest = omega (arith, greatest_alignment_least rest)
+greatest_alignment-case_part name (Some t) rest = omega (arith, greatest_alignment_least rest)
+
+pub ruleset layouts = (plains, count-bare, count-cases_of, greatest_alignment-bare, greatest_size-bare, enum_size, enum_alignment)

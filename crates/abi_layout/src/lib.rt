@@ -1,0 +1,6 @@
+//! Where a value lies in memory, and the core types by which it is passed (Component Model, Canonical ABI).
+#![tactic(auto)]
+
+mod memory;
+
+pub use memory::{Layout, align, layout_of, size};
