@@ -1,11 +1,17 @@
 -- Bounds on alignments and sizes, and layout by the lists of a type's parts.
-use Rattle.std.proofs.Common.{◌≡◌, ◌≤◌, ◌+◌, ◌*◌, ◌-◌, ℕ, max, arith, List, [], ◌∷◌, length, Option, Some, None, refl, sym, ◌∙◌, ap}
+use Rattle.std.proofs.Common.{◌≡◌, ◌≤◌, ◌+◌, ◌*◌, ◌-◌, ℕ, max, arith, List, [], ◌∷◌, length, Option, Some, None, Box, Global, refl}
 use Rattle.std.proofs.lemmas.Bool.Decides.{nat_tests}
 use Rattle.wit_types.specs.declared.types.Case.{Case, out-Case}
-use Rattle.wit_types.specs.Plain.{Name, Width, OneByte, TwoBytes, FourBytes, EightBytes, VariantForm, AsEnum, Plain, Parts, BoolType, SignedType, UnsignedType, CharType, StringType, ListType, RecordType, VariantType, FlagsType, OwnType, BorrowType, End, More, Bare, bare, payload_of, case_part, cases_of}
+use Rattle.wit_types.specs.declared.types.Field.{Field}
+use Rattle.wit_types.specs.declared.types.Fields.{Fields, out-Fields}
+use Rattle.wit_types.specs.declared.types.Cases.{Cases, out-Cases}
+use Rattle.wit_types.specs.declared.types.Types.{Types}
+use Rattle.wit_types.specs.declared.types.WitType.{WitType}
+use Rattle.wit_types.specs.declared.types.WitType.TheVariants.{Record, Tuple, Variant, Option as Optional, Result as Results}
+use Rattle.wit_types.specs.Plain.{Name, Width, OneByte, TwoBytes, FourBytes, EightBytes, VariantForm, AsEnum, Plain, Parts, BoolType, SignedType, UnsignedType, CharType, StringType, ListType, RecordType, VariantType, FlagsType, OwnType, BorrowType, End, More, Bare, bare, plain, payload_of, case_part, fields_of, types_of, cases_of}
 use Rattle.wit_types.specs.Layout.{bytes, alignment, greatest_alignment, discriminant_size, flags_size, count, align_to, variant_size, size, end_of, greatest_size}
 use Rattle.wit_types.specs.Limits.{parts, all_parts}
-use Rattle.wit_types.proofs.PlainLemmas.{plains}
+use Rattle.wit_types.proofs.PlainLemmas.{plains, plain-Record, plain-Tuple, plain-Variant, plain-Option, plain-Result}
 
 -- ---- bounds
 
@@ -142,4 +148,50 @@ pub greatest_alignment-case_part : (name : Name) (p : Option Plain) (rest : Part
 greatest_alignment-case_part name None rest = omega (arith, greatest_alignment_least rest)
 greatest_alignment-case_part name (Some t) rest = omega (arith, greatest_alignment_least rest)
 
-pub ruleset layouts = (plains, count-bare, count-cases_of, greatest_alignment-bare, greatest_size-bare, enum_size, enum_alignment)
+
+-- ---- the parts of a type's parts are no more
+
+pub few-Record : (ty : WitType) (fs : Fields) (xs : List Field) (n : ℕ) → ty ≡ Record fs → xs ≡ (out-Fields fs).items.items → parts (plain ty) ≤ n → all_parts (fields_of xs) ≤ n
+few-Record ty fs xs n is same few = rw same (let h = rw (is, plain-Record) at few in omega arith)
+
+pub few-Tuple : (ty : WitType) (ts : Types) (xs : List WitType) (n : ℕ) → ty ≡ Tuple ts → xs ≡ ts.items.items → parts (plain ty) ≤ n → all_parts (types_of xs) ≤ n
+few-Tuple ty ts xs n is same few = rw same (let h = rw (is, plain-Tuple) at few in omega arith)
+
+pub few-Variant : (ty : WitType) (cs : Cases) (xs : List Case) (n : ℕ) → ty ≡ Variant cs → xs ≡ (out-Cases cs).items.items → parts (plain ty) ≤ n → all_parts (cases_of xs) ≤ n
+few-Variant ty cs xs n is same few = rw same (let h = rw (is, plain-Variant) at few in omega arith)
+
+pub few-Option : (ty : WitType) (b : Box WitType Global) (n : ℕ) → ty ≡ Optional b → parts (plain ty) ≤ n → parts (plain b.value) ≤ n
+few-Option ty b n is few = let h = rw (is, plain-Option) at few in omega arith
+
+pub few-Result : (ty : WitType) (ok err : Option (Box WitType Global)) (n : ℕ) → ty ≡ Results ok err → parts (plain ty) ≤ n → (all_parts (case_part [] (payload_of ok) End) ≤ n) × (all_parts (case_part [] (payload_of err) End) ≤ n)
+few-Result ty ok err n is few = let h = rw (is, plain-Result, all_parts-case_part) at few in (omega arith, omega arith)
+
+-- ---- two payloads
+
+pub greatest_size-two : (p q : Option Plain) → greatest_size (case_part [] p (case_part [] q End)) ≡ max (greatest_size (case_part [] p End)) (greatest_size (case_part [] q End))
+greatest_size-two p q = greatest_size-case_part [] p (case_part [] q End)
+
+pub greatest_alignment-two : (p q : Option Plain) → greatest_alignment (case_part [] p (case_part [] q End)) ≡ max (greatest_alignment (case_part [] p End)) (greatest_alignment (case_part [] q End))
+greatest_alignment-two p q = greatest_alignment-case_part [] p (case_part [] q End)
+
+pub count-two : (p q : Option Plain) → count (case_part [] p (case_part [] q End)) ≡ 2
+count-two None None = refl
+count-two None (Some u) = refl
+count-two (Some t) None = refl
+count-two (Some t) (Some u) = refl
+
+-- the size and alignment of a result
+pub result_size : (ty : WitType) (ok err : Option (Box WitType Global)) → ty ≡ Results ok err → (d a s : ℕ) → d ≡ 2 →
+    s ≡ max (greatest_size (case_part [] (payload_of ok) End)) (greatest_size (case_part [] (payload_of err) End)) →
+    a ≡ max (greatest_alignment (case_part [] (payload_of ok) End)) (greatest_alignment (case_part [] (payload_of err) End)) →
+    variant_size (discriminant_size d) a s ≡ size (plain ty)
+result_size ty ok err is d a s two size_is align_is = rw (is, plain-Result, count-two, greatest_size-two, greatest_alignment-two, two, size_is, align_is) refl
+
+pub result_alignment : (ty : WitType) (ok err : Option (Box WitType Global)) → ty ≡ Results ok err → (d a : ℕ) → d ≡ 2 →
+    a ≡ max (greatest_alignment (case_part [] (payload_of ok) End)) (greatest_alignment (case_part [] (payload_of err) End)) →
+    max (discriminant_size d) a ≡ alignment (plain ty)
+result_alignment ty ok err is d a two align_is = rw (is, plain-Result, count-two, greatest_alignment-two, two, align_is) refl
+
+pub ruleset layouts = (plains, count-bare, count-cases_of, greatest_alignment-bare, greatest_size-bare, enum_size, enum_alignment, count-case_part, greatest_size-case_part, greatest_alignment-case_part)
+
+pub ruleset bounds = (layouts, greatest_alignment_least, greatest_alignment_most, greatest_size_most)

@@ -105,6 +105,7 @@ fn layout_of_payload(ty: &Option<Box<WitType>>) -> Layout
 }
 
 #[cycle(layout_of)]
+#[tactic(auto, using(crate::proofs::LayoutLemmas::bounds))]
 fn layout_of_fields(fields: &[Field]) -> Layout
     requires { all_parts (fields_of fields.now) ≤ 1000000 }
     ensures size { result.size ≡ align_to (end_of (fields_of fields.now) 0) (greatest_alignment (fields_of fields.now)) }
@@ -126,6 +127,7 @@ fn layout_of_fields(fields: &[Field]) -> Layout
 }
 
 #[cycle(layout_of)]
+#[tactic(auto, using(crate::proofs::LayoutLemmas::bounds))]
 fn layout_of_types(types: &[WitType]) -> Layout
     requires { all_parts (types_of types.now) ≤ 1000000 }
     ensures size { result.size ≡ align_to (end_of (types_of types.now) 0) (greatest_alignment (types_of types.now)) }
@@ -147,6 +149,7 @@ fn layout_of_types(types: &[WitType]) -> Layout
 }
 
 #[cycle(layout_of)]
+#[tactic(auto, using(crate::proofs::LayoutLemmas::bounds))]
 fn layout_of_cases(cases: &[Case]) -> Layout
     requires { all_parts (cases_of cases.now) ≤ 1000000 }
     ensures size { result.size ≡ greatest_size (cases_of cases.now) }
