@@ -148,7 +148,6 @@ pub greatest_alignment-case_part : (name : Name) (p : Option Plain) (rest : Part
 greatest_alignment-case_part name None rest = omega (arith, greatest_alignment_least rest)
 greatest_alignment-case_part name (Some t) rest = omega (arith, greatest_alignment_least rest)
 
-
 -- ---- the parts of a type's parts are no more
 
 pub few-Record : (ty : WitType) (fs : Fields) (xs : List Field) (n : ℕ) → ty ≡ Record fs → xs ≡ (out-Fields fs).items.items → parts (plain ty) ≤ n → all_parts (fields_of xs) ≤ n

@@ -1,7 +1,7 @@
 -- Lists of at most 16 core types.
 use Rattle.std.specs.Prelude.{ℕ, nat_le, if◌then◌else◌, List, ◌++◌, length, take, Option, Some, None}
 use Rattle.virt_base.specs.declared.core_type.CoreType.{CoreType}
-use Rattle.abi_layout.specs.declared.flattening.Flat.{Flat}
+use Rattle.abi_layout.specs.declared.flat_types.Flat.{Flat}
 use Rattle.wit_types.specs.Layout.{join}
 
 -- the list, or nothing where it is longer than 16

@@ -1,8 +1,10 @@
 //! Where a value lies in memory, and the core types by which it is passed (Component Model, Canonical ABI).
 #![tactic(auto)]
 
+mod flat_types;
 mod flattening;
 mod memory;
 
-pub use flattening::Flat;
+pub use flat_types::Flat;
+pub use flattening::flatten;
 pub use memory::{Layout, align, layout_of, size};

@@ -2,7 +2,7 @@ use Rattle.std.proofs.Common.{◌≡◌, ◌<◌, [], ◌∷◌, take, length, g
 use Rattle.abi_layout.specs.Flat.{types_of, add_within, append_within}
 use Rattle.abi_layout.proofs.FlatLemmas.{add_within-flat, add_within-take, append_within-none, append_within-some, flag-long, flag-short}
 use Rattle.virt_base.specs.declared.core_type.CoreType.TheVariants.{I32}
-use Rattle.abi_layout.proofs.flattening.Flat.append.Goals as goal
+use Rattle.abi_layout.proofs.flat_types.Flat.append.Goals as goal
 
 pub loop-i-init : goal.loop-i-init
 loop-i-init c = add_within-flat _ _
