@@ -120,7 +120,6 @@ pub add_within-take : (o : Option (List CoreType)) (types : List CoreType) (n : 
     add_within (add_within o (take n types)) (get_or types n d ∷ []) ≡ add_within o (take (n + 1) types)
 add_within-take o types n d lt = add_within-twice o (take n types) (get_or types n d ∷ []) ∙ ap (add_within o) (sym (take_more types n d lt))
 
-
 -- ---- what joined lists hold
 
 pub join-nil : (xs : List CoreType) → join xs [] ≡ xs
@@ -178,7 +177,7 @@ unfolding add_within join_within
 joined_short xs ys m n h k small =
     ap within (ap (λ i. take i (join (take m xs) (take n ys))) (sym (length-joined xs ys m n h k)) ∙ take-length (join (take m xs) (take n ys)))
     ∙ sym (ap (λ z. join_within z (if nat_le n 16 then Some (take n ys) else None)) (flag-short m (take m xs) (omega arith))
-      ∙ ap (join_within (Some (take m xs))) (flag-short n (take n ys) (omega arith)))
+    ∙ ap (join_within (Some (take m xs))) (flag-short n (take n ys) (omega arith)))
 
 -- ---- one more field or case
 

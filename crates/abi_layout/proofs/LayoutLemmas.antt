@@ -194,3 +194,12 @@ result_alignment ty ok err is d a two align_is = rw (is, plain-Result, count-two
 pub ruleset layouts = (plains, count-bare, count-cases_of, greatest_alignment-bare, greatest_size-bare, enum_size, enum_alignment, count-case_part, greatest_size-case_part, greatest_alignment-case_part)
 
 pub ruleset bounds = (layouts, greatest_alignment_least, greatest_alignment_most, greatest_size_most)
+
+pub all_parts-bare : (labels : List Name) → all_parts (bare labels) ≡ 0
+all_parts-bare [] = refl
+all_parts-bare (_ ∷ labels) = all_parts-bare labels
+
+pub all_parts-two : (p q : Option Plain) → all_parts (case_part [] p (case_part [] q End)) ≡ all_parts (case_part [] p End) + all_parts (case_part [] q End)
+all_parts-two p q = all_parts-case_part [] p (case_part [] q End)
+
+pub ruleset counts = (plains, all_parts-bare, all_parts-case_part, all_parts-two)

@@ -3,8 +3,10 @@
 
 mod flat_types;
 mod flattening;
+mod limits;
 mod memory;
 
 pub use flat_types::Flat;
 pub use flattening::flatten;
+pub use limits::is_small;
 pub use memory::{Layout, align, layout_of, size};

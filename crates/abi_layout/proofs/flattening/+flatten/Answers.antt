@@ -18,7 +18,7 @@ flatten-returns-in-Option t c =
 pub flatten-returns-in-Result : goal.flatten-returns-in-Result
 flatten-returns-in-Result t c =
     rw (c.in-Result.is, plain-Result, flat_cases-case_part)
-      (variant_is _ _ _ c.variant-in-Result.ensures (joined_is _ _ _ _ _ c.joined.ensures c.flatten_payload.ensures c.flatten_payload-in-Result.ensures))
+    (variant_is _ _ _ c.variant-in-Result.ensures (joined_is _ _ _ _ _ c.joined.ensures c.flatten_payload.ensures c.flatten_payload-in-Result.ensures))
 
 pub flatten_fields-loop-field-init : goal.flatten_fields-loop-field-init
 flatten_fields-loop-field-init t c = fields_start _ _ c.empty-all.ensures
@@ -26,7 +26,7 @@ flatten_fields-loop-field-init t c = fields_start _ _ c.empty-all.ensures
 pub flatten_fields-loop-field-preserved : goal.flatten_fields-loop-field-preserved
 flatten_fields-loop-field-preserved t c =
     more_fields _ _ _ _ _ _ c.append.ensures c.flatten-part.ensures
-      (ap (add_within (types_of c.loop-field.all)) (sym (flat_fields-drop _ _ c.field-item.result c.loop-field-test.true c.field-item.is)) ∙ c.loop-field.invariant)
+    (ap (add_within (types_of c.loop-field.all)) (sym (flat_fields-drop _ _ c.field-item.result c.loop-field-test.true c.field-item.is)) ∙ c.loop-field.invariant)
 
 pub flatten_fields-returns : goal.flatten_fields-returns
 flatten_fields-returns t c =
@@ -38,7 +38,7 @@ flatten_types-loop-ty-init t c = fields_start _ _ c.empty-all.ensures
 pub flatten_types-loop-ty-preserved : goal.flatten_types-loop-ty-preserved
 flatten_types-loop-ty-preserved t c =
     more_fields _ _ _ _ _ _ c.append.ensures c.flatten-part.ensures
-      (ap (add_within (types_of c.loop-ty.all)) (sym (flat_types-drop _ _ c.ty-item.result c.loop-ty-test.true c.ty-item.is)) ∙ c.loop-ty.invariant)
+    (ap (add_within (types_of c.loop-ty.all)) (sym (flat_types-drop _ _ c.ty-item.result c.loop-ty-test.true c.ty-item.is)) ∙ c.loop-ty.invariant)
 
 pub flatten_types-returns : goal.flatten_types-returns
 flatten_types-returns t c =
@@ -50,7 +50,7 @@ flatten_cases-loop-case-init t c = cases_start _ _ c.empty-all.ensures
 pub flatten_cases-loop-case-preserved : goal.flatten_cases-loop-case-preserved
 flatten_cases-loop-case-preserved t c =
     more_cases _ _ _ _ _ _ c.joined-all.ensures c.flatten_payload-payload.ensures
-      (ap (λ z. join_within (types_of c.loop-case.all) (within z)) (sym (flat_cases-drop _ _ c.case-item.result c.loop-case-test.true c.case-item.is)) ∙ c.loop-case.invariant)
+    (ap (λ z. join_within (types_of c.loop-case.all) (within z)) (sym (flat_cases-drop _ _ c.case-item.result c.loop-case-test.true c.case-item.is)) ∙ c.loop-case.invariant)
 
 pub flatten_cases-returns : goal.flatten_cases-returns
 flatten_cases-returns t c =

@@ -15,7 +15,7 @@ pub loop-i-preserved : goal.loop-i-preserved
 loop-i-preserved c =
     let both = join (take c.args.one.now.count c.args.one.now.types) (take c.args.other.now.count c.args.other.now.types) in
     let lt : c.loop-i.i < length both =
-        omega (arith, length-joined c.args.one.now.types c.args.other.now.types c.args.one.now.count c.args.other.now.count (omega (arith, c.args.one.now.whole)) (omega (arith, c.args.other.now.whole))) in
+    omega (arith, length-joined c.args.one.now.types c.args.other.now.types c.args.one.now.count c.args.other.now.count (omega (arith, c.args.one.now.whole)) (omega (arith, c.args.other.now.whole))) in
     c.push.ensures ∙ ap (λ o. add_within o (c.joined_at.result ∷ [])) c.loop-i.invariant
     ∙ ap (λ e. add_within (add_within (Some []) (take c.loop-i.i both)) (e ∷ [])) c.joined_at.ensures
     ∙ add_within-take (Some []) both c.loop-i.i I32 lt
