@@ -5,6 +5,8 @@ mod flat_types;
 mod flattening;
 mod limits;
 mod memory;
+#[cfg(test)]
+mod tests;
 
 pub use flat_types::Flat;
 pub use flattening::flatten;
