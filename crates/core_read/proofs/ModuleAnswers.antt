@@ -61,9 +61,10 @@ ok_spells bytes body t e h = from_parts t.found bytes (body, t, e, run_ok sectio
 pub unsupported_meets : (bytes body : List ℕ) (a byte : ℕ) → bytes ≡ preamble ++ body → (whole_run bytes body).outcome ≡ Err (stops.Unsupported a byte) → MeetsTag a byte bytes × IsNoModule bytes
 unfolding sections
 unsupported_meets bytes body a byte e h =
-    let w = run_unsupported sections exact_sections (length body) no_sections 0 8 body a byte h in
-    ((w.0, w.1, w.2, e ∙ ap (λ (z : List ℕ). preamble ++ z) w.4, w.3, w.5),
-     λ m s. let k = spelled_is_ok bytes body m e s in err_not_ok (whole_run bytes body).outcome k.0 (stops.Unsupported a byte) k.1 h)
+    let w = run_unsupported sections exact_sections (length body) no_sections 0 8 body a byte h in (
+      (w.0, w.1, w.2, e ∙ ap (λ (z : List ℕ). preamble ++ z) w.4, w.3, w.5),
+      λ m s. let k = spelled_is_ok bytes body m e s in err_not_ok (whole_run bytes body).outcome k.0 (stops.Unsupported a byte) k.1 h,
+    )
 
 -- a front of the bytes that is a module ends where the sections might have ended
 front_low : (bytes body : List ℕ) (n : ℕ) (m : Module) → bytes ≡ preamble ++ body → n ≤ length bytes → SpellsModule m (take n bytes) → n ≤ (whole_run bytes body).good
@@ -80,11 +81,11 @@ good_front bytes body e =
     elim (run_good sections exact_sections (length body) no_sections 0 8 body) [
       | inl w ↦ inl w
       | inr w ↦
-        let text = w.1 in
-        let t = built sections no_sections w.0 in
-        let split : bytes ≡ (preamble ++ text) ++ w.2 = e ∙ ap (λ (z : List ℕ). preamble ++ z) w.3.1 ∙ sym (append_assoc preamble text w.2) in
-        let front : take (whole_run bytes body).good bytes ≡ preamble ++ text = ap (λ (n : ℕ). take n bytes) w.4 ∙ ap (take (8 + length text)) split ∙ take_at (preamble ++ text) w.2 (8 + length text) (length-append preamble text) in
-        inr (t.found, from_parts t.found (take (whole_run bytes body).good bytes) (text, t, front, (w.0, w.3.0, refl, w.3.2), refl))
+          let text = w.1 in
+          let t = built sections no_sections w.0 in
+          let split : bytes ≡ (preamble ++ text) ++ w.2 = e ∙ ap (λ (z : List ℕ). preamble ++ z) w.3.1 ∙ sym (append_assoc preamble text w.2) in
+          let front : take (whole_run bytes body).good bytes ≡ preamble ++ text = ap (λ (n : ℕ). take n bytes) w.4 ∙ ap (take (8 + length text)) split ∙ take_at (preamble ++ text) w.2 (8 + length text) (length-append preamble text) in
+          inr (t.found, from_parts t.found (take (whole_run bytes body).good bytes) (text, t, front, (w.0, w.3.0, refl, w.3.2), refl))
     ]
 
 pub malformed_is_longest : (bytes body : List ℕ) (good : ℕ) → bytes ≡ preamble ++ body → whole_run bytes body ≡ record { good = good; outcome = Err stops.Malformed }
@@ -92,19 +93,23 @@ pub malformed_is_longest : (bytes body : List ℕ) (good : ℕ) → bytes ≡ pr
 unfolding sections
 malformed_is_longest bytes body good e h =
     let good-is : (whole_run bytes body).good ≡ good = ap (λ (r : Run Progress). r.good) h in
-    let failed : (whole_run bytes body).outcome ≡ Err stops.Malformed = ap (λ (r : Run Progress). r.outcome) h in
-    ((subst (λ (n : ℕ). (n ≡ 0) ⊎ ((m : Module) × SpellsModule m (take n bytes))) good-is (good_front bytes body e),
-      λ n m le s. omega (arith, front_low bytes body n m e le s, good-is)),
-     λ m s. let k = spelled_is_ok bytes body m e s in err_not_ok (whole_run bytes body).outcome k.0 stops.Malformed k.1 failed,
-     λ a byte w.
-       let split : body ≡ w.1 ++ w.2 = body_is body (w.1 ++ w.2) (sym e ∙ w.3) in
-       apart (whole_run bytes body).outcome a byte (run_tag sections exact_sections w.0 (length body) no_sections 0 8 body w.1 w.2 a byte (omega (arith, long bytes body e)) w.4 split w.5) failed)
+    let failed : (whole_run bytes body).outcome ≡ Err stops.Malformed = ap (λ (r : Run Progress). r.outcome) h in (
+      (
+        subst (λ (n : ℕ). (n ≡ 0) ⊎ ((m : Module) × SpellsModule m (take n bytes))) good-is (good_front bytes body e),
+        λ n m le s. omega (arith, front_low bytes body n m e le s, good-is),
+      ),
+      λ m s. let k = spelled_is_ok bytes body m e s in err_not_ok (whole_run bytes body).outcome k.0 stops.Malformed k.1 failed,
+      λ a byte w.
+          let split : body ≡ w.1 ++ w.2 = body_is body (w.1 ++ w.2) (sym e ∙ w.3) in
+          apart (whole_run bytes body).outcome a byte (run_tag sections exact_sections w.0 (length body) no_sections 0 8 body w.1 w.2 a byte (omega (arith, long bytes body e)) w.4 split w.5) failed,
+    )
 
 pub none_without_preamble : (bytes : List ℕ) → ((rest : List ℕ) → bytes ≡ preamble ++ rest → ⊥) → IsLongest 0 bytes × IsNoModule bytes × ((a byte : ℕ) → MeetsTag a byte bytes → ⊥)
-none_without_preamble bytes never =
-    ((inl refl, λ n m le h. let s = in_parts m (take n bytes) h in absurd (never (s.0 ++ drop n bytes) (sym (take-append-drop n bytes) ∙ ap (λ (z : List ℕ). z ++ drop n bytes) s.2 ∙ append_assoc preamble s.0 (drop n bytes)))),
-     λ m h. let s = in_parts m bytes h in never s.0 s.2,
-     λ a byte w. never (w.1 ++ w.2) w.3)
+none_without_preamble bytes never = (
+  (inl refl, λ n m le h. let s = in_parts m (take n bytes) h in absurd (never (s.0 ++ drop n bytes) (sym (take-append-drop n bytes) ∙ ap (λ (z : List ℕ). z ++ drop n bytes) s.2 ∙ append_assoc preamble s.0 (drop n bytes)))),
+  λ m h. let s = in_parts m bytes h in never s.0 s.2,
+  λ a byte w. never (w.1 ++ w.2) w.3,
+)
 
 -- ---- the preamble
 

@@ -5,12 +5,12 @@ ghost use Rattle.wasm_format.specs.Reads.{Reads};
 ghost use Rattle.wasm_ast.specs.Items.{import_item, import, export_item, export, global, local_run, body, kind_and_funcs, low_elements, high_elements, elements, segment};
 
 use crate::instrs::ExprReader;
-use crate::types::{CoreTypeReader, GlobalTypeReader, LimitsReader, RefTypeReader, TableTypeReader, lacks};
+use crate::types::{
+    CoreTypeReader, GlobalTypeReader, LimitsReader, RefTypeReader, TableTypeReader, lacks,
+};
 use std::alloc::Global;
 use virt_base::{Cursor, next_byte};
-use wasm_ast::{
-    Body, Data, Elements, Export, ExportItem, Import, ImportItem, Indexes, LocalRun,
-};
+use wasm_ast::{Body, Data, Elements, Export, ExportItem, Import, ImportItem, Indexes, LocalRun};
 use wasm_format::{ByteLists, Names, Reader, Stop, U32, Vecs, expect_tag};
 
 /// What an import is.

@@ -7,9 +7,8 @@ mod nesting;
 mod ops;
 mod reading;
 mod sections;
-mod types;
-
 #[cfg(test)]
 mod tests;
+mod types;
 
 pub use reading::{CoreModules, ReadFault, read_module};

@@ -193,16 +193,16 @@ indexed op = image op index_in u32_format
 -- opcodes 1A to 26 but for 1C
 unfoldable pub variable_op : ℕ → Format Op
 variable_op b =
-  choose (b == 0x1A) (value Drop) (
-  choose (b == 0x1B) (value Select) (
-  choose (b == 0x20) (indexed LocalGet) (
-  choose (b == 0x21) (indexed LocalSet) (
-  choose (b == 0x22) (indexed LocalTee) (
-  choose (b == 0x23) (indexed GlobalGet) (
-  choose (b == 0x24) (indexed GlobalSet) (
-  choose (b == 0x25) (indexed TableGet) (
-  choose (b == 0x26) (indexed TableSet)
-  (lacking b)))))))))
+    choose (b == 0x1A) (value Drop) (
+    choose (b == 0x1B) (value Select) (
+    choose (b == 0x20) (indexed LocalGet) (
+    choose (b == 0x21) (indexed LocalSet) (
+    choose (b == 0x22) (indexed LocalTee) (
+    choose (b == 0x23) (indexed GlobalGet) (
+    choose (b == 0x24) (indexed GlobalSet) (
+    choose (b == 0x25) (indexed TableGet) (
+    choose (b == 0x26) (indexed TableSet)
+    (lacking b)))))))))
 
 abbrev pub loading : LoadOp → Format Op
 loading op = image (λ m. Load op m) mem_in mem_arg
@@ -213,58 +213,58 @@ storing op = image (λ m. Store op m) mem_in mem_arg
 -- opcodes 28 to 35
 unfoldable pub load_op : ℕ → Format Op
 load_op b =
-  choose (b == 0x28) (loading loads.I32) (
-  choose (b == 0x29) (loading loads.I64) (
-  choose (b == 0x2C) (loading loads.I32Narrow8S) (
-  choose (b == 0x2D) (loading loads.I32Narrow8U) (
-  choose (b == 0x2E) (loading loads.I32Narrow16S) (
-  choose (b == 0x2F) (loading loads.I32Narrow16U) (
-  choose (b == 0x30) (loading loads.I64Narrow8S) (
-  choose (b == 0x31) (loading loads.I64Narrow8U) (
-  choose (b == 0x32) (loading loads.I64Narrow16S) (
-  choose (b == 0x33) (loading loads.I64Narrow16U) (
-  choose (b == 0x34) (loading loads.I64Narrow32S) (
-  choose (b == 0x35) (loading loads.I64Narrow32U)
-  (lacking b))))))))))))
+    choose (b == 0x28) (loading loads.I32) (
+    choose (b == 0x29) (loading loads.I64) (
+    choose (b == 0x2C) (loading loads.I32Narrow8S) (
+    choose (b == 0x2D) (loading loads.I32Narrow8U) (
+    choose (b == 0x2E) (loading loads.I32Narrow16S) (
+    choose (b == 0x2F) (loading loads.I32Narrow16U) (
+    choose (b == 0x30) (loading loads.I64Narrow8S) (
+    choose (b == 0x31) (loading loads.I64Narrow8U) (
+    choose (b == 0x32) (loading loads.I64Narrow16S) (
+    choose (b == 0x33) (loading loads.I64Narrow16U) (
+    choose (b == 0x34) (loading loads.I64Narrow32S) (
+    choose (b == 0x35) (loading loads.I64Narrow32U)
+    (lacking b))))))))))))
 
 -- opcodes 36 to 40
 unfoldable pub memory_op : ℕ → Format Op
 memory_op b =
-  choose (b == 0x36) (storing stores.I32) (
-  choose (b == 0x37) (storing stores.I64) (
-  choose (b == 0x3A) (storing stores.I32Narrow8) (
-  choose (b == 0x3B) (storing stores.I32Narrow16) (
-  choose (b == 0x3C) (storing stores.I64Narrow8) (
-  choose (b == 0x3D) (storing stores.I64Narrow16) (
-  choose (b == 0x3E) (storing stores.I64Narrow32) (
-  choose (b == 0x3F) (literal (0 ∷ []) MemorySize) (
-  choose (b == 0x40) (literal (0 ∷ []) MemoryGrow)
-  (lacking b)))))))))
+    choose (b == 0x36) (storing stores.I32) (
+    choose (b == 0x37) (storing stores.I64) (
+    choose (b == 0x3A) (storing stores.I32Narrow8) (
+    choose (b == 0x3B) (storing stores.I32Narrow16) (
+    choose (b == 0x3C) (storing stores.I64Narrow8) (
+    choose (b == 0x3D) (storing stores.I64Narrow16) (
+    choose (b == 0x3E) (storing stores.I64Narrow32) (
+    choose (b == 0x3F) (literal (0 ∷ []) MemorySize) (
+    choose (b == 0x40) (literal (0 ∷ []) MemoryGrow)
+    (lacking b)))))))))
 
 -- behind FC
 unfoldable pub second_op : ℕ → Format Op
 second_op b =
-  choose (b == 0x08) (image MemoryInit index_in (closed_by (0 ∷ []) u32_format)) (
-  choose (b == 0x09) (indexed DataDrop) (
-  choose (b == 0x0A) (literal (0 ∷ 0 ∷ []) MemoryCopy) (
-  choose (b == 0x0B) (literal (0 ∷ []) MemoryFill) (
-  choose (b == 0x0C) (image (λ p. TableInit p.0 p.1) indexes_in (both u32_format u32_format)) (
-  choose (b == 0x0D) (indexed ElemDrop) (
-  choose (b == 0x0E) (image (λ p. TableCopy p.0 p.1) indexes_in (both u32_format u32_format)) (
-  choose (b == 0x0F) (indexed TableGrow) (
-  choose (b == 0x10) (indexed TableSize) (
-  choose (b == 0x11) (indexed TableFill)
-  (lacking b))))))))))
+    choose (b == 0x08) (image MemoryInit index_in (closed_by (0 ∷ []) u32_format)) (
+    choose (b == 0x09) (indexed DataDrop) (
+    choose (b == 0x0A) (literal (0 ∷ 0 ∷ []) MemoryCopy) (
+    choose (b == 0x0B) (literal (0 ∷ []) MemoryFill) (
+    choose (b == 0x0C) (image (λ p. TableInit p.0 p.1) indexes_in (both u32_format u32_format)) (
+    choose (b == 0x0D) (indexed ElemDrop) (
+    choose (b == 0x0E) (image (λ p. TableCopy p.0 p.1) indexes_in (both u32_format u32_format)) (
+    choose (b == 0x0F) (indexed TableGrow) (
+    choose (b == 0x10) (indexed TableSize) (
+    choose (b == 0x11) (indexed TableFill)
+    (lacking b))))))))))
 
 -- constants and references
 abbrev pub other_op : ℕ → Format Op
 other_op b =
-  choose (b == 0x41) (image I32Const number_in s32_format) (
-  choose (b == 0xD0) (image RefNull ref_in ref_type) (
-  choose (b == 0xD1) (value RefIsNull) (
-  choose (b == 0xD2) (indexed RefFunc) (
-  choose (b == 0xFC) (tagged second_code second_op)
-  (lacking b)))))
+    choose (b == 0x41) (image I32Const number_in s32_format) (
+    choose (b == 0xD0) (image RefNull ref_in ref_type) (
+    choose (b == 0xD1) (value RefIsNull) (
+    choose (b == 0xD2) (indexed RefFunc) (
+    choose (b == 0xFC) (tagged second_code second_op)
+    (lacking b)))))
 
 -- opcodes from 41 on but for 42
 unfoldable pub high_op : ℕ → Format Op
@@ -273,35 +273,35 @@ high_op b = choose (is_numeric b) (value (Numeric b)) (other_op b)
 -- opcodes from 1A on but for 1C and 42
 unfoldable pub op_of : ℕ → Format Op
 op_of b =
-  choose (nat_lt b 0x28) (variable_op b) (
-  choose (nat_lt b 0x36) (load_op b) (
-  choose (nat_lt b 0x41) (memory_op b)
-  (high_op b)))
+    choose (nat_lt b 0x28) (variable_op b) (
+    choose (nat_lt b 0x36) (load_op b) (
+    choose (nat_lt b 0x41) (memory_op b)
+    (high_op b)))
 
 -- opcodes up to 11
 unfoldable pub control : ℕ → Format Instr
 control b =
-  choose (b == 0x00) (value Unreachable) (
-  choose (b == 0x01) (value (Plain Nop)) (
-  choose (b == 0x02) (image Block block_in block_type) (
-  choose (b == 0x03) (image Loop block_in block_type) (
-  choose (b == 0x04) (image If block_in block_type) (
-  choose (b == 0x0B) (value End) (
-  choose (b == 0x0C) (image Br target_in u32_format) (
-  choose (b == 0x0D) (image BrIf target_in u32_format) (
-  choose (b == 0x0E) (image (λ t. BrTable (record { value = t })) table_in branch_table) (
-  choose (b == 0x0F) (value Return) (
-  choose (b == 0x10) (image Call target_in u32_format) (
-  choose (b == 0x11) (image (λ p. CallIndirect p.0 p.1) callee_in (both u32_format u32_format))
-  (lacking b))))))))))))
+    choose (b == 0x00) (value Unreachable) (
+    choose (b == 0x01) (value (Plain Nop)) (
+    choose (b == 0x02) (image Block block_in block_type) (
+    choose (b == 0x03) (image Loop block_in block_type) (
+    choose (b == 0x04) (image If block_in block_type) (
+    choose (b == 0x0B) (value End) (
+    choose (b == 0x0C) (image Br target_in u32_format) (
+    choose (b == 0x0D) (image BrIf target_in u32_format) (
+    choose (b == 0x0E) (image (λ t. BrTable (record { value = t })) table_in branch_table) (
+    choose (b == 0x0F) (value Return) (
+    choose (b == 0x10) (image Call target_in u32_format) (
+    choose (b == 0x11) (image (λ p. CallIndirect p.0 p.1) callee_in (both u32_format u32_format))
+    (lacking b))))))))))))
 
 -- what stands behind an opcode but that of else
 unfoldable pub instr_of : ℕ → Format Instr
 instr_of b =
-  choose (nat_lt b 0x12) (control b) (
-  choose (b == 0x1C) (image (λ ts. SelectTyped (record { value = ts })) types_in (vec core_type)) (
-  choose (b == 0x42) (image I64Const long_in s64_format)
-  (image Plain op_in (op_of b))))
+    choose (nat_lt b 0x12) (control b) (
+    choose (b == 0x1C) (image (λ ts. SelectTyped (record { value = ts })) types_in (vec core_type)) (
+    choose (b == 0x42) (image I64Const long_in s64_format)
+    (image Plain op_in (op_of b))))
 
 -- an instruction; the opcode of else is in the table, and no form where it may not stand
 unfoldable pub instr : Bool → Format Instr

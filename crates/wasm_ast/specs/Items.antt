@@ -54,11 +54,11 @@ global_in _ = record { value = I32; variable = false }
 
 unfoldable pub import_item : Format ImportItem
 import_item = tagged import_tag (λ b.
-  choose (b == 0) (image imports.Func func_in u32_format) (
-  choose (b == 1) (image imports.Table table_type_in table_type) (
-  choose (b == 2) (image imports.Memory limits_in limits) (
-  choose (b == 3) (image imports.Global global_in global_type)
-  (lacking b)))))
+    choose (b == 0) (image imports.Func func_in u32_format) (
+    choose (b == 1) (image imports.Table table_type_in table_type) (
+    choose (b == 2) (image imports.Memory limits_in limits) (
+    choose (b == 3) (image imports.Global global_in global_type)
+    (lacking b)))))
 
 unfoldable pub import : Format Import
 import = image (λ p. record { «module» = p.0; name = p.1.0; item = p.1.1 }) (λ i. (i.module, (i.name, i.item))) (both name (both name import_item))
@@ -77,11 +77,11 @@ exported (exports.Global n) = n
 
 unfoldable pub export_item : Format ExportItem
 export_item = tagged export_tag (λ b.
-  choose (b == 0) (image exports.Func exported u32_format) (
-  choose (b == 1) (image exports.Table exported u32_format) (
-  choose (b == 2) (image exports.Memory exported u32_format) (
-  choose (b == 3) (image exports.Global exported u32_format)
-  (lacking b)))))
+    choose (b == 0) (image exports.Func exported u32_format) (
+    choose (b == 1) (image exports.Table exported u32_format) (
+    choose (b == 2) (image exports.Memory exported u32_format) (
+    choose (b == 3) (image exports.Global exported u32_format)
+    (lacking b)))))
 
 unfoldable pub export : Format Export
 export = image (λ p. record { name = p.0; item = p.1 }) (λ e. (e.name, e.item)) (both name export_item)
@@ -146,20 +146,20 @@ kind_and_funcs = behind (0 ∷ []) (vec u32_format)
 -- kinds 0 to 3: functions by index
 unfoldable pub low_elements : ℕ → Format Elements
 low_elements b =
-  choose (b == 0) (image (λ p. ActiveFuncs p.0 p.1) (λ e. (offset_of e, funcs_of e)) (both expr (vec u32_format))) (
-  choose (b == 1) (image PassiveFuncs funcs_of kind_and_funcs) (
-  choose (b == 2) (image (λ p. ActiveFuncsAt p.0 p.1.0 p.1.1) (λ e. (table_of e, (offset_of e, funcs_of e))) (both u32_format (both expr kind_and_funcs))) (
-  choose (b == 3) (image DeclaredFuncs funcs_of kind_and_funcs)
-  (lacking b))))
+    choose (b == 0) (image (λ p. ActiveFuncs p.0 p.1) (λ e. (offset_of e, funcs_of e)) (both expr (vec u32_format))) (
+    choose (b == 1) (image PassiveFuncs funcs_of kind_and_funcs) (
+    choose (b == 2) (image (λ p. ActiveFuncsAt p.0 p.1.0 p.1.1) (λ e. (table_of e, (offset_of e, funcs_of e))) (both u32_format (both expr kind_and_funcs))) (
+    choose (b == 3) (image DeclaredFuncs funcs_of kind_and_funcs)
+    (lacking b))))
 
 -- kinds 4 to 7: references by expression
 unfoldable pub high_elements : ℕ → Format Elements
 high_elements b =
-  choose (b == 4) (image (λ p. ActiveExprs p.0 p.1) (λ e. (offset_of e, exprs_of e)) (both expr (vec expr))) (
-  choose (b == 5) (image (λ p. PassiveExprs p.0 p.1) (λ e. (type_of e, exprs_of e)) (both ref_type (vec expr))) (
-  choose (b == 6) (image (λ p. ActiveExprsAt p.0 p.1.0 p.1.1.0 p.1.1.1) (λ e. (table_of e, (offset_of e, (type_of e, exprs_of e)))) (both u32_format (both expr (both ref_type (vec expr))))) (
-  choose (b == 7) (image (λ p. DeclaredExprs p.0 p.1) (λ e. (type_of e, exprs_of e)) (both ref_type (vec expr)))
-  (lacking b))))
+    choose (b == 4) (image (λ p. ActiveExprs p.0 p.1) (λ e. (offset_of e, exprs_of e)) (both expr (vec expr))) (
+    choose (b == 5) (image (λ p. PassiveExprs p.0 p.1) (λ e. (type_of e, exprs_of e)) (both ref_type (vec expr))) (
+    choose (b == 6) (image (λ p. ActiveExprsAt p.0 p.1.0 p.1.1.0 p.1.1.1) (λ e. (table_of e, (offset_of e, (type_of e, exprs_of e)))) (both u32_format (both expr (both ref_type (vec expr))))) (
+    choose (b == 7) (image (λ p. DeclaredExprs p.0 p.1) (λ e. (type_of e, exprs_of e)) (both ref_type (vec expr)))
+    (lacking b))))
 
 unfoldable pub elements : Format Elements
 elements = tagged elements_tag (λ b. choose (nat_lt b 4) (low_elements b) (high_elements b))
@@ -185,7 +185,7 @@ bytes_of (ActiveAt m o bs) = bs
 
 unfoldable pub segment : Format Data
 segment = tagged data_tag (λ b.
-  choose (b == 0) (image (λ p. Active p.0 p.1) (λ d. (place_of d, bytes_of d)) (both expr (sized anything))) (
-  choose (b == 1) (image Passive bytes_of (sized anything)) (
-  choose (b == 2) (image (λ p. ActiveAt p.0 p.1.0 p.1.1) (λ d. (memory_of d, (place_of d, bytes_of d))) (both u32_format (both expr (sized anything))))
-  (lacking b))))
+    choose (b == 0) (image (λ p. Active p.0 p.1) (λ d. (place_of d, bytes_of d)) (both expr (sized anything))) (
+    choose (b == 1) (image Passive bytes_of (sized anything)) (
+    choose (b == 2) (image (λ p. ActiveAt p.0 p.1.0 p.1.1) (λ d. (memory_of d, (place_of d, bytes_of d))) (both u32_format (both expr (sized anything))))
+    (lacking b))))

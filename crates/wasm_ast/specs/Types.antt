@@ -22,7 +22,7 @@ core_type_tag Externref = 0x6F
 -- the value type of a tag
 abbrev pub core_type_of : ℕ → Format CoreType
 core_type_of b =
-  choose (b == 0x7F) (value I32) (choose (b == 0x7E) (value I64) (choose (b == 0x70) (value Funcref) (choose (b == 0x6F) (value Externref) (lacking b))))
+    choose (b == 0x7F) (value I32) (choose (b == 0x7E) (value I64) (choose (b == 0x70) (value Funcref) (choose (b == 0x6F) (value Externref) (lacking b))))
 
 unfoldable pub core_type : Format CoreType
 core_type = tagged core_type_tag core_type_of
@@ -36,14 +36,14 @@ ref_type = tagged ref_type_tag (λ b. choose (b == 0x70) (value refs.Func) (choo
 
 unfoldable pub core_func : Format CoreFunc
 core_func = tagged (λ f. 0x60) (λ b.
-  choose (b == 0x60) (image (λ p. record { params = p.0; results = p.1 }) (λ f. (f.params, f.results)) (both (vec core_type) (vec core_type)))
-  (lacking b))
+    choose (b == 0x60) (image (λ p. record { params = p.0; results = p.1 }) (λ f. (f.params, f.results)) (both (vec core_type) (vec core_type)))
+    (lacking b))
 
 unfoldable pub limits : Format Limits
 limits = tagged (λ l. if is_some l.max then 1 else 0) (λ b.
-  choose (b == 0) (image (λ n. record { min = n; max = None }) (λ l. l.min) u32_format) (
-  choose (b == 1) (image (λ p. record { min = p.0; max = Some p.1 }) (λ l. (l.min, unwrap_or l.max 0)) (both u32_format u32_format))
-  (lacking b)))
+    choose (b == 0) (image (λ n. record { min = n; max = None }) (λ l. l.min) u32_format) (
+    choose (b == 1) (image (λ p. record { min = p.0; max = Some p.1 }) (λ l. (l.min, unwrap_or l.max 0)) (both u32_format u32_format))
+    (lacking b)))
 
 unfoldable pub table_type : Format TableType
 table_type = image (λ p. record { element = p.0; limits = p.1 }) (λ t. (t.element, t.limits)) (both ref_type limits)

@@ -127,13 +127,13 @@ both_found {A} {B} F G f g p c e =
     let s = f p a.0 a.1 in
     let t = g a.0.1 b.0 b.1 in
     subst (λ (y : (A × B) × Place). Stands (both F G) p y) (ok_is ((a.0.0, b.0.0), b.0.1) c b.2)
-      (s.0 ++ t.0, (s.0, t.0, s.1, subst (λ (k : ℕ). G.Spells k b.0.0 t.0) s.2.moved t.1, refl {a = s.0 ++ t.0}), Takes-then s.0 t.0 p a.0.1 b.0.1 s.2 t.2)
+    (s.0 ++ t.0, (s.0, t.0, s.1, subst (λ (k : ℕ). G.Spells k b.0.0 t.0) s.2.moved t.1, refl {a = s.0 ++ t.0}), Takes-then s.0 t.0 p a.0.1 b.0.1 s.2 t.2)
 
 pub exact_both : {A B : Type 0} (F : Format A) (G : Format B) → IsExact F → IsExact G → IsExact (both F G)
 exact_both F G f g = record {
   found = both_found F G f.found g.found;
   again = λ c text at more s.
-    rw (joined text s.0 s.1 more at s.4, f.again c.0 s.0 at (s.1 ++ more) s.2, g.again c.1 s.1 (at + length s.0) more s.3) (ends c text s.0 s.1 more at s.4);
+      rw (joined text s.0 s.1 more at s.4, f.again c.0 s.0 at (s.1 ++ more) s.2, g.again c.1 s.1 (at + length s.0) more s.3) (ends c text s.0 s.1 more at s.4);
   written = λ c at h. (F.write c.0, G.write c.1, f.written c.0 at h.0, g.written c.1 (at + length (F.write c.0)) h.1, refl);
 }
 
@@ -141,14 +141,14 @@ pub both_to_end : {A B : Type 0} (F : Format A) (G : Format B) → IsExact F →
 both_to_end F G f g = record {
   found = both_found F G f.found g.found;
   again = λ c text at s.
-    rw (s.4, f.again c.0 s.0 at s.1 s.2, g.again c.1 s.1 (at + length s.0) s.3) (ends c (s.0 ++ s.1) s.0 s.1 [] at refl);
+      rw (s.4, f.again c.0 s.0 at s.1 s.2, g.again c.1 s.1 (at + length s.0) s.3) (ends c (s.0 ++ s.1) s.0 s.1 [] at refl);
   written = λ c at h. (F.write c.0, G.write c.1, f.written c.0 at h.0, g.written c.1 (at + length (F.write c.0)) h.1, refl);
 }
 
 pub anything_to_end : IsExactToEnd anything
 anything_to_end = record {
   found = λ p a e. subst (λ (y : List ℕ × Place). Stands anything p y) (ok_is (p.rest, record { at = p.at + length p.rest; rest = [] }) a e)
-    (p.rest, refl {a = p.rest}, record { parts = sym (append-nil p.rest); moved = refl });
+      (p.rest, refl {a = p.rest}, record { parts = sym (append-nil p.rest); moved = refl });
   again = λ a text at s. rw s refl;
   written = λ a at s. refl;
 }
@@ -227,8 +227,8 @@ literal_found (t ∷ tags) v at [] a e = absurd (not_done a Malformed e)
 literal_found {A} (t ∷ tags) v at (b ∷ rest) a e =
     elim (cond_ok (eqb b t) (read_literal tags v (at + 1) rest) (Err (Unsupported at b)) (Ok a) e) [
       | inl w ↦
-        let h = literal_found tags v (at + 1) rest a w.1 in
-        (h.0, subst (λ (k : ℕ). Takes (k ∷ tags) (record { at = at; rest = b ∷ rest }) a.1) (eqb-true _ _ w.0) (taken_more b at tags rest a.1 h.1))
+          let h = literal_found tags v (at + 1) rest a w.1 in
+          (h.0, subst (λ (k : ℕ). Takes (k ∷ tags) (record { at = at; rest = b ∷ rest }) a.1) (eqb-true _ _ w.0) (taken_more b at tags rest a.1 h.1))
       | inr w ↦ absurd (not_done a (Unsupported at b) w.1)
     ]
 
@@ -251,8 +251,8 @@ fixed_found (t ∷ bytes) v at [] a e = absurd (not_done a Malformed e)
 fixed_found {A} (t ∷ bytes) v at (b ∷ rest) a e =
     elim (cond_ok (eqb b t) (read_fixed bytes v (at + 1) rest) (Err Malformed) (Ok a) e) [
       | inl w ↦
-        let h = fixed_found bytes v (at + 1) rest a w.1 in
-        (h.0, subst (λ (k : ℕ). Takes (k ∷ bytes) (record { at = at; rest = b ∷ rest }) a.1) (eqb-true _ _ w.0) (taken_more b at bytes rest a.1 h.1))
+          let h = fixed_found bytes v (at + 1) rest a w.1 in
+          (h.0, subst (λ (k : ℕ). Takes (k ∷ bytes) (record { at = at; rest = b ∷ rest }) a.1) (eqb-true _ _ w.0) (taken_more b at bytes rest a.1 h.1))
       | inr w ↦ absurd (not_done a Malformed w.1)
     ]
 
@@ -349,7 +349,7 @@ items_found {A} F f (suc n) p items e =
     let s = f.found p a.0 a.1 in
     let t = items_found F f n a.0.1 b.0 b.1 in
     subst (λ (y : List A × Place). (text : List ℕ) × ItemsSpell F p.at y.0 text × Takes text p y.1 × (length y.0 ≡ suc n)) (ok_is (a.0.0 ∷ b.0.0, b.0.1) items b.2)
-      (s.0 ++ t.0, (s.0, t.0, s.1, subst (λ (k : ℕ). ItemsSpell F k b.0.0 t.0) s.2.moved t.1, refl {a = s.0 ++ t.0}), Takes-then s.0 t.0 p a.0.1 b.0.1 s.2 t.2, ap suc t.3)
+    (s.0 ++ t.0, (s.0, t.0, s.1, subst (λ (k : ℕ). ItemsSpell F k b.0.0 t.0) s.2.moved t.1, refl {a = s.0 ++ t.0}), Takes-then s.0 t.0 p a.0.1 b.0.1 s.2 t.2, ap suc t.3)
 
 items_again : {A : Type 0} (F : Format A) → IsExact F → (items : List A) (text : List ℕ) (at : ℕ) (more : List ℕ) → ItemsSpell F at items text → read_items F (length items) (before at text more) ≡ Ok (items, after at text more)
 unfolding read_items
@@ -366,14 +366,14 @@ items_written F f (a ∷ items) at h = (F.write a, write_items F items, f.writte
 pub exact_vec : {A : Type 0} (F : Format A) → IsExact F → IsExact (vec F)
 exact_vec {A} F f = record {
   found = λ p items e.
-    let n = bind_ok (u32_format.read p) (λ n. read_items F n.0 n.1) items e in
-    let s = exact_u32.found p n.0 n.1 in
-    let t = items_found F f n.0.0 n.0.1 items n.2 in
-    (s.0 ++ t.0, (s.0, t.0, subst (λ (k : ℕ). u32_format.Spells p.at k s.0) (sym t.3) s.1, subst (λ (k : ℕ). ItemsSpell F k items.0 t.0) s.2.moved t.1, refl {a = s.0 ++ t.0}), Takes-then s.0 t.0 p n.0.1 items.1 s.2 t.2);
+      let n = bind_ok (u32_format.read p) (λ n. read_items F n.0 n.1) items e in
+      let s = exact_u32.found p n.0 n.1 in
+      let t = items_found F f n.0.0 n.0.1 items n.2 in
+      (s.0 ++ t.0, (s.0, t.0, subst (λ (k : ℕ). u32_format.Spells p.at k s.0) (sym t.3) s.1, subst (λ (k : ℕ). ItemsSpell F k items.0 t.0) s.2.moved t.1, refl {a = s.0 ++ t.0}), Takes-then s.0 t.0 p n.0.1 items.1 s.2 t.2);
   again = λ items text at more s.
-    let one = exact_u32.again (length items) s.0 at (s.1 ++ more) s.2 in
-    let two = items_again F f items s.1 (at + length s.0) more s.3 in
-    rw (joined text s.0 s.1 more at s.4, one, two) (ends items text s.0 s.1 more at s.4);
+      let one = exact_u32.again (length items) s.0 at (s.1 ++ more) s.2 in
+      let two = items_again F f items s.1 (at + length s.0) more s.3 in
+      rw (joined text s.0 s.1 more at s.4, one, two) (ends items text s.0 s.1 more at s.4);
   written = λ items at h. (u32_format.write (length items), write_items F items, exact_u32.written (length items) at (u32_fits (length items) h.0), items_written F f items (at + length (u32_format.write (length items))) h.1, refl);
 }
 
@@ -387,17 +387,17 @@ counted_ok count n r x e =
 pub exact_vec_of : {A : Type 0} (count : ℕ) (F : Format A) → IsExact F → IsExact (vec_of count F)
 exact_vec_of {A} count F f = record {
   found = λ p items e.
-    let n = bind_ok (u32_format.read p) (λ n. cond (eqb n.0 count) (read_items F n.0 n.1) (Err Malformed)) items e in
-    let m = counted_ok count n.0.0 (read_items F n.0.0 n.0.1) items n.2 in
-    let s = exact_u32.found p n.0 n.1 in
-    let t = items_found F f n.0.0 n.0.1 items m.1 in
-    (s.0 ++ t.0, (t.3 ∙ m.0, (s.0, t.0, subst (λ (k : ℕ). u32_format.Spells p.at k s.0) (sym t.3) s.1, subst (λ (k : ℕ). ItemsSpell F k items.0 t.0) s.2.moved t.1, refl {a = s.0 ++ t.0})), Takes-then s.0 t.0 p n.0.1 items.1 s.2 t.2);
+      let n = bind_ok (u32_format.read p) (λ n. cond (eqb n.0 count) (read_items F n.0 n.1) (Err Malformed)) items e in
+      let m = counted_ok count n.0.0 (read_items F n.0.0 n.0.1) items n.2 in
+      let s = exact_u32.found p n.0 n.1 in
+      let t = items_found F f n.0.0 n.0.1 items m.1 in
+      (s.0 ++ t.0, (t.3 ∙ m.0, (s.0, t.0, subst (λ (k : ℕ). u32_format.Spells p.at k s.0) (sym t.3) s.1, subst (λ (k : ℕ). ItemsSpell F k items.0 t.0) s.2.moved t.1, refl {a = s.0 ++ t.0})), Takes-then s.0 t.0 p n.0.1 items.1 s.2 t.2);
   again = λ items text at more h.
-    let s = h.1 in
-    let test : eqb (length items) count ≡ true = rw h.0 (eqb-same count) in
-    let one = exact_u32.again (length items) s.0 at (s.1 ++ more) s.2 in
-    let two = items_again F f items s.1 (at + length s.0) more s.3 in
-    rw (joined text s.0 s.1 more at s.4, one, test, two) (ends items text s.0 s.1 more at s.4);
+      let s = h.1 in
+      let test : eqb (length items) count ≡ true = rw h.0 (eqb-same count) in
+      let one = exact_u32.again (length items) s.0 at (s.1 ++ more) s.2 in
+      let two = items_again F f items s.1 (at + length s.0) more s.3 in
+      rw (joined text s.0 s.1 more at s.4, one, test, two) (ends items text s.0 s.1 more at s.4);
   written = λ items at h. (h.0, (exact_vec F f).written items at h.1);
 }
 
@@ -435,14 +435,14 @@ within_again F f a text at more s =
 pub exact_sized : {A : Type 0} (F : Format A) → IsExactToEnd F → IsExact (sized F)
 exact_sized F f = record {
   found = λ p a e.
-    let n = bind_ok (u32_format.read p) (λ n. read_within F n.0 n.1) a e in
-    let s = exact_u32.found p n.0 n.1 in
-    let t = within_found F f n.0.0 n.0.1 a n.2 in
-    (s.0 ++ t.0, (s.0, t.0, subst (λ (k : ℕ). u32_format.Spells p.at k s.0) t.3 s.1, subst (λ (k : ℕ). F.Spells k a.0 t.0) s.2.moved t.1, refl {a = s.0 ++ t.0}), Takes-then s.0 t.0 p n.0.1 a.1 s.2 t.2);
+      let n = bind_ok (u32_format.read p) (λ n. read_within F n.0 n.1) a e in
+      let s = exact_u32.found p n.0 n.1 in
+      let t = within_found F f n.0.0 n.0.1 a n.2 in
+      (s.0 ++ t.0, (s.0, t.0, subst (λ (k : ℕ). u32_format.Spells p.at k s.0) t.3 s.1, subst (λ (k : ℕ). F.Spells k a.0 t.0) s.2.moved t.1, refl {a = s.0 ++ t.0}), Takes-then s.0 t.0 p n.0.1 a.1 s.2 t.2);
   again = λ a text at more s.
-    let one = exact_u32.again (length s.1) s.0 at (s.1 ++ more) s.2 in
-    let two = within_again F f a s.1 (at + length s.0) more s.3 in
-    rw (joined text s.0 s.1 more at s.4, one, two) (ends a text s.0 s.1 more at s.4);
+      let one = exact_u32.again (length s.1) s.0 at (s.1 ++ more) s.2 in
+      let two = within_again F f a s.1 (at + length s.0) more s.3 in
+      rw (joined text s.0 s.1 more at s.4, one, two) (ends a text s.0 s.1 more at s.4);
   written = λ a at h. (u32_format.write (length (F.write a)), F.write a, exact_u32.written (length (F.write a)) at (u32_fits (length (F.write a)) h.0), f.written a (at + length (u32_format.write (length (F.write a)))) h.1, refl);
 }
 
@@ -458,10 +458,10 @@ checked_ok test a x e =
 pub exact_checked : {A : Type 0} (test : A → Bool) (F : Format A) → IsExact F → IsExact (checked test F)
 exact_checked {A} test F f = record {
   found = λ p a e.
-    let x = bind_ok (F.read p) (read_checked test) a e in
-    let t = checked_ok test x.0 a x.2 in
-    let s = f.found p x.0 x.1 in
-    subst (λ (y : A × Place). Stands (checked test F) p y) t.1 (s.0, (t.0, s.1), s.2);
+      let x = bind_ok (F.read p) (read_checked test) a e in
+      let t = checked_ok test x.0 a x.2 in
+      let s = f.found p x.0 x.1 in
+      subst (λ (y : A × Place). Stands (checked test F) p y) t.1 (s.0, (t.0, s.1), s.2);
   again = λ a text at more s. rw (f.again a text at more s.1, s.0) refl;
   written = λ a at h. (h.0, f.written a at h.1);
 }

@@ -69,15 +69,19 @@ run_unsupported G g zero s good at (b ∷ rest) a byte e = absurd cc
 run_unsupported {S} {P} G g (suc fuel) s good at (b ∷ rest) a byte e =
     elim (part_err (good_at G s good at) ((G.form s).read (record { at = at; rest = b ∷ rest })) (λ x. run G fuel (G.next s x.0) (good_at G s good at) x.1.at x.1.rest) (Unsupported a byte) e) [
       | inl w ↦
-        let far : at ≡ at + 0 = omega arith in
-        ([], [], b ∷ rest, refl, refl, ap (λ (n : ℕ). (G.form s).read (record { at = n; rest = b ∷ rest })) (sym far) ∙ w)
+          let far : at ≡ at + 0 = omega arith in
+          ([], [], b ∷ rest, refl, refl, ap (λ (n : ℕ). (G.form s).read (record { at = n; rest = b ∷ rest })) (sym far) ∙ w)
       | inr x ↦
-        let st = (g.exact s).found (record { at = at; rest = b ∷ rest }) x.0 x.1 in
-        let ih = run_unsupported G g fuel (G.next s x.0.0) (good_at G s good at) x.0.1.at x.0.1.rest a byte x.2 in
-        let far : x.0.1.at + length ih.1 ≡ at + length (st.0 ++ ih.1) = omega (arith, st.2.moved, length-append st.0 ih.1) in
-        (x.0.0 ∷ ih.0, st.0 ++ ih.1, ih.2, (st.0, ih.1, st.1, subst (λ (k : ℕ). SectionsSpell G (G.next s x.0.0) k ih.0 ih.1) st.2.moved ih.3, refl {a = st.0 ++ ih.1}),
-          st.2.parts ∙ ap (λ (z : List ℕ). st.0 ++ z) ih.4 ∙ sym (append_assoc st.0 ih.1 ih.2),
-          ap (λ (n : ℕ). (G.form (built G (G.next s x.0.0) ih.0)).read (record { at = n; rest = ih.2 })) (sym far) ∙ ih.5)
+          let st = (g.exact s).found (record { at = at; rest = b ∷ rest }) x.0 x.1 in
+          let ih = run_unsupported G g fuel (G.next s x.0.0) (good_at G s good at) x.0.1.at x.0.1.rest a byte x.2 in
+          let far : x.0.1.at + length ih.1 ≡ at + length (st.0 ++ ih.1) = omega (arith, st.2.moved, length-append st.0 ih.1) in (
+            x.0.0 ∷ ih.0,
+            st.0 ++ ih.1,
+            ih.2,
+            (st.0, ih.1, st.1, subst (λ (k : ℕ). SectionsSpell G (G.next s x.0.0) k ih.0 ih.1) st.2.moved ih.3, refl {a = st.0 ++ ih.1}),
+            st.2.parts ∙ ap (λ (z : List ℕ). st.0 ++ z) ih.4 ∙ sym (append_assoc st.0 ih.1 ih.2),
+            ap (λ (n : ℕ). (G.form (built G (G.next s x.0.0) ih.0)).read (record { at = n; rest = ih.2 })) (sym far) ∙ ih.5,
+          )
     ]
 
 cond_cases : (b : Bool) (x y : ℕ) → (cond b x y ≡ y) ⊎ ((b ≡ true) × (cond b x y ≡ x))
@@ -120,13 +124,20 @@ run_good {S} {P} G g (suc fuel) s good at (b ∷ rest) =
     elim (part_good (good_at G s good at) ((G.form s).read (record { at = at; rest = b ∷ rest })) (λ x. run G fuel (G.next s x.0) (good_at G s good at) x.1.at x.1.rest)) [
       | inl w ↦ good_here G s good at (b ∷ rest) _ w
       | inr x ↦
-        let st = (g.exact s).found (record { at = at; rest = b ∷ rest }) x.0 x.1 in
-        elim (run_good G g fuel (G.next s x.0.0) (good_at G s good at) x.0.1.at x.0.1.rest) [
-          | inl v ↦ good_here G s good at (b ∷ rest) _ (x.2 ∙ v)
-          | inr v ↦ inr (x.0.0 ∷ v.0, st.0 ++ v.1, v.2,
-              ((st.0, v.1, st.1, subst (λ (k : ℕ). SectionsSpell G (G.next s x.0.0) k v.0 v.1) st.2.moved v.3.0, refl {a = st.0 ++ v.1}),
-               st.2.parts ∙ ap (λ (z : List ℕ). st.0 ++ z) v.3.1 ∙ sym (append_assoc st.0 v.1 v.2), v.3.2),
-              omega (arith, x.2, v.4, st.2.moved, length-append st.0 v.1))
+          let st = (g.exact s).found (record { at = at; rest = b ∷ rest }) x.0 x.1 in
+          elim (run_good G g fuel (G.next s x.0.0) (good_at G s good at) x.0.1.at x.0.1.rest) [
+            | inl v ↦ good_here G s good at (b ∷ rest) _ (x.2 ∙ v)
+            | inr v ↦ inr (
+              x.0.0 ∷ v.0,
+              st.0 ++ v.1,
+              v.2,
+              (
+                (st.0, v.1, st.1, subst (λ (k : ℕ). SectionsSpell G (G.next s x.0.0) k v.0 v.1) st.2.moved v.3.0, refl {a = st.0 ++ v.1}),
+                st.2.parts ∙ ap (λ (z : List ℕ). st.0 ++ z) v.3.1 ∙ sym (append_assoc st.0 v.1 v.2),
+                v.3.2,
+              ),
+              omega (arith, x.2, v.4, st.2.moved, length-append st.0 v.1),
+            )
           ]
     ]
 
@@ -139,12 +150,12 @@ run_least G g (suc fuel) s good at (b ∷ rest) h =
     elim (part_good (good_at G s good at) ((G.form s).read (record { at = at; rest = b ∷ rest })) (λ x. run G fuel (G.next s x.0) (good_at G s good at) x.1.at x.1.rest)) [
       | inl w ↦ omega (arith, w)
       | inr x ↦
-        let st = (g.exact s).found (record { at = at; rest = b ∷ rest }) x.0 x.1 in
-        let low : good_at G s good at ≤ at = good_low G s good at h in
-        let le : good_at G s good at ≤ x.0.1.at = omega (arith, st.2.moved) in
-        let ih = run_least G g fuel (G.next s x.0.0) (good_at G s good at) x.0.1.at x.0.1.rest le in
-        let up : good_at G s good at ≤ good_at G (G.next s x.0.0) (good_at G s good at) x.0.1.at = good_up G (G.next s x.0.0) (good_at G s good at) x.0.1.at le in
-        omega (arith, x.2)
+          let st = (g.exact s).found (record { at = at; rest = b ∷ rest }) x.0 x.1 in
+          let low : good_at G s good at ≤ at = good_low G s good at h in
+          let le : good_at G s good at ≤ x.0.1.at = omega (arith, st.2.moved) in
+          let ih = run_least G g fuel (G.next s x.0.0) (good_at G s good at) x.0.1.at x.0.1.rest le in
+          let up : good_at G s good at ≤ good_at G (G.next s x.0.0) (good_at G s good at) x.0.1.at = good_up G (G.next s x.0.0) (good_at G s good at) x.0.1.at le in
+          omega (arith, x.2)
     ]
 
 -- one section further
@@ -192,14 +203,14 @@ unfolding run
 run_tag G g [] fuel s good at rest text more a byte le h e t =
     let far : at + 0 ≡ at = omega arith in
     tag_here G g fuel s good at rest a byte le (ap (λ (z : List ℕ). (G.form s).read (record { at = at; rest = z })) (e ∙ ap (λ (z : List ℕ). z ++ more) h) ∙ ap (λ (n : ℕ). (G.form s).read (record { at = n; rest = more })) (sym far)
-      ∙ ap (λ (z : List ℕ). (G.form s).read (after at z more)) (sym h) ∙ t)
+    ∙ ap (λ (z : List ℕ). (G.form s).read (after at z more)) (sym h) ∙ t)
 run_tag G g (part ∷ parts) fuel s good at rest text more a byte le h e t =
     let x = h.0 in let y = h.1 in
     let split : rest ≡ x ++ (y ++ more) = e ∙ ap (λ (z : List ℕ). z ++ more) h.4 ∙ append_assoc x y more in
     let w = step G g fuel s good at rest part x (y ++ more) h.2 split le in
     let far : at + length x + length y ≡ at + length text = omega (arith, ap length h.4, length-append x y) in
     ap (λ (r : Run _). r.outcome) w.2 ∙ run_tag G g parts w.0 (G.next s part) (good_at G s good at) (at + length x) (y ++ more) y more a byte w.1 h.3 refl
-      (ap (λ (n : ℕ). (G.form (built G (G.next s part) parts)).read (record { at = n; rest = more })) far ∙ t)
+    (ap (λ (n : ℕ). (G.form (built G (G.next s part) parts)).read (record { at = n; rest = more })) far ∙ t)
 
 -- ---- the sections that follow a place, as one value
 
@@ -215,11 +226,11 @@ parts_written G g (part ∷ parts) s at h =
 pub exact_to_the_end : {S P : Type 0} (G : Sections S P) (s : S) (parts_of : S → List P) → AreExact G → IsExactToEnd (to_the_end G s parts_of)
 exact_to_the_end {S} {P} G s parts_of g = record {
   found = λ p a e.
-    let w = ended_ok p (run G (length p.rest) s 0 p.at p.rest).outcome a e in
-    subst (λ (y : S × Place). Stands (to_the_end G s parts_of) p y) w.2
+      let w = ended_ok p (run G (length p.rest) s 0 p.at p.rest).outcome a e in
+      subst (λ (y : S × Place). Stands (to_the_end G s parts_of) p y) w.2
       (p.rest, run_ok G g (length p.rest) s 0 p.at p.rest w.0 w.1, record { parts = sym (append-nil p.rest); moved = refl });
   again = λ t text at h.
-    let w = run_all G g h.0 (length text) s 0 at text (omega arith) h.1 (ap G.can_end h.2 ∙ h.3) in
-    ap (ended (record { at = at; rest = text })) (w ∙ ap (λ (x : S). Ok x) h.2);
+      let w = run_all G g h.0 (length text) s 0 at text (omega arith) h.1 (ap G.can_end h.2 ∙ h.3) in
+      ap (ended (record { at = at; rest = text })) (w ∙ ap (λ (x : S). Ok x) h.2);
   written = λ t at h. (parts_of t, parts_written G g (parts_of t) s at h.0, h.1, h.2);
 }

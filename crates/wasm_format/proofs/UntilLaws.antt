@@ -33,11 +33,11 @@ until_found {S} {P} G g (suc fuel) s p a e =
     elim (choice (G.can_end s) ([], p) ((G.form s).read p >>= λ a. read_until G fuel (G.next s a.0) a.1 >>= λ items. Ok (a.0 ∷ items.0, items.1)) a e) [
       | inl w ↦ subst (λ (y : List P × Place). (text : List ℕ) × UntilSpells G s p.at y.0 text × Takes text p y.1) w.1 ([], (w.0, refl), Takes-none p)
       | inr w ↦
-        let x = bind_ok ((G.form s).read p) (λ a. read_until G fuel (G.next s a.0) a.1 >>= λ items. Ok (a.0 ∷ items.0, items.1)) a w.1 in
-        let y = bind_ok (read_until G fuel (G.next s x.0.0) x.0.1) (λ items. Ok (x.0.0 ∷ items.0, items.1)) a x.2 in
-        let st = (g.exact s).found p x.0 x.1 in
-        let t = until_found G g fuel (G.next s x.0.0) x.0.1 y.0 y.1 in
-        subst (λ (y : List P × Place). (text : List ℕ) × UntilSpells G s p.at y.0 text × Takes text p y.1) (ok_is (x.0.0 ∷ y.0.0, y.0.1) a y.2)
+          let x = bind_ok ((G.form s).read p) (λ a. read_until G fuel (G.next s a.0) a.1 >>= λ items. Ok (a.0 ∷ items.0, items.1)) a w.1 in
+          let y = bind_ok (read_until G fuel (G.next s x.0.0) x.0.1) (λ items. Ok (x.0.0 ∷ items.0, items.1)) a x.2 in
+          let st = (g.exact s).found p x.0 x.1 in
+          let t = until_found G g fuel (G.next s x.0.0) x.0.1 y.0 y.1 in
+          subst (λ (y : List P × Place). (text : List ℕ) × UntilSpells G s p.at y.0 text × Takes text p y.1) (ok_is (x.0.0 ∷ y.0.0, y.0.1) a y.2)
           (st.0 ++ t.0, (st.0, t.0, w.0, st.1, subst (λ (k : ℕ). UntilSpells G (G.next s x.0.0) k y.0.0 t.0) st.2.moved t.1, refl {a = st.0 ++ t.0}), Takes-then st.0 t.0 p x.0.1 y.0.1 st.2 t.2)
     ]
 
@@ -70,4 +70,3 @@ exact_until G s g = record {
   again = λ parts text at more h. until_again G g parts (length (text ++ more)) s text at more (omega (arith, length-append text more)) h;
   written = λ parts at h. until_written G g parts s at h;
 }
-

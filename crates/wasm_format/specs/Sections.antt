@@ -43,7 +43,7 @@ run G fuel s good at [] = record { good = good_at G s good at; outcome = if G.ca
 run G zero s good at (b ∷ rest) = record { good = good_at G s good at; outcome = Err Malformed }
 run G (suc fuel) s good at (b ∷ rest) =
     after_part (good_at G s good at) ((G.form s).read (record { at = at; rest = b ∷ rest }))
-      (λ x. run G fuel (G.next s x.0) (good_at G s good at) x.1.at x.1.rest)
+    (λ x. run G fuel (G.next s x.0) (good_at G s good at) x.1.at x.1.rest)
 
 -- What a call returned, and the offset that it left, is what reading gives, unless memory ran out.
 abbrev pub Ran : {S : Type 0} → Result S Stop → ℕ → Run S → Type 0

@@ -8,11 +8,10 @@ mod put;
 mod reader;
 mod sections;
 mod stop;
-mod until;
-mod writer;
-
 #[cfg(test)]
 mod tests;
+mod until;
+mod writer;
 
 pub use literal::{expect_bytes, expect_tag, next_is_tag};
 pub use names::{ByteLists, Names, take_name, take_sized};

@@ -46,7 +46,13 @@ fn low_seven(negative: bool, low: u8) -> u8
     if negative { 127 - low } else { low }
 }
 
-fn put_by(alloc: Global, out: &mut Vec<u8>, negative: bool, value: u64, more: u8) -> Result<(), NoMemory>
+fn put_by(
+    alloc: Global,
+    out: &mut Vec<u8>,
+    negative: bool,
+    value: u64,
+    more: u8,
+) -> Result<(), NoMemory>
     requires { value < limit_of 64 more }
     ensures { OnOk result (out.new.items ≡ out.old.items ++ shortest_by negative more value) }
 {

@@ -88,7 +88,12 @@ impl<W: Writer> Writer for Vecs<W> {
     ghost format = { λ s. vec (W.format s.0) };
 
     #[tactic(auto, unfolding(crate::specs::Format::u32_format))]
-    fn write(&self, alloc: Global, out: &mut Vec<u8>, value: &Items<W::Value>) -> Result<(), NoMemory> {
+    fn write(
+        &self,
+        alloc: Global,
+        out: &mut Vec<u8>,
+        value: &Items<W::Value>,
+    ) -> Result<(), NoMemory> {
         let items = value.as_slice();
         put_u32(alloc, out, items.len() as u32)?;
         write_all(&self.0, alloc, out, items)
@@ -101,7 +106,12 @@ impl<W: Writer> Writer for CountedVecs<W> {
     ghost format = { λ s. vec_of s.count (W.format s.item) };
 
     #[tactic(auto, unfolding(crate::specs::Format::u32_format))]
-    fn write(&self, alloc: Global, out: &mut Vec<u8>, value: &Items<W::Value>) -> Result<(), NoMemory> {
+    fn write(
+        &self,
+        alloc: Global,
+        out: &mut Vec<u8>,
+        value: &Items<W::Value>,
+    ) -> Result<(), NoMemory> {
         let items = value.as_slice();
         put_u32(alloc, out, items.len() as u32)?;
         write_all(&self.item, alloc, out, items)

@@ -16,7 +16,7 @@ loop-preserved g c =
     let F = g.R.Reader.format c.args.reader.now in
     record {
       input = c.in_ok-item.ensures.input ∙ c.loop.invariant.input;
-      read = rw c.in_ok-push.ensures.items (goes_on F c.loop.items.items c.args.count c.loop.counter (place c.loop.c) c.in_ok-item.item (place c.read.new.c) (read_items F c.args.count (place c.args.c.now)) c.loop-test.true c.in_ok-item.ensures.value c.loop.invariant.read)
+      read = rw c.in_ok-push.ensures.items (goes_on F c.loop.items.items c.args.count c.loop.counter (place c.loop.c) c.in_ok-item.item (place c.read.new.c) (read_items F c.args.count (place c.args.c.now)) c.loop-test.true c.in_ok-item.ensures.value c.loop.invariant.read);
     }
 
 pub returns-clause-value : goal.returns-clause-value

@@ -7,5 +7,5 @@ use Rattle.wasm_format.proofs.reader.items_of.Given as goal
 abbrev pub invariant-loop : goal.invariant-loop
 invariant-loop g l = record {
   input : l.c.bytes ≡ l.fn.c.bytes;
-  read : with_front l.items.items (read_items (g.R.Reader.format l.reader) (l.count - l.counter) (place l.c)) ≡ read_items (g.R.Reader.format l.reader) l.count (place l.fn.c)
+  read : with_front l.items.items (read_items (g.R.Reader.format l.reader) (l.count - l.counter) (place l.c)) ≡ read_items (g.R.Reader.format l.reader) l.count (place l.fn.c);
 }

@@ -26,5 +26,5 @@ returns-in_err-item-clause-value g c =
 pub loop-preserved : goal.loop-preserved
 loop-preserved g c = record {
   input = c.in_ok-item.ensures.input ∙ c.loop.invariant.input;
-  read = rw (c.in_ok-push.ensures.items, c.in_ok-step.ensures) (goes_on g.W.Walk.sections c.loop.items.items _ c.loop.counter c.loop.state (place c.loop.c) c.in_ok-item.item (place c.read_item.new.c) _ c.loop-test.true (sym c.is_over.ensures ∙ c.if-is_over.false) c.in_ok-item.ensures.value c.loop.invariant.read)
+  read = rw (c.in_ok-push.ensures.items, c.in_ok-step.ensures) (goes_on g.W.Walk.sections c.loop.items.items _ c.loop.counter c.loop.state (place c.loop.c) c.in_ok-item.item (place c.read_item.new.c) _ c.loop-test.true (sym c.is_over.ensures ∙ c.if-is_over.false) c.in_ok-item.ensures.value c.loop.invariant.read);
 }

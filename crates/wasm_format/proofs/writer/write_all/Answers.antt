@@ -11,5 +11,5 @@ loop-item-preserved g c =
     let F = g.W.Writer.format c.args.writer.now in
     record {
       written = rw c.in_ok-write.ensures (one_more F c.loop-item.out.items (c.args.out.now.items ++ write_items F c.args.items.now) c.args.items.now c.loop-item.item-index c.item-item.result c.loop-item-test.true c.item-item.is c.loop-item.invariant.written);
-      fits = fits_rest F c.args.items.now c.loop-item.item-index c.item-item.result c.loop-item-test.true c.item-item.is c.loop-item.invariant.fits
+      fits = fits_rest F c.args.items.now c.loop-item.item-index c.item-item.result c.loop-item-test.true c.item-item.is c.loop-item.invariant.fits;
     }

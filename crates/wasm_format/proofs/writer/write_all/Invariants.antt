@@ -5,8 +5,8 @@ use Rattle.wasm_format.proofs.writer.write_all.Given as goal
 
 abbrev pub invariant-loop-item : goal.invariant-loop-item
 invariant-loop-item g l =
-  let F = g.W.Writer.format l.writer in
-  record {
-    written : l.out.items ++ write_items F (drop l.item-index l.items) ≡ l.fn.out.items ++ write_items F l.items;
-    fits : AllByRecursion F.Fits (drop l.item-index l.items)
-  }
+    let F = g.W.Writer.format l.writer in
+    record {
+      written : l.out.items ++ write_items F (drop l.item-index l.items) ≡ l.fn.out.items ++ write_items F l.items;
+      fits : AllByRecursion F.Fits (drop l.item-index l.items);
+    }
