@@ -1,10 +1,14 @@
+ghost use Rattle.std.specs.Prelude.{◌≡◌, ◌<◌};
+
 use crate::{
     Contents, Cursor, Entry, EntryKind, FileFail, Files, Items, LebFault, MemFiles, MemSink, Named,
-    Places, PutFailed, Sink, Text, TextFault, WriteFailed, read_s32, read_s33, read_s64, read_u32,
-    write_s64, write_u32,
+    Places, PutFailed, Sink, Steps, Text, TextFault, WriteFailed, copy_bytes, next_byte, read_s32,
+    read_s33, read_s64, read_u32, write_s64, write_u32,
 };
 use std::alloc::{AllocError, Global};
+use std::marker::Brand;
 use std::process::Abort;
+use std::sync::ledger::{Blank, Ledger};
 use std::test::Fail;
 
 /// WebAssembly Core 2.0, section 5.2.2, and the values of its test suite's `binary-leb128`.
@@ -153,6 +157,35 @@ fn makes_text(rt: HostRuntime) -> Result<(), Fail> {
     assert!(rt; text.is_same(&text.copy(a)?));
     assert!(rt; !text.is_same(&Text::from_str(a, "he!")?));
     Ok(())
+}
+
+#[test]
+fn keeps_lists(rt: HostRuntime) -> Result<(), Fail> {
+    let a = rt.alloc();
+    let mut copy = copy_bytes(a, b"12")?;
+    assert!(rt; !copy.is_empty());
+    copy.push(51)?;
+    assert_eq!(rt; copy.len(), 3);
+    assert_eq!(rt; copy.into_vec().as_slice(), b"123".as_slice());
+    let mut c = Cursor { bytes: b"7", at: 0 };
+    assert_eq!(rt; next_byte(&mut c), Some(55));
+    assert_eq!(rt; next_byte(&mut c), None);
+    Ok(())
+}
+
+fn two_steps<L: Ledger>(blank: Blank)
+    requires name { blank.name ≡ L.name }
+    requires parts { blank.parts ≡ L.parts }
+    requires some { 0 < L.parts }
+{
+    let mut steps = Steps::<L>::start(blank);
+    steps.tick();
+    steps.tick();
+}
+
+#[test]
+fn counts_steps(rt: HostRuntime) {
+    two_steps::<Brand>(Blank::new(1));
 }
 
 fn entry(a: Global, name: &str, kind: EntryKind) -> Result<Entry, Fail> {
