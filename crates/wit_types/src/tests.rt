@@ -3,6 +3,7 @@ use crate::{
     copy_type, copy_value, has_type,
 };
 use std::alloc::Global;
+use std::fmt::Debug;
 use std::process::Abort;
 use std::test::Fail;
 use virt_base::{Items, NoMemory, Text};
@@ -15,193 +16,191 @@ fn labels(alloc: Global, count: usize) -> Result<Labels, NoMemory> {
     Ok(all)
 }
 
-fn boxed(alloc: Global, ty: WitType) -> Result<Option<Box<WitType>>, Fail> {
-    Ok(Some(Box::new(alloc, ty)?))
+fn field(alloc: Global, name: &str, ty: WitType) -> Result<Field, Fail> {
+    Ok(Field {
+        name: Text::from_str(alloc, name)?,
+        ty,
+    })
+}
+
+fn fields(alloc: Global, first: WitType, second: WitType) -> Result<Fields, Fail> {
+    let mut items = Vec::new(alloc);
+    items.push(field(alloc, "first", first)?)?;
+    items.push(field(alloc, "second", second)?)?;
+    Ok(Fields { items })
+}
+
+fn tuple(alloc: Global, first: WitType, second: WitType) -> Result<WitType, Fail> {
+    let mut items = Vec::new(alloc);
+    items.push(first)?;
+    items.push(second)?;
+    Ok(WitType::Tuple(Types { items }))
+}
+
+/// A case with a payload, and one without.
+fn variant(alloc: Global, payload: WitType) -> Result<WitType, Fail> {
+    let mut items = Vec::new(alloc);
+    let full = Text::from_str(alloc, "full")?;
+    items.push(Case {
+        name: full,
+        ty: Some(Box::new(alloc, payload)?),
+    })?;
+    let empty = Text::from_str(alloc, "empty")?;
+    items.push(Case {
+        name: empty,
+        ty: None,
+    })?;
+    Ok(WitType::Variant(Cases { items }))
+}
+
+fn values(alloc: Global, first: Value, second: Value) -> Result<Values, Fail> {
+    let mut items = Vec::new(alloc);
+    items.push(first)?;
+    items.push(second)?;
+    Ok(Values { items })
 }
 
 fn case(alloc: Global, number: u32, payload: Value) -> Result<Value, Fail> {
     Ok(Value::Variant(number, Some(Box::new(alloc, payload)?)))
 }
 
-fn list(items: Vec<Value>) -> Value {
-    Value::List(Values { items })
+/// A type of each form that has parts, names or a number.
+fn built_type(alloc: Global, form: u32) -> Result<WitType, Fail> {
+    match form {
+        0 => Ok(WitType::Record(fields(alloc, WitType::U8, WitType::Bool)?)),
+        1 => tuple(alloc, WitType::U8, WitType::U8),
+        2 => variant(alloc, WitType::U8),
+        3 => Ok(WitType::List(Box::new(alloc, WitType::U8)?)),
+        4 => Ok(WitType::Flags(labels(alloc, 9)?)),
+        5 => Ok(WitType::Enum(labels(alloc, 2)?)),
+        6 => Ok(WitType::Option(Box::new(alloc, WitType::U8)?)),
+        7 => Ok(WitType::Result(Some(Box::new(alloc, WitType::U8)?), None)),
+        8 => Ok(WitType::Result(None, Some(Box::new(alloc, WitType::U8)?))),
+        9 => Ok(WitType::Own(7)),
+        _ => Ok(WitType::Borrow(8)),
+    }
 }
 
-fn record(items: Vec<Value>) -> Value {
-    Value::Record(Values { items })
-}
-
-/// A record of a byte and a text.
-fn pair_type(alloc: Global) -> Result<WitType, Fail> {
-    let items = vec![in alloc;
-        Field {
-            name: Text::from_str(alloc, "byte")?,
-            ty: WitType::U8
-        },
-        Field {
-            name: Text::from_str(alloc, "text")?,
-            ty: WitType::Str
-        },
-    ]?;
-    Ok(WitType::Record(Fields { items }))
-}
-
-fn pair(alloc: Global, byte: i128) -> Result<Value, Fail> {
-    let text = Value::Str(Text::from_str(alloc, "hello")?);
-    Ok(record(vec![in alloc; Value::Int(byte), text]?))
-}
-
-/// A case with a payload and one without.
-fn variant_type(alloc: Global) -> Result<WitType, Fail> {
-    let items = vec![in alloc;
-        Case {
-            name: Text::from_str(alloc, "full")?,
-            ty: boxed(alloc, WitType::S16)?
-        },
-        Case {
-            name: Text::from_str(alloc, "empty")?,
-            ty: None
-        },
-    ]?;
-    Ok(WitType::Variant(Cases { items }))
+fn built_value(alloc: Global, form: u32) -> Result<Value, Fail> {
+    match form {
+        0 => Ok(Value::Record(values(alloc, Value::Int(255), Value::Bool(true))?)),
+        1 => Ok(Value::Record(values(alloc, Value::Int(255), Value::Int(0))?)),
+        2 => Ok(Value::List(values(alloc, Value::Int(255), Value::Int(0))?)),
+        3 => Ok(Value::List(values(alloc, Value::Int(255), Value::Int(256))?)),
+        4 => Ok(Value::Variant(0, None)),
+        5 => Ok(Value::Variant(1, None)),
+        6 => Ok(Value::Variant(2, None)),
+        7 => case(alloc, 0, Value::Int(1)),
+        8 => case(alloc, 1, Value::Int(1)),
+        9 => case(alloc, 0, Value::Bool(true)),
+        10 => Ok(Value::Flags(511)),
+        11 => Ok(Value::Flags(512)),
+        12 => Ok(Value::Handle(4294967295)),
+        13 => Ok(Value::Str(Text::from_str(alloc, "hello")?)),
+        _ => Ok(Value::Record(Values {
+            items: Vec::new(alloc),
+        })),
+    }
 }
 
 #[test]
 fn integers(rt: HostRuntime) {
-    for (ty, low, high) in [
-        (WitType::S8, -128, 127),
-        (WitType::U8, 0, 255),
-        (WitType::S16, -32768, 32767),
-        (WitType::U16, 0, 65535),
-        (WitType::S32, -2147483648, 2147483647),
-        (WitType::U32, 0, 4294967295),
-        (WitType::S64, -9223372036854775808, 9223372036854775807),
-        (WitType::U64, 0, 18446744073709551615),
+    for (ty, below, low, high, above) in [
+        (WitType::S8, -129, -128, 127, 128),
+        (WitType::U8, -1, 0, 255, 256),
+        (WitType::S16, -32769, -32768, 32767, 32768),
+        (WitType::U16, -1, 0, 65535, 65536),
+        (
+            WitType::S32,
+            -2147483649,
+            -2147483648,
+            2147483647,
+            2147483648,
+        ),
+        (WitType::U32, -1, 0, 4294967295, 4294967296),
+        (
+            WitType::S64,
+            -9223372036854775809,
+            -9223372036854775808,
+            9223372036854775807,
+            9223372036854775808,
+        ),
+        (
+            WitType::U64,
+            -1,
+            0,
+            18446744073709551615,
+            18446744073709551616,
+        ),
     ] {
         assert!(rt; has_type(&Value::Int(low), &ty), "{low} of {ty:?}");
         assert!(rt; has_type(&Value::Int(high), &ty), "{high} of {ty:?}");
-        assert!(rt;
-            !has_type(&Value::Int(low - 1), &ty),
-            "below {low} of {ty:?}"
-        );
-        assert!(rt;
-            !has_type(&Value::Int(high + 1), &ty),
-            "above {high} of {ty:?}"
-        );
+        assert!(rt; !has_type(&Value::Int(below), &ty), "{below} of {ty:?}");
+        assert!(rt; !has_type(&Value::Int(above), &ty), "{above} of {ty:?}");
         assert!(rt; !has_type(&Value::Bool(true), &ty), "a bool of {ty:?}");
     }
 }
 
-/// A value of each form, of the types of the same number and of no other.
 #[test]
-fn forms(rt: HostRuntime) -> Result<(), Fail> {
+fn values_without_parts(rt: HostRuntime) {
+    for (value, of_bool, of_char, of_string) in [
+        (Value::Bool(false), true, false, false),
+        (Value::Char('\0'), false, true, false),
+        (Value::Char('\u{D7FF}'), false, true, false),
+        (Value::Char('\u{E000}'), false, true, false),
+        (Value::Char('\u{10FFFF}'), false, true, false),
+        (
+            Value::Str(Text::from_string(String::new(rt.alloc()))),
+            false,
+            false,
+            true,
+        ),
+        (Value::Int(0), false, false, false),
+    ] {
+        assert_eq!(rt; has_type(&value, &WitType::Bool), of_bool, "{value:?}");
+        assert_eq!(rt; has_type(&value, &WitType::Char), of_char, "{value:?}");
+        assert_eq!(rt; has_type(&value, &WitType::Str), of_string, "{value:?}");
+    }
+}
+
+/// Which of the built values are of each built type.
+#[test]
+fn built_values(rt: HostRuntime) -> Result<(), Fail> {
     let alloc = rt.alloc();
-    let types = vec![in alloc;
-        WitType::Bool,
-        WitType::U8,
-        WitType::Char,
-        WitType::Str,
-        WitType::List(Box::new(alloc, WitType::U8)?),
-        pair_type(alloc)?,
-        variant_type(alloc)?,
-        WitType::Flags(labels(alloc, 9)?),
-        WitType::Own(7),
-        WitType::Borrow(7),
-    ]?;
-    let values = vec![in alloc;
-        Value::Bool(false),
-        Value::Int(255),
-        Value::Char('\u{10FFFF}'),
-        Value::Str(Text::from_str(alloc, "")?),
-        list(vec![in alloc; Value::Int(0), Value::Int(255)]?),
-        pair(alloc, 1)?,
-        case(alloc, 0, Value::Int(-1))?,
-        Value::Flags(511),
-        Value::Handle(4294967295),
-    ]?;
-    for (i, ty) in types.iter().enumerate() {
-        for (k, value) in values.iter().enumerate() {
-            let same = i == k || (i == 9 && k == 8);
-            assert_eq!(rt; has_type(value, ty), same, "{value:?} of {ty:?}");
+    for (form, [one, other]) in [
+        (0, [0, 0]),
+        (1, [1, 1]),
+        (2, [5, 7]),
+        (3, [2, 2]),
+        (4, [10, 10]),
+        (5, [4, 5]),
+        (6, [4, 8]),
+        (7, [5, 7]),
+        (8, [4, 8]),
+        (9, [12, 12]),
+        (10, [12, 12]),
+    ] {
+        let ty = built_type(alloc, form)?;
+        for number in 0..15 {
+            let value = built_value(alloc, number)?;
+            let wanted = number == one || number == other;
+            assert_eq!(rt; has_type(&value, &ty), wanted, "{value:?} of {ty:?}");
         }
     }
     Ok(())
 }
 
-#[test]
-fn parts(rt: HostRuntime) -> Result<(), Fail> {
-    let alloc = rt.alloc();
-    let pair_of = pair_type(alloc)?;
-    assert!(rt; !has_type(&pair(alloc, 256)?, &pair_of));
-    assert!(rt; !has_type(&record(vec![in alloc; Value::Int(1)]?), &pair_of));
-    let short = WitType::Tuple(Types {
-        items: vec![in alloc; WitType::U8]?,
-    });
-    assert!(rt; has_type(&record(vec![in alloc; Value::Int(1)]?), &short));
-    assert!(rt; !has_type(&pair(alloc, 1)?, &short));
-    let bytes = WitType::List(Box::new(alloc, WitType::U8)?);
-    assert!(rt; has_type(&list(Vec::new(alloc)), &bytes));
-    assert!(rt;
-        !has_type(
-            &list(vec![in alloc; Value::Int(1), Value::Int(256)]?),
-            &bytes
-        )
-    );
-    let nine = WitType::Flags(labels(alloc, 9)?);
-    assert!(rt; !has_type(&Value::Flags(512), &nine));
-    let all = WitType::Flags(labels(alloc, 32)?);
-    assert!(rt; has_type(&Value::Flags(4294967295), &all));
-    assert!(rt; has_type(&Value::Char('\u{D7FF}'), &WitType::Char));
-    assert!(rt; has_type(&Value::Char('\u{E000}'), &WitType::Char));
-    Ok(())
-}
-
-/// For each number of a case, whether it may stand without a payload, and with a payload of 1.
-fn expect_cases(
-    rt: &impl Abort,
-    alloc: Global,
-    ty: &WitType,
-    rows: &[(bool, bool)],
-) -> Result<(), Fail> {
-    let mut number = 0;
-    for (bare, full) in rows {
-        assert_eq!(rt;
-            has_type(&Value::Variant(number, None), ty),
-            *bare,
-            "bare {number} of {ty:?}"
-        );
-        let value = case(alloc, number, Value::Int(1))?;
-        assert_eq!(rt; has_type(&value, ty), *full, "{value:?} of {ty:?}");
-        let wrong = case(alloc, number, Value::Bool(true))?;
-        assert!(rt; !has_type(&wrong, ty), "{wrong:?} of {ty:?}");
-        number = u32::wrapping_add(number, 1);
-    }
+fn expect_same<T: Debug>(rt: &impl Abort, alloc: Global, copy: &T, source: &T) -> Result<(), Fail> {
+    let copy = format!(in alloc; "{copy:?}")?;
+    let source = format!(in alloc; "{source:?}")?;
+    assert_eq!(rt; copy.as_str(), source.as_str());
     Ok(())
 }
 
 #[test]
-fn cases(rt: HostRuntime) -> Result<(), Fail> {
+fn copied_types(rt: HostRuntime) -> Result<(), Fail> {
     let alloc = rt.alloc();
-    let (bare, full, no) = ((true, false), (false, true), (false, false));
-    expect_cases(&rt, alloc, &variant_type(alloc)?, &[full, bare, no])?;
-    expect_cases(
-        &rt,
-        alloc,
-        &WitType::Enum(labels(alloc, 2)?),
-        &[bare, bare, no],
-    )?;
-    let option = WitType::Option(Box::new(alloc, WitType::U8)?);
-    expect_cases(&rt, alloc, &option, &[bare, full, no])?;
-    let ok = WitType::Result(boxed(alloc, WitType::U8)?, None);
-    expect_cases(&rt, alloc, &ok, &[full, bare, no])?;
-    let error = WitType::Result(None, boxed(alloc, WitType::U8)?);
-    expect_cases(&rt, alloc, &error, &[bare, full, no])?;
-    Ok(())
-}
-
-/// A type that has each form in it.
-fn all_forms(alloc: Global) -> Result<WitType, Fail> {
-    let simple = vec![in alloc;
+    for ty in [
         WitType::Bool,
         WitType::S8,
         WitType::U8,
@@ -213,72 +212,36 @@ fn all_forms(alloc: Global) -> Result<WitType, Fail> {
         WitType::U64,
         WitType::Char,
         WitType::Str,
-        WitType::Own(4),
-        WitType::Borrow(5),
-    ]?;
-    let items = vec![in alloc;
-        WitType::Tuple(Types { items: simple }),
-        pair_type(alloc)?,
-        variant_type(alloc)?,
-        WitType::List(Box::new(alloc, WitType::U8)?),
-        WitType::Flags(labels(alloc, 2)?),
-        WitType::Enum(labels(alloc, 3)?),
-        WitType::Option(Box::new(alloc, WitType::Char)?),
-        WitType::Result(None, boxed(alloc, WitType::S64)?),
-    ]?;
-    Ok(WitType::Tuple(Types { items }))
+    ] {
+        expect_same(&rt, alloc, &copy_type(alloc, &ty)?, &ty)?;
+    }
+    for form in 0..11 {
+        let ty = built_type(alloc, form)?;
+        expect_same(&rt, alloc, &copy_type(alloc, &ty)?, &ty)?;
+    }
+    Ok(())
 }
 
 #[test]
-fn copies(rt: HostRuntime) -> Result<(), Fail> {
+fn copied_values(rt: HostRuntime) -> Result<(), Fail> {
     let alloc = rt.alloc();
-    let ty = all_forms(alloc)?;
-    let copy = copy_type(alloc, &ty)?;
-    assert_eq!(rt;
-        format!(in alloc; "{copy:?}")?,
-        format!(in alloc; "{ty:?}")?
-    );
-    let params = vec![in alloc;
-        Field {
-            name: Text::from_str(alloc, "all")?,
-            ty
-        },
-    ]?;
-    for result in [None, Some(copy)] {
-        let func = FuncType {
-            params: Fields {
-                items: Vec::new(alloc),
-            },
-            result,
-        };
-        let copy = copy_func(alloc, &func)?;
-        assert_eq!(rt;
-            format!(in alloc; "{copy:?}")?,
-            format!(in alloc; "{func:?}")?
-        );
+    for value in [Value::Bool(true), Value::Int(-5), Value::Char('x')] {
+        expect_same(&rt, alloc, &copy_value(alloc, &value)?, &value)?;
     }
-    let func = FuncType {
-        params: Fields { items: params },
-        result: None,
-    };
-    let copy = copy_func(alloc, &func)?;
-    assert_eq!(rt;
-        format!(in alloc; "{copy:?}")?,
-        format!(in alloc; "{func:?}")?
-    );
-    let values = vec![in alloc;
-        Value::Bool(true),
-        Value::Int(-5),
-        Value::Char('x'),
-        pair(alloc, 3)?,
-        list(vec![in alloc; case(alloc, 1, Value::Flags(6))?, Value::Variant(2, None)]?),
-        Value::Handle(9),
-    ]?;
-    let value = record(values);
-    let copy = copy_value(alloc, &value)?;
-    assert_eq!(rt;
-        format!(in alloc; "{copy:?}")?,
-        format!(in alloc; "{value:?}")?
-    );
+    for form in 0..15 {
+        let value = built_value(alloc, form)?;
+        expect_same(&rt, alloc, &copy_value(alloc, &value)?, &value)?;
+    }
+    Ok(())
+}
+
+#[test]
+fn copied_functions(rt: HostRuntime) -> Result<(), Fail> {
+    let alloc = rt.alloc();
+    for result in [None, Some(WitType::Char)] {
+        let params = fields(alloc, WitType::Str, WitType::Own(3))?;
+        let func = FuncType { params, result };
+        expect_same(&rt, alloc, &copy_func(alloc, &func)?, &func)?;
+    }
     Ok(())
 }
