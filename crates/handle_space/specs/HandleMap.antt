@@ -1,5 +1,5 @@
 -- Handle tables (Component Model, CanonicalABI.md, "Table State" and "Resource State"), over whatever a handle stands for.
-use Rattle.std.specs.Prelude.{ℕ, ◌+◌, ◌-◌, ◌<◌, ◌==◌, ◌&&◌, Bool, true, false, List, [], ◌∷◌, ◌++◌, length, count_by, Option, Some, None, is_some, nat_lt, if◌then◌else◌, slice_index_or, slice_set, IsSomeAnd}
+use Rattle.std.specs.Prelude.{ℕ, ◌+◌, ◌-◌, ◌<◌, ◌==◌, ◌&&◌, Bool, true, false, List, [], ◌∷◌, ◌++◌, length, map, count_by, Option, Some, None, is_some, nat_lt, if◌then◌else◌, slice_index_or, slice_set, IsSomeAnd}
 use Rattle.std.specs.Option.{option_map, option_and_then}
 
 -- A handle: its resource, what it stands for, whether it owns or borrows, and how often it is lent now.
@@ -108,3 +108,18 @@ module _ {R : Type 0} where
 
   abbrev pub rep_of : HandleMap R → ℕ → ℕ → Option R
   rep_of m index resource = option_map (λ e. e.rep) (entry_of m index resource)
+
+-- ---- the same map with each handle standing for what f gives
+
+module _ {R Q : Type 0} where
+  abbrev pub entry_over : (R → Q) → Entry R → Entry Q
+  entry_over f e = record { resource = e.resource; rep = f e.rep; owned = e.owned; lent = e.lent }
+
+  abbrev pub held_over : (R → Q) → Held R → Held Q
+  held_over f h = record { owned = h.owned; rep = f h.rep }
+
+  abbrev pub map_over : (R → Q) → HandleMap R → HandleMap Q
+  map_over f m = record { entries = map (option_map (entry_over f)) m.entries; freed = m.freed }
+
+  abbrev pub answered_over : {A B : Type 0} → (R → Q) → (A → B) → Answered R A → Answered Q B
+  answered_over f g a = record { answer = g a.answer; map = map_over f a.map }
