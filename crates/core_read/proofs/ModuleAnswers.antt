@@ -8,12 +8,12 @@ use Rattle.wasm_ast.specs.declared.section.CoreSection.{CoreSection}
 use Rattle.virt_base.specs.declared.cursor.Cursor.{Cursor}
 use Rattle.virt_base.specs.Place.{Place, Takes, Gives, rest, place}
 use Rattle.wasm_format.specs.Format.{Format, fixed}
-use Rattle.wasm_format.proofs.Laws.{exact_fixed}
+use Rattle.wasm_format.proofs.Laws.{exact_fixed, ok_is}
 use Rattle.wasm_format.specs.Sections.{Sections, SectionsSpell, built, SpellsTo, Run, run, Ran}
 use Rattle.wasm_ast.specs.Modules.{Progress, preamble, section, sections, no_sections, all_sections, core_module, SpellsModule}
-use Rattle.core_read.specs.Answers.{MeetsTag, IsLongest, IsNoModule}
+use Rattle.core_read.specs.Answers.{MeetsTag, IsLongest, IsNoModule, IsTheModule}
 use Rattle.wasm_format.proofs.SectionLaws.{run_ok, run_unsupported, run_good, run_longest, run_all, run_tag}
-use Rattle.wasm_ast.proofs.ModuleLaws.{exact_sections}
+use Rattle.wasm_ast.proofs.ModuleLaws.{exact_sections, exact_core_module}
 
 abbrev pub whole_run : List ℕ → List ℕ → Run Progress
 whole_run bytes body = run sections (length body) no_sections 0 8 body
@@ -55,8 +55,17 @@ spelled_is_ok bytes body m e spelled_so =
     let may : sections.can_end (built sections no_sections parts) ≡ true = ap sections.can_end s.3.2 ∙ s.3.3 in
     (built sections no_sections parts, run_all sections exact_sections parts (length body) no_sections 0 8 body (omega (arith, long bytes body e)) spelled may)
 
-pub ok_spells : (bytes body : List ℕ) (t : Progress) → bytes ≡ preamble ++ body → (whole_run bytes body).outcome ≡ Ok t → SpellsModule t.found bytes
+ok_spells : (bytes body : List ℕ) (t : Progress) → bytes ≡ preamble ++ body → (whole_run bytes body).outcome ≡ Ok t → SpellsModule t.found bytes
 ok_spells bytes body t e h = from_parts t.found bytes (body, t, e, run_ok sections exact_sections (length body) no_sections 0 8 body t h, refl)
+
+-- no bytes spell two modules
+only_one : (m n : Module) (text : List ℕ) → SpellsModule m text → SpellsModule n text → n ≡ m
+only_one m n text s t =
+    let e = ok_is (n, record { at = 0 + length text; rest = [] }) (m, record { at = 0 + length text; rest = [] }) (sym (exact_core_module.again n text 0 t) ∙ exact_core_module.again m text 0 s) in
+    ap (λ (x : Module × Place). x.0) e
+
+pub ok_is_the_module : (bytes body : List ℕ) (t : Progress) → bytes ≡ preamble ++ body → (whole_run bytes body).outcome ≡ Ok t → IsTheModule t.found bytes
+ok_is_the_module bytes body t e h = let s = ok_spells bytes body t e h in (s, λ n other. only_one t.found n bytes s other)
 
 pub unsupported_meets : (bytes body : List ℕ) (a byte : ℕ) → bytes ≡ preamble ++ body → (whole_run bytes body).outcome ≡ Err (stops.Unsupported a byte) → MeetsTag a byte bytes × IsNoModule bytes
 unfolding sections

@@ -21,8 +21,12 @@ IsLongest at text = ((at ≡ 0) ⊎ ((m : Module) × SpellsModule m (take at tex
 abbrev pub IsNoModule : List ℕ → Type 0
 IsNoModule text = (m : Module) → SpellsModule m text → ⊥
 
+-- The text is a spelling of this module, and of no other.
+abbrev pub IsTheModule : Module → List ℕ → Type 0
+IsTheModule m text = SpellsModule m text × ((n : Module) → SpellsModule n text → n ≡ m)
+
 abbrev pub Answers : Result Module ReadFault → List ℕ → Type 0
-Answers (Ok m) text = SpellsModule m text
+Answers (Ok m) text = IsTheModule m text
 Answers (Err (Unsupported at byte)) text = MeetsTag at byte text × IsNoModule text
 Answers (Err (Malformed at)) text = IsLongest at text × IsNoModule text × ((a byte : ℕ) → MeetsTag a byte text → ⊥)
 Answers (Err NoMemory) text = Unit {0}

@@ -6,31 +6,7 @@ use virt_base::NoMemory;
 use wasm_ast::{ExportItem, Instr, Op};
 use wasm_format::{put_byte, put_bytes, put_u32};
 
-fn digit(char: u8) -> u8
-    ensures { result < 16 }
-{
-    match char {
-        b'0'..=b'9' => char - b'0',
-        b'a'..=b'f' => char - b'a' + 10,
-        _ => 0,
-    }
-}
-
-/// The bytes of hexadecimal digits.
-fn bytes_of(alloc: Global, text: &str) -> Result<Vec<u8>, NoMemory> {
-    let mut bytes = Vec::new(alloc);
-    let mut high = None;
-    for char in text.as_bytes() {
-        match high {
-            None => high = Some(digit(*char)),
-            Some(first) => {
-                bytes.push(first * 16 + digit(*char))?;
-                high = None;
-            }
-        }
-    }
-    Ok(bytes)
-}
+use ReadFault::{Malformed, Unsupported};
 
 /// What reading bytes answers, where it is no module.
 fn fault_of(alloc: Global, bytes: &[u8]) -> Option<ReadFault> {
@@ -63,7 +39,7 @@ fn modules(rt: HostRuntime) -> Result<(), Fail> {
         ("0061736d0100000001848080800001600000", None),
         ("0061736d010000000184808080800001600000", Some(Malformed(8))),
     ] {
-        let bytes = bytes_of(alloc, text)?;
+        let bytes = hex::decode(alloc, text.as_bytes())?;
         assert_eq!(rt; fault_of(alloc, bytes.as_slice()), want, "{text}");
     }
     Ok(())
@@ -236,7 +212,7 @@ fn code(rt: HostRuntime) -> Result<(), Fail> {
             Some(Malformed(14)),
         ),
     ] {
-        let bytes = bytes_of(alloc, text)?;
+        let bytes = hex::decode(alloc, text.as_bytes())?;
         assert_eq!(rt; fault_of(alloc, bytes.as_slice()), want, "{text}");
     }
     Ok(())
@@ -301,7 +277,7 @@ fn items(rt: HostRuntime) -> Result<(), Fail> {
         ("0061736d0100000001020060", Some(Malformed(8))),
         ("0061736d010000000106026000006000", Some(Malformed(8))),
     ] {
-        let bytes = bytes_of(alloc, text)?;
+        let bytes = hex::decode(alloc, text.as_bytes())?;
         assert_eq!(rt; fault_of(alloc, bytes.as_slice()), want, "{text}");
     }
     Ok(())
@@ -373,7 +349,7 @@ fn sections(rt: HostRuntime) -> Result<(), Fail> {
         ("0061736d010000000901000c01000a01000b0100", None),
         ("0061736d010000000a01000c0100", Some(Malformed(11))),
     ] {
-        let bytes = bytes_of(alloc, text)?;
+        let bytes = hex::decode(alloc, text.as_bytes())?;
         assert_eq!(rt; fault_of(alloc, bytes.as_slice()), want, "{text}");
     }
     Ok(())
@@ -383,11 +359,8 @@ fn sections(rt: HostRuntime) -> Result<(), Fail> {
 #[test]
 fn seven_and_its_cuts(rt: HostRuntime) -> Result<(), Fail> {
     let alloc = rt.alloc();
-    let bytes = bytes_of(
-        alloc,
-        "0061736d010000000105016000017f03020100070501016600000a0601040041070b",
-    )?;
-    for n in 0..34 {
+    let bytes = hex::decode(alloc, b"0061736d010000000105016000017f03020100070501016600000a0601040041070b".as_slice())?;
+    for n in 0..bytes.len() {
         let want = match n {
             8 | 15 => None,
             0..=7 => Some(Malformed(0)),
@@ -420,7 +393,7 @@ fn seven_and_its_cuts(rt: HostRuntime) -> Result<(), Fail> {
 }
 
 /// A module whose one function has this code, which is to be long.
-fn large_module(alloc: Global, code: &[u8]) -> Result<Vec<u8>, NoMemory> {
+fn large_module(alloc: Global, code: &[u8]) -> Result<Vec<u8>, Fail> {
     let mut body = Vec::new(alloc);
     put_byte(alloc, &mut body, 0)?;
     put_bytes(alloc, &mut body, code)?;
@@ -428,7 +401,7 @@ fn large_module(alloc: Global, code: &[u8]) -> Result<Vec<u8>, NoMemory> {
     put_byte(alloc, &mut content, 1)?;
     put_u32(alloc, &mut content, length(body.as_slice()))?;
     put_bytes(alloc, &mut content, body.as_slice())?;
-    let mut out = bytes_of(alloc, "0061736d01000000010401600000030201000a")?;
+    let mut out = hex::decode(alloc, b"0061736d01000000010401600000030201000a".as_slice())?;
     put_u32(alloc, &mut out, length(content.as_slice()))?;
     put_bytes(alloc, &mut out, content.as_slice())?;
     Ok(out)
@@ -468,11 +441,8 @@ fn large(rt: HostRuntime) -> Result<(), Fail> {
     put_u32(alloc, &mut labels, 1_000_000)?;
     repeat(alloc, &mut labels, b"\x00", 1_000_001)?;
     put_byte(alloc, &mut labels, 0x0B)?;
-    assert_eq!(rt;
-        fault_of(alloc, large_module(alloc, labels.as_slice())?.as_slice()),
-        None
-    );
-    let claims = bytes_of(alloc, "0061736d010000000305ffffffff0f")?;
+    assert_eq!(rt; fault_of(alloc, large_module(alloc, labels.as_slice())?.as_slice()), None);
+    let claims = hex::decode(alloc, b"0061736d010000000305ffffffff0f".as_slice())?;
     assert_eq!(rt; fault_of(alloc, claims.as_slice()), Some(Malformed(8)));
     Ok(())
 }

@@ -1,6 +1,6 @@
 use Rattle.std.proofs.Common.{◌≡◌, ℕ, ◌∙◌, sym}
 use Rattle.virt_base.specs.Place.{rest}
-use Rattle.core_read.proofs.ModuleAnswers.{ok_spells, unsupported_meets, malformed_is_longest, none_without_preamble, front_taken, no_front, from_start, outcome_of, ran_err}
+use Rattle.core_read.proofs.ModuleAnswers.{ok_is_the_module, unsupported_meets, malformed_is_longest, none_without_preamble, front_taken, no_front, from_start, outcome_of, ran_err}
 use Rattle.core_read.proofs.reading.read_module.Goals as goal
 
 pub returns-then-is_err : goal.returns-then-is_err
@@ -10,7 +10,7 @@ pub returns-in-Ok : goal.returns-in-Ok
 returns-in-Ok c =
     let body = rest c.expect_bytes.new.c in
     let front = front_taken c.args.bytes.now c.expect_bytes.result c.expect_bytes.new.c (sym c.is_err.ensures.value ∙ c.if-is_err.false) (rw c.as_slice.ensures at c.expect_bytes.ensures.given) in
-    rw c.module.ensures (ok_spells c.args.bytes.now body c.in-Ok.progress front.0 (outcome_of _ _ _ (from_start c.args.bytes.now body _ c.start.result c.expect_bytes.new.c.at c.start.ensures front.1 c.in-Ok.ensures.ran)))
+    rw c.module.ensures (ok_is_the_module c.args.bytes.now body c.in-Ok.progress front.0 (outcome_of _ _ _ (from_start c.args.bytes.now body _ c.start.result c.expect_bytes.new.c.at c.start.ensures front.1 c.in-Ok.ensures.ran)))
 
 pub returns-in-Err-Malformed : goal.returns-in-Err-Malformed
 returns-in-Err-Malformed c =
