@@ -1,8 +1,8 @@
 -- The type of a block is a tag or an index, by its first byte.
-use Rattle.std.proofs.Common.{◌≡◌, ℕ, Bool, true, false, List, [], ◌∷◌, Err, refl, sym, ap, subst}
+use Rattle.std.proofs.Common.{◌≡◌, ℕ, Bool, true, false, List, [], ◌∷◌, Err, refl, subst}
 use Rattle.virt_base.specs.Place.{Place}
 use Rattle.wasm_format.specs.declared.stop.Stop.TheVariants.{Malformed}
-use Rattle.wasm_format.specs.Format.{Format, choose, is_tag_byte}
+use Rattle.wasm_format.specs.Format.{choose, is_tag_byte}
 use Rattle.wasm_ast.specs.Types.{tagged_block, numbered_block, block_type}
 
 pub is_none : (p : Place) → p.rest ≡ [] → block_type.read p ≡ Err Malformed

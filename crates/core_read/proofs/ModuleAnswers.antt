@@ -1,16 +1,15 @@
 -- What reading the sections of a module gives says whether its bytes are a module.
-use Rattle.std.proofs.Common.{◌≡◌, ℕ, zero, suc, ◌+◌, ◌-◌, ◌<◌, ◌≤◌, Bool, true, false, List, [], ◌∷◌, ◌++◌, length, take, drop, Result, Ok, Err, is_err, ◌⊎◌, refl, sym, ap, subst, ◌∙◌, append_assoc, arith, inl, inr}
+use Rattle.std.proofs.Common.{◌≡◌, ℕ, ◌+◌, ◌≤◌, true, false, List, [], ◌++◌, length, take, drop, Result, Ok, Err, is_err, ◌⊎◌, refl, sym, ap, subst, ◌∙◌, append_assoc, arith, inl, inr}
 use Rattle.std.proofs.lemmas.List.{length-append, length-take, take-append-drop, take_at, drop_at}
 use Rattle.wasm_format.specs.declared.stop.Stop.{Stop}
 use Rattle.wasm_format.specs.declared.stop.Stop.TheVariants as stops
 use Rattle.wasm_ast.specs.declared.module.Module.{Module}
-use Rattle.wasm_ast.specs.declared.section.CoreSection.{CoreSection}
 use Rattle.virt_base.specs.declared.cursor.Cursor.{Cursor}
-use Rattle.virt_base.specs.Place.{Place, Takes, Gives, rest, place}
-use Rattle.wasm_format.specs.Format.{Format, fixed}
+use Rattle.virt_base.specs.Place.{Place, Gives, rest, place}
+use Rattle.wasm_format.specs.Format.{fixed}
 use Rattle.wasm_format.proofs.Laws.{exact_fixed, ok_is}
-use Rattle.wasm_format.specs.Sections.{Sections, SectionsSpell, built, SpellsTo, Run, run, Ran}
-use Rattle.wasm_ast.specs.Modules.{Progress, preamble, section, sections, no_sections, all_sections, core_module, SpellsModule}
+use Rattle.wasm_format.specs.Sections.{SectionsSpell, built, SpellsTo, Run, run, Ran}
+use Rattle.wasm_ast.specs.Modules.{Progress, preamble, sections, no_sections, all_sections, core_module, SpellsModule}
 use Rattle.core_read.specs.Answers.{MeetsTag, IsLongest, IsNoModule, IsTheModule}
 use Rattle.wasm_format.proofs.SectionLaws.{run_ok, run_unsupported, run_good, run_longest, run_all, run_tag}
 use Rattle.wasm_ast.proofs.ModuleLaws.{exact_sections, exact_core_module}

@@ -6,8 +6,6 @@ use virt_base::NoMemory;
 use wasm_ast::{ExportItem, Instr, Op};
 use wasm_format::{put_byte, put_bytes, put_u32};
 
-use ReadFault::{Malformed, Unsupported};
-
 /// What reading bytes answers, where it is no module.
 fn fault_of(alloc: Global, bytes: &[u8]) -> Option<ReadFault> {
     match read_module(alloc, bytes) {
@@ -359,7 +357,10 @@ fn sections(rt: HostRuntime) -> Result<(), Fail> {
 #[test]
 fn seven_and_its_cuts(rt: HostRuntime) -> Result<(), Fail> {
     let alloc = rt.alloc();
-    let bytes = hex::decode(alloc, b"0061736d010000000105016000017f03020100070501016600000a0601040041070b".as_slice())?;
+    let bytes = hex::decode(
+        alloc,
+        b"0061736d010000000105016000017f03020100070501016600000a0601040041070b".as_slice(),
+    )?;
     for n in 0..bytes.len() {
         let want = match n {
             8 | 15 => None,
@@ -441,7 +442,10 @@ fn large(rt: HostRuntime) -> Result<(), Fail> {
     put_u32(alloc, &mut labels, 1_000_000)?;
     repeat(alloc, &mut labels, b"\x00", 1_000_001)?;
     put_byte(alloc, &mut labels, 0x0B)?;
-    assert_eq!(rt; fault_of(alloc, large_module(alloc, labels.as_slice())?.as_slice()), None);
+    assert_eq!(rt;
+        fault_of(alloc, large_module(alloc, labels.as_slice())?.as_slice()),
+        None
+    );
     let claims = hex::decode(alloc, b"0061736d010000000305ffffffff0f".as_slice())?;
     assert_eq!(rt; fault_of(alloc, claims.as_slice()), Some(Malformed(8)));
     Ok(())

@@ -1,4 +1,4 @@
-use Rattle.std.proofs.Common.{◌≡◌, ℕ, ◌∙◌, sym}
+use Rattle.std.proofs.Common.{◌∙◌, sym}
 use Rattle.virt_base.specs.Place.{rest}
 use Rattle.core_read.proofs.ModuleAnswers.{ok_is_the_module, unsupported_meets, malformed_is_longest, none_without_preamble, front_taken, no_front, from_start, outcome_of, ran_err}
 use Rattle.core_read.proofs.reading.read_module.Goals as goal

@@ -1,4 +1,4 @@
-use Rattle.std.proofs.Common.{◌≡◌, sym, ◌∙◌}
+use Rattle.std.proofs.Common.{sym, ◌∙◌}
 use Rattle.virt_base.specs.Place.{place}
 use Rattle.core_read.proofs.BlockTypes.{is_none, is_tag, is_number}
 use Rattle.core_read.proofs.types.BlockTypeReaderReader.read.Goals as goal
