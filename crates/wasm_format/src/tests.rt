@@ -4,7 +4,6 @@ use crate::numbers::{S32, S33Index, S64, U32};
 use crate::put::{put_byte, put_signed, put_u32};
 use crate::reader::{CountedVecs, Reader, Sized, Vecs};
 use crate::stop::Stop;
-use crate::writer::Writer;
 use std::test::Fail;
 use virt_base::Cursor;
 
@@ -60,16 +59,9 @@ fn numbers(rt: HostRuntime) -> Result<(), Fail> {
     put_byte(alloc, &mut out, 0xFF)?;
     put_u32(alloc, &mut out, 624485)?;
     put_signed(alloc, &mut out, -123456)?;
-    U32.write(alloc, &mut out, &127)?;
-    S32.write(alloc, &mut out, &-1)?;
-    S64.write(alloc, &mut out, &64)?;
-    S33Index.write(alloc, &mut out, &64)?;
     assert_eq!(rt;
         out.as_slice(),
-        [
-            0xFF, 0xE5, 0x8E, 0x26, 0xC0, 0xBB, 0x78, 0x7F, 0x7F, 0xC0, 0x00, 0xC0, 0x00
-        ]
-        .as_slice()
+        [0xFF, 0xE5, 0x8E, 0x26, 0xC0, 0xBB, 0x78].as_slice()
     );
     Ok(())
 }
@@ -106,14 +98,5 @@ fn lists(rt: HostRuntime) -> Result<(), Fail> {
         item: U32,
     };
     assert!(rt; more.read(alloc, &mut c).is_err());
-    let mut out = Vec::new(alloc);
-    Names.write(alloc, &mut out, &name)?;
-    ByteLists.write(alloc, &mut out, &content)?;
-    Sized(Vecs(U32)).write(alloc, &mut out, &numbers)?;
-    counted.write(alloc, &mut out, &numbers)?;
-    assert_eq!(rt;
-        out.as_slice(),
-        [2, b'o', b'k', 2, b'o', b'k', 3, 2, 5, 6, 2, 5, 6].as_slice()
-    );
     Ok(())
 }
