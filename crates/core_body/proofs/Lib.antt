@@ -1,0 +1,11 @@
+pub mod Fits
+pub mod Opens
+pub mod Steps
+pub mod Complete
+pub mod StackLemmas
+pub mod LevelLemmas
+pub mod ConditionLemmas
+pub mod RunLemmas
+pub mod TableLemmas
+pub mod CodeLemmas
+pub mod PromiseLemmas

@@ -1,0 +1,17 @@
+use Rattle.std.proofs.Common.{◌∙◌, [], ◌∷◌}
+use Rattle.core_body.specs.declared.operand.Operand.TheVariants.{Known}
+use Rattle.core_body.proofs.stack.Stack.take_three.Goals as goal
+
+pub returns-then-not-take-clause-no : goal.returns-then-not-take-clause-no
+returns-then-not-take-clause-no c = c.if-not-take.ensures.no (Known c.args.b ∷ Known c.args.a ∷ [])
+
+pub returns-then-not-take-2-clause-no : goal.returns-then-not-take-2-clause-no
+returns-then-not-take-2-clause-no c = c.if-not-take.ensures.yes (Known c.args.b ∷ Known c.args.a ∷ []) ∙ c.if-not-take-2.ensures.no (Known c.args.a ∷ [])
+
+pub returns-then-not-take-3-clause-no : goal.returns-then-not-take-3-clause-no
+returns-then-not-take-3-clause-no c =
+    c.if-not-take.ensures.yes (Known c.args.b ∷ Known c.args.a ∷ []) ∙ c.if-not-take-2.ensures.yes (Known c.args.a ∷ []) ∙ c.if-not-take-3.ensures.no []
+
+pub returns-clause-yes : goal.returns-clause-yes
+returns-clause-yes c =
+    c.if-not-take.ensures.yes (Known c.args.b ∷ Known c.args.a ∷ []) ∙ c.if-not-take-2.ensures.yes (Known c.args.a ∷ []) ∙ c.if-not-take-3.ensures.yes []

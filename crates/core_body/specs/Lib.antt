@@ -1,0 +1,14 @@
+pub mod Context
+pub mod Shapes
+pub mod Typing
+pub mod Conditions
+pub mod Locals
+pub mod Runs
+pub mod Groups
+pub mod Signatures
+pub mod Machine
+pub mod Views
+pub mod Levels
+pub mod Stack
+pub mod Faults
+pub mod Promise

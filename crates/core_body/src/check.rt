@@ -1,0 +1,158 @@
+//! One pass over code, which finds the least rule that it breaks.
+
+ghost use Rattle.std.specs.Prelude.{◌≡◌, ◌++◌, IfOk, Some, None, if◌then◌else◌, nat_le, sum_by};
+ghost use Rattle.core_body.specs.Faults.{with_types, first_labels, code_fault, body_fault, expression_fault};
+ghost use Rattle.core_body.specs.Context.{Context};
+ghost use Rattle.core_body.specs.Levels.{state_at};
+ghost use Rattle.core_body.specs.Machine.{is_finished};
+ghost use Rattle.core_body.specs.declared.levels.Progress.{Progress};
+ghost use Rattle.core_body.specs.Views.{context_of, context_at};
+
+use crate::conditions::{breach, labels_behind, lesser};
+use crate::levels::Verdict;
+use crate::locals::Locals;
+use crate::spaces::{Scope, Spaces, only};
+use crate::step::{advance, begin};
+use std::alloc::Global;
+use virt_base::{CoreType, NoMemory};
+use wasm_ast::{Body, Instr, LocalRun};
+
+fn with_types(rule: Option<u32>, typed: bool) -> Option<u32>
+    ensures { result ≡ with_types rule typed }
+{
+    if typed { rule } else { lesser(rule, Some(7)) }
+}
+
+fn first_labels(in_body: bool) -> usize
+    ensures { result ≡ first_labels in_body }
+{
+    if in_body { 1 } else { 0 }
+}
+
+fn is_over(verdict: Verdict) -> bool
+    ensures { (c : Context) (p : Progress) → result ≡ is_finished (state_at c verdict p) }
+{
+    match verdict {
+        Verdict::Over => true,
+        Verdict::Goes | Verdict::Refused => false,
+    }
+}
+
+fn check_code(alloc: Global, scope: &Scope<'_>, code: &[Instr]) -> Result<Option<u32>, NoMemory>
+    ensures { IfOk result (λ rule. rule ≡ code_fault (context_of scope.now) scope.now.in_body code.now) }
+{
+    let mut p = begin(scope, alloc);
+    let mut verdict = Verdict::Goes;
+    let mut rule = None;
+    let mut labels = first_labels(scope.in_body);
+    let _count = code.len();
+    for instr in code {
+        rule = lesser(rule, breach(scope, labels, instr));
+        labels = labels_behind(labels, instr);
+        verdict = advance(scope, &mut p, verdict, instr)?;
+    }
+    Ok(with_types(rule, is_over(verdict)))
+}
+
+/// The rule on the number of declared locals, where there are more than 50,000.
+fn few_locals(runs: &[LocalRun]) -> Option<u32>
+    ensures { result ≡ (if nat_le (sum_by (λ r. r.count) runs.now) 50000 then None else Some 11) }
+{
+    let mut left = 50_000;
+    for run in runs {
+        if run.count > left {
+            return Some(11);
+        }
+        left -= run.count;
+    }
+    None
+}
+
+/// The least rule that the body of a function with these parameters and results breaks.
+pub fn check_body(
+    alloc: Global,
+    spaces: &Spaces<'_>,
+    params: &[CoreType],
+    results: &[CoreType],
+    body: &Body,
+) -> Result<Option<u32>, NoMemory>
+    ensures { IfOk result (λ rule. rule ≡ body_fault (context_at spaces.now) params.now results.now body.now) }
+{
+    let locals = Locals::new(alloc, params, body.locals.as_slice())?;
+    let scope = Scope {
+        spaces: *spaces,
+        locals,
+        in_body: true,
+        due: results,
+    };
+    let rule = check_code(alloc, &scope, body.code.as_slice())?;
+    Ok(lesser(few_locals(body.locals.as_slice()), rule))
+}
+
+/// The least rule that a constant expression breaks, which has to give one value of this type.
+pub fn check_expression(
+    alloc: Global,
+    spaces: &Spaces<'_>,
+    due: CoreType,
+    code: &[Instr],
+) -> Result<Option<u32>, NoMemory>
+    ensures { IfOk result (λ rule. rule ≡ expression_fault (context_at spaces.now) due code.now) }
+{
+    let scope = Scope {
+        spaces: *spaces,
+        locals: Locals::none(alloc),
+        in_body: false,
+        due: only(due),
+    };
+    check_code(alloc, &scope, code)
+}
+
+#[cfg(test)]
+mod tests {
+    use super::{check_body, check_expression};
+    use crate::{Spaces, lesser, operands_are_found, same_ref, value_of};
+    use std::test::Fail;
+    use virt_base::{CoreType, Items};
+    use wasm_ast::{BlockType, Body, Instr, Op, RefType};
+
+    #[test]
+    fn a_body_and_an_expression(rt: HostRuntime) -> Result<(), Fail> {
+        let spaces = Spaces {
+            types: &[],
+            functions: &[],
+            tables: &[],
+            memories: 0,
+            globals: &[],
+            imported_globals: 0,
+            elements: &[],
+            data_count: None,
+            refs: &[],
+        };
+        let mut code = Items::empty(rt.alloc());
+        code.push(Instr::Plain(Op::I32Const(1)))?;
+        code.push(Instr::End)?;
+        let body = Body {
+            locals: Items::empty(rt.alloc()),
+            code,
+        };
+        let one = [CoreType::I32];
+        assert_eq!(rt; check_body(rt.alloc(), &spaces, &[], &one, &body)?, None);
+        assert_eq!(rt; check_body(rt.alloc(), &spaces, &[], &[], &body)?, Some(7));
+        let code = body.code.as_slice();
+        assert_eq!(rt;
+            check_expression(rt.alloc(), &spaces, CoreType::I32, code)?,
+            None
+        );
+        assert_eq!(rt;
+            check_expression(rt.alloc(), &spaces, CoreType::I64, code)?,
+            Some(7)
+        );
+        assert!(rt; spaces.function_type(0).is_none());
+        assert!(rt; spaces.block_type(BlockType::Value(CoreType::I64)).is_some());
+        assert_eq!(rt; lesser(Some(3), Some(2)), Some(2));
+        assert!(rt; !same_ref(RefType::Func, RefType::Extern));
+        assert_eq!(rt; value_of(RefType::Extern), CoreType::Externref);
+        operands_are_found();
+        Ok(())
+    }
+}

@@ -1,0 +1,7 @@
+use Rattle.std.proofs.Common.{◌≡◌, take}
+use Rattle.core_validate.specs.Gather.{gather}
+use Rattle.core_validate.specs.Spaces.{memories_of}
+use Rattle.core_validate.proofs.collect.imported_memories.Given as goal
+
+abbrev pub invariant-loop-import : goal.invariant-loop-import
+invariant-loop-import l = l.list.items ≡ gather (λ i. memories_of i.item) (take l.import-index l.imports)

@@ -1,0 +1,9 @@
+pub mod Gather
+pub mod Spaces
+pub mod Items
+pub mod Validity
+pub mod Typed
+pub mod Faults
+pub mod Views
+pub mod Seen
+pub mod Answer

@@ -1,0 +1,18 @@
+//! Validation of core modules: sixteen numbered rules, asked of each item in order.
+#![tactic(auto)]
+
+mod collect;
+mod contents;
+mod item;
+mod items;
+mod marks;
+mod names;
+mod segments;
+mod spaces;
+#[cfg(test)]
+mod tests;
+mod types;
+mod whole;
+
+pub use item::{CoreExport, CoreExports, CoreFault, CoreImport, CoreImports, CoreItem, ModuleType};
+pub use whole::validate;
