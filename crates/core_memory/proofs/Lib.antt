@@ -1,0 +1,7 @@
+pub mod Contents
+pub mod Numbers
+pub mod Parts
+pub mod Sequence
+pub mod Turns
+pub mod Marks
+pub mod Memories
