@@ -1,0 +1,4 @@
+pub mod NetworkTexts
+pub mod PathEntries
+pub mod PathNames
+pub mod PathOrder
