@@ -1,0 +1,12 @@
+pub mod Search
+pub mod PartLemmas
+pub mod Resolve
+pub mod WalkLemmas
+pub mod ForestLemmas
+pub mod RowLemmas
+pub mod OrderLemmas
+pub mod LayLemmas
+pub mod LinkLemmas
+pub mod BuildLemmas
+pub mod SlotLemmas
+pub mod CheckLemmas

@@ -1,0 +1,11 @@
+pub mod Paths
+pub mod Faults
+pub mod Folders
+pub mod Turns
+pub mod Forests
+pub mod Trees
+pub mod Tables
+pub mod Slots
+pub mod Orders
+pub mod Linked
+pub mod Checks
