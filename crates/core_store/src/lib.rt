@@ -1,0 +1,27 @@
+//! The store of core modules: functions, tables, memories, globals, segments and instances, each named by its place.
+#![tactic(auto)]
+
+mod globals;
+mod makers;
+mod memories;
+mod state;
+mod table;
+mod tables;
+mod value;
+
+pub use core_code::{Code, Jump};
+pub use core_integer::integer;
+pub use core_memory::StoreFault;
+pub use globals::{global_get, global_set};
+pub use makers::{
+    add_elements, add_function, add_global, add_instance, add_memory, add_segment, add_table,
+};
+pub use memories::{copy, drop_segment, fill, grow, init, load, size, store_at};
+pub use state::{Store, function, instances, spaces};
+pub use tables::{
+    drop_element, table_copy, table_fill, table_get, table_grow, table_init, table_set, table_size,
+};
+pub use value::{CoreRef, CoreRefs, CoreSpaces, CoreValue, StoreFunc, TooDeep};
+
+#[cfg(test)]
+mod tests;

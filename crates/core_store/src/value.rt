@@ -1,0 +1,54 @@
+use core_code::Code;
+use virt_base::{CoreTypes, Items};
+use wasm_ast::{CoreFunc, Indexes};
+
+/// A reference: null, or a function by its place in the store.
+#[derive(Debug, Clone, Copy, PartialEq, Eq)]
+pub enum CoreRef {
+    Null,
+    Func(u32),
+}
+
+/// References in order.
+pub type CoreRefs = Items<CoreRef>;
+
+/// A value (WebAssembly Core 2.0, section 4.2.1). Integers are kept without a sign.
+#[derive(Debug, Clone, Copy, PartialEq, Eq)]
+pub enum CoreValue {
+    I32(u32),
+    I64(u64),
+    Ref(CoreRef),
+}
+
+/// A function of the store.
+#[derive(Debug, Drop)]
+pub enum StoreFunc {
+    /// A function of a module, with the place of its instance, and its locals behind the parameters.
+    Inside {
+        ty: CoreFunc,
+        instance: u32,
+        locals: CoreTypes,
+        body: Code,
+    },
+    /// A function of the embedder, by the embedder's number.
+    Outside {
+        ty: CoreFunc,
+        number: u32,
+    },
+}
+
+/// The index spaces of an instance: its function types, and the places of its items in the store.
+#[derive(Debug, Drop)]
+pub struct CoreSpaces {
+    pub types: Items<CoreFunc>,
+    pub functions: Indexes,
+    pub tables: Indexes,
+    pub memories: Indexes,
+    pub globals: Indexes,
+    pub segments: Indexes,
+    pub elements: Indexes,
+}
+
+/// As many calls as may be are in progress.
+#[derive(Debug, Clone, Copy, PartialEq, Eq)]
+pub struct TooDeep;
