@@ -1,0 +1,5 @@
+pub mod Counts
+pub mod Placing
+pub mod Taken
+pub mod Turns
+pub mod Written

@@ -1,0 +1,12 @@
+pub mod Clocks
+pub mod Contents
+pub mod Environment
+pub mod Fs
+pub mod Keys
+pub mod Net
+pub mod Policy
+pub mod Reading
+pub mod Top
+pub mod Trees
+pub mod Values
+pub mod Stdio
