@@ -6,7 +6,7 @@ use Rattle.std.proofs.Math.Dec.{eqb-suc-zero}
 use Rattle.virt_base.specs.declared.cursor.Cursor.{Cursor}
 use Rattle.virt_base.specs.Place.{Place, Takes, rest, place}
 use Rattle.wasm_format.specs.declared.stop.Stop.{Stop}
-use Rattle.wasm_format.specs.declared.stop.Stop.TheVariants.{NoMemory, Malformed, Unsupported}
+use Rattle.wasm_format.specs.declared.stop.Stop.TheVariants.{NoMemory, Malformed, Unsupported, TooNested}
 use Rattle.wasm_format.specs.Reads.{Reads}
 use Rattle.wasm_format.proofs.Laws.{IsExact, IsExactToEnd, to_end, exact_both, exact_image, exact_fixed, exact_sized}
 use Rattle.wasm_format.proofs.NumberLaws.{exact_s32}
@@ -86,6 +86,7 @@ answers bytes c (Ok n) e h = (is_constant bytes n (place c) e (h refl), is_spell
 answers bytes c (Err NoMemory) e h = tt
 answers bytes c (Err Malformed) e h = no_constant bytes Malformed e
 answers bytes c (Err (Unsupported at byte)) e h = no_constant bytes (Unsupported at byte) e
+answers bytes c (Err TooNested) e h = no_constant bytes TooNested e
 
 pub answers_short : (bytes : List ℕ) (c : Cursor) (r : Result ℤ Stop) → Reads r c (component.read (start bytes)) → is_ok r ≡ true → 0 < length (rest c) → IsNoConstant bytes
 answers_short bytes c (Ok n) e h more = (is_none bytes n (place c) e more, left_over bytes n (place c) e more)

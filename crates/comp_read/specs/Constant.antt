@@ -3,7 +3,7 @@
 use Rattle.std.specs.Prelude.{◌≡◌, ℕ, ℤ, List, [], ◌∷◌, length, Option, Some, None, Result, Ok, Err, ◌==◌, if◌then◌else◌}
 use Rattle.virt_base.specs.Place.{Place}
 use Rattle.wasm_format.specs.declared.stop.Stop.{Stop}
-use Rattle.wasm_format.specs.declared.stop.Stop.TheVariants.{NoMemory, Malformed, Unsupported}
+use Rattle.wasm_format.specs.declared.stop.Stop.TheVariants.{NoMemory, Malformed, Unsupported, TooNested}
 use Rattle.wasm_format.specs.Format.{Format, both, image, sized, fixed}
 use Rattle.wasm_format.specs.Numbers.{s32_format}
 
@@ -78,3 +78,4 @@ Answers bytes (Ok n) = (constant_of bytes ≡ Some n) × SpellsConstant n bytes
 Answers bytes (Err NoMemory) = Unit {0}
 Answers bytes (Err Malformed) = IsNoConstant bytes
 Answers bytes (Err (Unsupported at byte)) = IsNoConstant bytes
+Answers bytes (Err TooNested) = IsNoConstant bytes

@@ -42,8 +42,12 @@ long bytes body e = ap length e ∙ length-append preamble body
 err_not_ok : {A : Type 0} (r : Result A Stop) (x : A) (d : Stop) → r ≡ Ok x → r ≡ Err d → ⊥
 err_not_ok r x d e h = cc
 
-apart : {A : Type 0} (r : Result A Stop) (a byte : ℕ) → r ≡ Err (stops.Unsupported a byte) → r ≡ Err stops.Malformed → ⊥
-apart r a byte e h = cc
+-- a stop that is no tag
+abbrev pub IsNoTag : Stop → Type 0
+IsNoTag stop = (a byte : ℕ) → stop ≡ stops.Unsupported a byte → ⊥
+
+err_is : {A : Type 0} (r : Result A Stop) (c d : Stop) → r ≡ Err c → r ≡ Err d → d ≡ c
+err_is r c d e h = cc
 
 spelled_is_ok : (bytes body : List ℕ) (m : Module) → bytes ≡ preamble ++ body → SpellsModule m bytes → (t : Progress) × ((whole_run bytes body).outcome ≡ Ok t)
 spelled_is_ok bytes body m e spelled_so =
@@ -96,20 +100,20 @@ good_front bytes body e =
           inr (t.found, from_parts t.found (take (whole_run bytes body).good bytes) (text, t, front, (w.0, w.3.0, refl, w.3.2), refl))
     ]
 
-pub malformed_is_longest : (bytes body : List ℕ) (good : ℕ) → bytes ≡ preamble ++ body → whole_run bytes body ≡ record { good = good; outcome = Err stops.Malformed }
+pub malformed_is_longest : (bytes body : List ℕ) (good : ℕ) (stop : Stop) → IsNoTag stop → bytes ≡ preamble ++ body → whole_run bytes body ≡ record { good = good; outcome = Err stop }
     → IsLongest good bytes × IsNoModule bytes × ((a byte : ℕ) → MeetsTag a byte bytes → ⊥)
 unfolding sections
-malformed_is_longest bytes body good e h =
+malformed_is_longest bytes body good stop no_tag e h =
     let good-is : (whole_run bytes body).good ≡ good = ap (λ (r : Run Progress). r.good) h in
-    let failed : (whole_run bytes body).outcome ≡ Err stops.Malformed = ap (λ (r : Run Progress). r.outcome) h in (
+    let failed : (whole_run bytes body).outcome ≡ Err stop = ap (λ (r : Run Progress). r.outcome) h in (
       (
         subst (λ (n : ℕ). (n ≡ 0) ⊎ ((m : Module) × SpellsModule m (take n bytes))) good-is (good_front bytes body e),
         λ n m le s. omega (arith, front_low bytes body n m e le s, good-is),
       ),
-      λ m s. let k = spelled_is_ok bytes body m e s in err_not_ok (whole_run bytes body).outcome k.0 stops.Malformed k.1 failed,
+      λ m s. let k = spelled_is_ok bytes body m e s in err_not_ok (whole_run bytes body).outcome k.0 stop k.1 failed,
       λ a byte w.
           let split : body ≡ w.1 ++ w.2 = body_is body (w.1 ++ w.2) (sym e ∙ w.3) in
-          apart (whole_run bytes body).outcome a byte (run_tag sections exact_sections w.0 (length body) no_sections 0 8 body w.1 w.2 a byte (omega (arith, long bytes body e)) w.4 split w.5) failed,
+          no_tag a byte (err_is (whole_run bytes body).outcome (stops.Unsupported a byte) stop (run_tag sections exact_sections w.0 (length body) no_sections 0 8 body w.1 w.2 a byte (omega (arith, long bytes body e)) w.4 split w.5) failed),
     )
 
 pub none_without_preamble : (bytes : List ℕ) → ((rest : List ℕ) → bytes ≡ preamble ++ rest → ⊥) → IsLongest 0 bytes × IsNoModule bytes × ((a byte : ℕ) → MeetsTag a byte bytes → ⊥)
@@ -148,3 +152,4 @@ pub ran_err : (d e : Stop) (good : ℕ) (r : Run Progress) → d ≡ e → (e �
 ran_err stops.NoMemory e good r h other t = absurd (other (sym h))
 ran_err stops.Malformed e good r h other t = t ∙ ap (λ (d : Stop). record { good = good; outcome = Err d }) h
 ran_err (stops.Unsupported a b) e good r h other t = t ∙ ap (λ (d : Stop). record { good = good; outcome = Err d }) h
+ran_err stops.TooNested e good r h other t = t ∙ ap (λ (d : Stop). record { good = good; outcome = Err d }) h

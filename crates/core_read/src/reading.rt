@@ -57,5 +57,7 @@ pub fn read_module(alloc: Global, bytes: &[u8]) -> Result<Module, ReadFault>
         Err(Stop::NoMemory) => Err(ReadFault::NoMemory),
         Err(Stop::Malformed) => Err(ReadFault::Malformed(good as u64)),
         Err(Stop::Unsupported { at, byte }) => Err(ReadFault::Unsupported(at as u64, byte)),
+        // nothing is nested in a module
+        Err(Stop::TooNested) => Err(ReadFault::Malformed(good as u64)),
     }
 }

@@ -2,9 +2,9 @@ use crate::reading::{ReadFault, read_module};
 use ReadFault::{Malformed, Unsupported};
 use std::alloc::Global;
 use std::test::Fail;
-use virt_base::NoMemory;
+use virt_base::{NoMemory, write_u32};
 use wasm_ast::{ExportItem, Instr, Op};
-use wasm_format::{put_byte, put_bytes, put_u32};
+use wasm_format::{put_byte, put_bytes};
 
 /// What reading bytes answers, where it is no module.
 fn fault_of(alloc: Global, bytes: &[u8]) -> Option<ReadFault> {
@@ -400,10 +400,10 @@ fn large_module(alloc: Global, code: &[u8]) -> Result<Vec<u8>, Fail> {
     put_bytes(alloc, &mut body, code)?;
     let mut content = Vec::new(alloc);
     put_byte(alloc, &mut content, 1)?;
-    put_u32(alloc, &mut content, length(body.as_slice()))?;
+    write_u32(alloc, &mut content, length(body.as_slice()))?;
     put_bytes(alloc, &mut content, body.as_slice())?;
     let mut out = hex::decode(alloc, b"0061736d01000000010401600000030201000a".as_slice())?;
-    put_u32(alloc, &mut out, length(content.as_slice()))?;
+    write_u32(alloc, &mut out, length(content.as_slice()))?;
     put_bytes(alloc, &mut out, content.as_slice())?;
     Ok(out)
 }
@@ -439,7 +439,7 @@ fn large(rt: HostRuntime) -> Result<(), Fail> {
     );
     let mut labels = Vec::new(alloc);
     put_byte(alloc, &mut labels, 0x0E)?;
-    put_u32(alloc, &mut labels, 1_000_000)?;
+    write_u32(alloc, &mut labels, 1_000_000)?;
     repeat(alloc, &mut labels, b"\x00", 1_000_001)?;
     put_byte(alloc, &mut labels, 0x0B)?;
     assert_eq!(rt;

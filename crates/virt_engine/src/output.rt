@@ -5,9 +5,9 @@ ghost use Rattle.virt_engine.specs.Output.{preamble, front_of, back_bytes, one_i
 
 use crate::item_writers::{Aliases, ComponentExports, Instances};
 use std::alloc::Global;
-use virt_base::{Items, NoMemory, Text};
+use virt_base::{Items, NoMemory, Text, write_u32};
 use wasm_ast::{Alias, ComponentExport, Instance, Sort};
-use wasm_format::{Sized, Vecs, Writer, put_byte, put_bytes, put_u32};
+use wasm_format::{Sized, Vecs, Writer, put_byte, put_bytes};
 
 /// What an output has before and behind the application's bytes.
 #[derive(Drop)]
@@ -35,7 +35,7 @@ fn front(alloc: Global, app: &[u8]) -> Result<Vec<u8>, NoMemory>
     let mut out = Vec::new(alloc);
     put_bytes(alloc, &mut out, &PREAMBLE)?;
     put_byte(alloc, &mut out, COMPONENT)?;
-    put_u32(alloc, &mut out, app.len() as u32)?;
+    write_u32(alloc, &mut out, app.len() as u32)?;
     Ok(out)
 }
 

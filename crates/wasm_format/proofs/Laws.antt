@@ -1,8 +1,8 @@
 -- What is read is spelled so, what is spelled so is read again, and what is written is spelled: one law for each way to make a format.
-use Rattle.std.proofs.Common.{◌≡◌, ℕ, zero, suc, ◌+◌, ◌-◌, ◌^◌, ◌<◌, ◌≤◌, ◌*◌, ◌/◌, ◌%◌, Bool, true, false, cond, ltb, eqb, List, [], ◌∷◌, ◌++◌, length, take, drop, Result, Ok, Err, ◌⊎◌, refl, sym, ap, subst, ◌∙◌, append_assoc, arith, inl, inr}
+use Rattle.std.proofs.Common.{◌≡◌, ℕ, zero, suc, ◌+◌, ◌-◌, ◌^◌, ◌<◌, ◌≤◌, Bool, true, false, cond, ltb, eqb, List, [], ◌∷◌, ◌++◌, length, take, drop, Result, Ok, Err, ◌⊎◌, refl, sym, ap, subst, ◌∙◌, append_assoc, arith, inl, inr}
 use Rattle.std.specs.List.{AllByRecursion}
 use Rattle.std.specs.Str.{is_utf8}
-use Rattle.std.proofs.lemmas.Bool.{cases_lt, ltb-false, ltb-true, le-ltb, lt-ltb, eqb-true}
+use Rattle.std.proofs.lemmas.Bool.{ltb-false, le-ltb, eqb-true}
 use Rattle.std.proofs.lemmas.Bool.Decides.{Decides-eqb}
 use Rattle.std.proofs.lemmas.List.{take_at, drop_at, take-append-drop, length-append, length-take, append-nil, nil_from_length}
 use Rattle.virt_base.specs.declared.leb.LebFault.{LebFault}
@@ -11,7 +11,7 @@ use Rattle.virt_base.specs.Leb.{IsUnsigned, unsigned_at}
 use Rattle.virt_base.proofs.LebLaws.{UnsignedSays, unsigned_says, unsigned_again, u32_spelled}
 use Rattle.wasm_format.specs.declared.stop.Stop.{Stop}
 use Rattle.wasm_format.specs.declared.stop.Stop.TheVariants.{Malformed, Unsupported}
-use Rattle.wasm_format.specs.Format.{Format, ◌>>=◌, choose, lacking, misplaced, TaggedSpells, read_tagged, tagged, PeekedSpells, read_peeked, Begins, peeked, is_tag_byte, tag_or, read_literal, literal, read_fixed, fixed, value, both, image, behind, closed_by, number_of, u32_format, ItemsSpell, read_items, write_items, vec, vec_of, whole, read_within, sized, anything, read_checked, checked, name}
+use Rattle.wasm_format.specs.Format.{Format, ◌>>=◌, choose, lacking, misplaced, TaggedSpells, read_tagged, tagged, PeekedSpells, read_peeked, Begins, peeked, read_literal, literal, read_fixed, fixed, value, both, image, spanned, behind, closed_by, number_of, u32_format, ItemsSpell, read_items, write_items, vec, vec_of, whole, read_within, sized, anything, read_checked, checked, name}
 
 -- a text at an offset, and more behind it
 abbrev pub before : ℕ → List ℕ → List ℕ → Place
@@ -173,6 +173,29 @@ image_to_end {A} {B} to from F f = record {
   written = λ b at h. (from b, h.0, f.written (from b) at h.1);
 }
 
+-- ---- the part of the input where a value stands
+
+spanned_found : {A B : Type 0} (put : ℕ → ℕ → A → B) (F : Format A) → ((p : Place) (a : A × Place) → F.read p ≡ Ok a → Stands F p a) → (p : Place) (b : B × Place) → (spanned put F).read p ≡ Ok b → Stands (spanned put F) p b
+spanned_found {A} {B} put F f p b e =
+    let a = bind_ok (F.read p) (λ a. Ok (put p.at a.1.at a.0, a.1)) b e in
+    let s = f p a.0 a.1 in
+    subst (λ (y : B × Place). Stands (spanned put F) p y) (ok_is (put p.at a.0.1.at a.0.0, a.0.1) b a.2)
+    (s.0, (a.0.0, ap (λ (n : ℕ). put p.at n a.0.0) s.2.moved, s.1), s.2)
+
+pub exact_spanned : {A B : Type 0} (put : ℕ → ℕ → A → B) (F : Format A) → IsExact F → IsExact (spanned put F)
+exact_spanned {A} {B} put F f = record {
+  found = spanned_found put F f.found;
+  again = λ b text at more s. rw (f.again s.0 text at more s.2) (ap (λ (y : B). Ok (y, after at text more)) (sym s.1));
+  written = λ b at h. absurd h;
+}
+
+pub spanned_to_end : {A B : Type 0} (put : ℕ → ℕ → A → B) (F : Format A) → IsExactToEnd F → IsExactToEnd (spanned put F)
+spanned_to_end {A} {B} put F f = record {
+  found = spanned_found put F f.found;
+  again = λ b text at s. rw (f.again s.0 text at s.2) (ap (λ (y : B). Ok (y, after at text [])) (sym s.1));
+  written = λ b at h. absurd h;
+}
+
 -- ---- numbers
 
 same_done : {X : Type 0} (y x : X × Place) → number_of (Ok y) ≡ Ok x → y ≡ x
@@ -329,6 +352,9 @@ filled_tagged tag form = record { filled = λ at a s. s }
 
 pub filled_image : {A B : Type 0} (to : A → B) (from : B → A) (F : Format A) → IsFilled F → IsFilled (image to from F)
 filled_image to from F f = record { filled = λ at b s. f.filled at s.0 s.2 }
+
+pub filled_spanned : {A B : Type 0} (put : ℕ → ℕ → A → B) (F : Format A) → IsFilled F → IsFilled (spanned put F)
+filled_spanned put F f = record { filled = λ at b s. f.filled at s.0 s.2 }
 
 pub filled_checked : {A : Type 0} (test : A → Bool) (F : Format A) → IsFilled F → IsFilled (checked test F)
 filled_checked test F f = record { filled = λ at a s. f.filled at a s.1 }

@@ -2,7 +2,7 @@
 use Rattle.std.proofs.Common.{◌≡◌, ℕ, suc, ◌-◌, ◌+◌, ◌≤◌, ◌<◌, List, [], ◌∷◌, ◌++◌, Result, Ok, Err, refl, sym, ap, ◌∙◌, append_assoc, arith}
 use Rattle.std.proofs.lemmas.List.{append-nil}
 use Rattle.wasm_format.specs.declared.stop.Stop.{Stop}
-use Rattle.wasm_format.specs.declared.stop.Stop.TheVariants.{NoMemory, Malformed, Unsupported}
+use Rattle.wasm_format.specs.declared.stop.Stop.TheVariants.{NoMemory, Malformed, Unsupported, TooNested}
 use Rattle.virt_base.specs.Place.{Place}
 use Rattle.wasm_format.specs.Format.{Format, ◌>>=◌, read_items}
 use Rattle.wasm_format.specs.Reads.{Fails}
@@ -36,6 +36,7 @@ pub stops : {A : Type 0} (F : Format A) (e : Stop) (front : List A) (count i : �
 stops F NoMemory front count i p total lt h so_far = tt
 stops F Malformed front count i p total lt h so_far = stops_so F front count i p Malformed total lt h so_far
 stops F (Unsupported at b) front count i p total lt h so_far = stops_so F front count i p (Unsupported at b) total lt h so_far
+stops F TooNested front count i p total lt h so_far = stops_so F front count i p TooNested total lt h so_far
 
 pub is_done : {A : Type 0} (F : Format A) (front : List A) (count i : ℕ) (p : Place) (total : Result (List A × Place) Stop) → count ≤ i → with_front front (read_items F (count - i) p) ≡ total → total ≡ Ok (front, p)
 unfolding read_items

@@ -1,9 +1,9 @@
 -- Signed numbers are read as they are spelled.
-use Rattle.std.proofs.Common.{◌≡◌, ℕ, ℤ, pos, neg_ℤ, ◌≤ℤ◌, ◌<ℤ◌, ◌^◌, List, Result, Ok, Err, refl, subst}
+use Rattle.std.proofs.Common.{◌≡◌, ℕ, ℤ, pos, neg_ℤ, ◌≤ℤ◌, ◌<ℤ◌, ◌^◌, List, Ok, refl, subst}
 use Rattle.virt_base.specs.Place.{Place, Takes}
 use Rattle.virt_base.specs.Leb.{IsSigned, signed_at, shortest_signed}
 use Rattle.virt_base.proofs.LebLaws.{SignedSays, signed_says, signed_again, s32_spelled, s33_spelled, s64_spelled}
-use Rattle.wasm_format.specs.Format.{Format, number_of, image, checked}
+use Rattle.wasm_format.specs.Format.{checked}
 use Rattle.wasm_format.specs.Numbers.{signed_format, s32_format, s33_format, s64_format, is_natural, natural_of, s33_index}
 use Rattle.wasm_format.proofs.Laws.{IsExact, IsFilled, ok_of_number, exact_image, exact_checked, filled_image, filled_checked}
 

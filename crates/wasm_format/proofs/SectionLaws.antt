@@ -1,12 +1,11 @@
 -- Reading sections to the end finds those that the bytes spell, and else the longest part of the bytes at which they might have ended.
-use Rattle.std.proofs.Common.{◌≡◌, ℕ, zero, suc, ◌+◌, ◌-◌, ◌<◌, ◌≤◌, Bool, true, false, cond, List, [], ◌∷◌, ◌++◌, length, take, drop, Result, Ok, Err, ◌⊎◌, refl, sym, ap, subst, ◌∙◌, append_assoc, arith, inl, inr}
+use Rattle.std.proofs.Common.{◌≡◌, ℕ, zero, suc, ◌+◌, ◌≤◌, Bool, true, false, cond, List, [], ◌∷◌, ◌++◌, length, Result, Ok, Err, ◌⊎◌, refl, sym, ap, subst, ◌∙◌, append_assoc, arith, inl, inr}
 use Rattle.std.proofs.lemmas.List.{length-append, append-nil}
 use Rattle.wasm_format.specs.declared.stop.Stop.{Stop}
 use Rattle.wasm_format.specs.declared.stop.Stop.TheVariants.{Malformed, Unsupported}
-use Rattle.virt_base.specs.Place.{Place, Takes}
-use Rattle.wasm_format.specs.Format.{Format}
+use Rattle.virt_base.specs.Place.{Place}
 use Rattle.wasm_format.specs.Sections.{Sections, SectionsSpell, built, SpellsTo, Run, after_part, good_at, run, ended, PartsFit, write_parts, to_the_end}
-use Rattle.wasm_format.proofs.Laws.{before, after, Stands, IsExact, IsExactToEnd, ok_is}
+use Rattle.wasm_format.proofs.Laws.{after, Stands, IsExact, IsExactToEnd, ok_is}
 
 pub record AreExact {S P : Type 0} (G : Sections S P) : Type 0 where
   pub exact : (s : S) → IsExact (G.form s)

@@ -1,12 +1,10 @@
 -- Reading sections one after the other, as a loop does.
-use Rattle.std.proofs.Common.{◌≡◌, ℕ, zero, suc, ◌-◌, ◌+◌, ◌≤◌, ◌<◌, Bool, true, false, List, [], ◌∷◌, length, drop, Result, Ok, Err, refl, sym, ap, subst, ◌∙◌, arith}
-use Rattle.std.proofs.lemmas.List.{length-drop, nil_from_length}
+use Rattle.std.proofs.Common.{◌≡◌, ℕ, suc, ◌-◌, ◌+◌, ◌≤◌, ◌<◌, true, false, List, [], ◌∷◌, length, Ok, Err, refl, sym, ap, ◌∙◌, arith}
 use Rattle.wasm_format.specs.declared.stop.Stop.{Stop}
-use Rattle.wasm_format.specs.declared.stop.Stop.TheVariants.{NoMemory, Malformed, Unsupported}
+use Rattle.wasm_format.specs.declared.stop.Stop.TheVariants.{NoMemory, Malformed, Unsupported, TooNested}
 use Rattle.virt_base.specs.Place.{Place}
-use Rattle.wasm_format.specs.Format.{Format}
 use Rattle.wasm_format.specs.Reads.{Fails}
-use Rattle.wasm_format.specs.Sections.{Sections, Run, after_part, good_at, run, Ran}
+use Rattle.wasm_format.specs.Sections.{Sections, Run, good_at, run, Ran}
 
 pub not_here : {S P : Type 0} (G : Sections S P) (s : S) (good at : ℕ) (rest : List ℕ) → G.can_end s ≡ false → run G 0 s good at rest ≡ record { good = good; outcome = Err Malformed }
 unfolding run
@@ -57,4 +55,5 @@ pub stops : {S P : Type 0} (G : Sections S P) (e : Stop) (count i : ℕ) (s : S)
     → run G (count - i) s good at rest ≡ total → n ≡ good_at G s good at → Ran (Err e) n total
 stops G NoMemory count i s good at rest n total lt h e so_far n-is = tt
 stops {S} G Malformed count i s good at rest n total lt h e so_far n-is = stops_so G count i s good at rest Malformed total lt h e so_far ∙ ap (λ (k : ℕ). record { good = k; outcome = Err Malformed }) (sym n-is)
+stops {S} G TooNested count i s good at rest n total lt h e so_far n-is = stops_so G count i s good at rest TooNested total lt h e so_far ∙ ap (λ (k : ℕ). record { good = k; outcome = Err TooNested }) (sym n-is)
 stops {S} G (Unsupported a b) count i s good at rest n total lt h e so_far n-is = stops_so G count i s good at rest (Unsupported a b) total lt h e so_far ∙ ap (λ (k : ℕ). record { good = k; outcome = Err (Unsupported a b) }) (sym n-is)

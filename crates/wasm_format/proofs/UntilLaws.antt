@@ -1,12 +1,12 @@
 -- What is read up to the end is spelled, and what is spelled is read, whatever follows.
-use Rattle.std.proofs.Common.{◌≡◌, ℕ, zero, suc, ◌-◌, ◌+◌, ◌≤◌, Bool, true, false, cond, List, [], ◌∷◌, ◌++◌, length, Result, Ok, Err, ◌⊎◌, inl, inr, refl, sym, ap, subst, ◌∙◌, append_assoc, arith}
+use Rattle.std.proofs.Common.{◌≡◌, ℕ, zero, suc, ◌+◌, ◌≤◌, Bool, true, false, cond, List, [], ◌∷◌, ◌++◌, length, Result, Ok, Err, ◌⊎◌, inl, inr, refl, ap, subst, ◌∙◌, append_assoc, arith}
 use Rattle.std.proofs.lemmas.List.{length-append}
 use Rattle.wasm_format.specs.declared.stop.Stop.{Stop}
 use Rattle.wasm_format.specs.declared.stop.Stop.TheVariants.{Malformed}
 use Rattle.virt_base.specs.Place.{Place, Takes}
-use Rattle.wasm_format.specs.Format.{Format, ◌>>=◌}
+use Rattle.wasm_format.specs.Format.{◌>>=◌}
 use Rattle.wasm_format.specs.Sections.{Sections, write_parts}
-use Rattle.wasm_format.proofs.Laws.{Takes-none, Takes-then, Stands, IsExact, before, after, bind_ok, ok_is}
+use Rattle.wasm_format.proofs.Laws.{Takes-none, Takes-then, IsExact, before, after, bind_ok, ok_is}
 use Rattle.wasm_format.proofs.SectionLaws.{AreExact}
 use Rattle.wasm_format.specs.Until.{UntilSpells, read_until, UntilFits, until}
 

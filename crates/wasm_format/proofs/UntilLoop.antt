@@ -1,10 +1,9 @@
 -- Reading items up to the end, as a loop does.
-use Rattle.std.proofs.Common.{◌≡◌, ℕ, zero, suc, ◌-◌, ◌+◌, ◌≤◌, ◌<◌, Bool, true, false, cond, List, [], ◌∷◌, ◌++◌, length, Result, Ok, Err, refl, sym, ap, ◌∙◌, append_assoc, arith}
+use Rattle.std.proofs.Common.{◌≡◌, ℕ, zero, suc, ◌-◌, ◌+◌, ◌<◌, true, false, List, [], ◌∷◌, ◌++◌, Result, Ok, Err, refl, sym, ap, ◌∙◌, arith}
 use Rattle.std.proofs.lemmas.List.{append-nil}
 use Rattle.wasm_format.specs.declared.stop.Stop.{Stop}
-use Rattle.wasm_format.specs.declared.stop.Stop.TheVariants.{NoMemory, Malformed, Unsupported}
+use Rattle.wasm_format.specs.declared.stop.Stop.TheVariants.{NoMemory, Malformed, Unsupported, TooNested}
 use Rattle.virt_base.specs.Place.{Place}
-use Rattle.wasm_format.specs.Format.{Format, ◌>>=◌}
 use Rattle.wasm_format.specs.Reads.{Fails}
 use Rattle.wasm_format.specs.Sections.{Sections}
 use Rattle.wasm_format.proofs.Loop.{with_front, regroup}
@@ -43,4 +42,5 @@ stops_so G front count i s p e total lt wide h so_far =
 pub stops : {S P : Type 0} (G : Sections S P) (e : Stop) (front : List P) (count i : ℕ) (s : S) (p : Place) (total : Result (List P × Place) Stop) → i < count → G.can_end s ≡ false → Fails e ((G.form s).read p) → with_front front (read_until G (count - i) s p) ≡ total → Fails e total
 stops G NoMemory front count i s p total lt wide h so_far = tt
 stops G Malformed front count i s p total lt wide h so_far = stops_so G front count i s p Malformed total lt wide h so_far
+stops G TooNested front count i s p total lt wide h so_far = stops_so G front count i s p TooNested total lt wide h so_far
 stops G (Unsupported a b) front count i s p total lt wide h so_far = stops_so G front count i s p (Unsupported a b) total lt wide h so_far

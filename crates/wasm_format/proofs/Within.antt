@@ -1,11 +1,10 @@
 -- Reading content of a stated size, as a cursor over a part of the bytes does.
-use Rattle.std.proofs.Common.{◌≡◌, ℕ, ◌-◌, ◌+◌, ◌≤◌, ◌<◌, ◌≢◌, Bool, true, false, cond, ltb, eqb, List, [], ◌∷◌, length, take, drop, Result, Ok, Err, refl, sym, ap, ◌∙◌, arith}
+use Rattle.std.proofs.Common.{◌≡◌, ℕ, ◌+◌, ◌≤◌, ◌<◌, false, ltb, eqb, List, [], ◌∷◌, length, take, drop, Ok, Err, refl, ap, ◌∙◌, arith}
 use Rattle.std.proofs.lemmas.Bool.{le-ltb}
 use Rattle.std.proofs.Math.Dec.{eqb-suc-zero}
-use Rattle.std.proofs.lemmas.List.{length-drop, length-take, nil_from_length, drop-take, drop-drop}
+use Rattle.std.proofs.lemmas.List.{length-drop, length-take, drop-take, drop-drop}
 use Rattle.wasm_format.specs.declared.stop.Stop.{Stop}
-use Rattle.wasm_format.specs.declared.stop.Stop.TheVariants.{NoMemory, Malformed, Unsupported}
-use Rattle.virt_base.specs.Place.{Place}
+use Rattle.wasm_format.specs.declared.stop.Stop.TheVariants.{NoMemory, Malformed, Unsupported, TooNested}
 use Rattle.wasm_format.specs.Format.{Format, ◌>>=◌, whole, read_within}
 use Rattle.wasm_format.specs.Reads.{Fails}
 
@@ -27,6 +26,7 @@ inside F bytes a size le =
 pub within_err : {A : Type 0} (F : Format A) (e : Stop) (bytes : List ℕ) (a size : ℕ) → a + size ≤ length bytes → Fails e (F.read (record { at = a; rest = drop a (take (a + size) bytes) })) → Fails e (read_within F size (record { at = a; rest = drop a bytes }))
 within_err F NoMemory bytes a size le h = tt
 within_err F Malformed bytes a size le h = inside F bytes a size le ∙ rw h refl
+within_err F TooNested bytes a size le h = inside F bytes a size le ∙ rw h refl
 within_err F (Unsupported at b) bytes a size le h = inside F bytes a size le ∙ rw h refl
 
 pub within_short : {A : Type 0} (F : Format A) (bytes other : List ℕ) (a size at : ℕ) (x : A) → a + size ≤ length bytes → other ≡ take (a + size) bytes → at < a + size → F.read (record { at = a; rest = drop a (take (a + size) bytes) }) ≡ Ok (x, record { at = at; rest = drop at other })

@@ -139,6 +139,16 @@ image to from F = record {
   write = λ b. F.write (from b);
 }
 
+-- The value, and the part of the input where its bytes stand, from one offset up to another, as one value that put makes. It is
+-- read, and not written: who writes it copies the bytes of that part.
+abbrev pub spanned : {A B : Type 0} → (ℕ → ℕ → A → B) → Format A → Format B
+spanned put F = record {
+  Spells = λ at b text. (a : _) × (b ≡ put at (at + length text) a) × F.Spells at a text;
+  read = λ p. F.read p >>= λ a. Ok (put p.at a.1.at a.0, a.1);
+  Fits = λ b. ⊥;
+  write = λ b. [];
+}
+
 -- tags, and a value behind them
 abbrev pub behind : {A : Type 0} → List ℕ → Format A → Format A
 behind tags F = image (λ p. p.1) (λ a. (tt, a)) (both (literal {A = Unit {0}} tags tt) F)

@@ -1,5 +1,5 @@
 -- Signed numbers, and indexes where a negative number is none.
-use Rattle.std.specs.Prelude.{◌≡◌, ℕ, ℤ, pos, negsuc, neg_ℤ, ◌≤ℤ◌, ◌<ℤ◌, ◌^◌, Bool, true, false}
+use Rattle.std.specs.Prelude.{ℕ, ℤ, pos, negsuc, neg_ℤ, ◌≤ℤ◌, ◌<ℤ◌, ◌^◌, Bool, true, false}
 use Rattle.virt_base.specs.Leb.{IsSigned, signed_at, shortest_signed}
 use Rattle.wasm_format.specs.Format.{Format, number_of, image, checked}
 

@@ -1,8 +1,8 @@
 -- A sequence of sections to the end of the bytes, where each is read in the state that those before it leave.
-use Rattle.std.specs.Prelude.{◌≡◌, ℕ, zero, suc, ◌+◌, Bool, true, false, List, [], ◌∷◌, ◌++◌, length, Result, Ok, Err, if◌then◌else◌}
+use Rattle.std.specs.Prelude.{◌≡◌, ℕ, zero, suc, ◌+◌, Bool, true, List, [], ◌∷◌, ◌++◌, length, Result, Ok, Err, if◌then◌else◌}
 use Rattle.virt_base.specs.Place.{Place}
 use Rattle.wasm_format.specs.declared.stop.Stop.{Stop}
-use Rattle.wasm_format.specs.declared.stop.Stop.TheVariants.{NoMemory, Malformed, Unsupported}
+use Rattle.wasm_format.specs.declared.stop.Stop.TheVariants.{NoMemory, Malformed, Unsupported, TooNested}
 use Rattle.wasm_format.specs.Format.{Format}
 
 pub record Sections (S P : Type 0) : Type 1 where
@@ -51,6 +51,7 @@ Ran (Ok t) good r = r ≡ record { good = good; outcome = Ok t }
 Ran (Err NoMemory) good r = Unit {0}
 Ran (Err Malformed) good r = r ≡ record { good = good; outcome = Err Malformed }
 Ran (Err (Unsupported at byte)) good r = r ≡ record { good = good; outcome = Err (Unsupported at byte) }
+Ran (Err TooNested) good r = r ≡ record { good = good; outcome = Err TooNested }
 
 -- ---- the sections that follow a place, as one value
 

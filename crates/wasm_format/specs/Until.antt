@@ -1,5 +1,5 @@
 -- Items up to a state that ends them, where each is read in the state that those before it leave.
-use Rattle.std.specs.Prelude.{◌≡◌, ℕ, zero, suc, ◌+◌, Bool, true, false, List, [], ◌∷◌, ◌++◌, length, Result, Ok, Err, if◌then◌else◌}
+use Rattle.std.specs.Prelude.{◌≡◌, ℕ, zero, suc, ◌+◌, true, false, List, [], ◌∷◌, ◌++◌, length, Result, Ok, Err, if◌then◌else◌}
 use Rattle.virt_base.specs.Place.{Place}
 use Rattle.wasm_format.specs.declared.stop.Stop.{Stop}
 use Rattle.wasm_format.specs.declared.stop.Stop.TheVariants.{Malformed}

@@ -1,6 +1,6 @@
 ghost use Rattle.std.specs.Prelude.{◌≡◌, ℕ, List};
 ghost use Rattle.virt_base.specs.Place.{place};
-ghost use Rattle.wasm_format.specs.Format.{Format, vec, vec_of, read_items, sized};
+ghost use Rattle.wasm_format.specs.Format.{Format, vec, vec_of, read_items, sized, spanned};
 ghost use Rattle.wasm_format.specs.Reads.{Reads};
 
 use crate::numbers::U32;
@@ -107,4 +107,33 @@ fn sized_by<R: Reader>(reader: &R, alloc: Global, c: &mut Cursor<'_>) -> Result<
     }
     c.at = end;
     Ok(content)
+}
+
+/// Puts beside a value the part of the input where it stands, from one offset up to another.
+pub trait Spanning<A> {
+    type Whole: Drop;
+
+    ghost put: { ℕ → ℕ → A → Self.Whole };
+
+    fn put(&self, from: u64, to: u64, content: A) -> Self::Whole
+        ensures { result ≡ put from to content };
+}
+
+/// A value, with the part of the input where it stands.
+#[derive(Drop)]
+pub struct Spanned<R, M> {
+    pub item: R,
+    pub make: M,
+}
+
+impl<R: Reader, M: Spanning<R::Value>> Reader for Spanned<R, M> {
+    type Value = M::Whole;
+
+    ghost format = { λ s. spanned M.put (R.format s.item) };
+
+    fn read(&self, alloc: Global, c: &mut Cursor<'_>) -> Result<M::Whole, Stop> {
+        let from = c.at;
+        let content = self.item.read(alloc, c)?;
+        Ok(self.make.put(from as u64, c.at as u64, content))
+    }
 }

@@ -11,6 +11,8 @@ pub enum Stop {
     Malformed,
     /// The byte at `at` is a tag that the table of its place lacks.
     Unsupported { at: usize, byte: u8 },
+    /// A component stands deeper in one another than may be.
+    TooNested,
 }
 
 impl From<AllocError> for Stop {

@@ -1,11 +1,13 @@
 use crate::literal::{expect_bytes, expect_tag, next_is_tag};
 use crate::names::{ByteLists, Names};
 use crate::numbers::{S32, S33Index, S64, U32};
-use crate::put::{put_byte, put_signed, put_u32};
+use crate::put::{put_byte, put_bytes};
 use crate::reader::{CountedVecs, Reader, Sized, Vecs};
 use crate::stop::Stop;
+use crate::writer::Writer;
+use std::alloc::Global;
 use std::test::Fail;
-use virt_base::Cursor;
+use virt_base::{Cursor, Items, NoMemory, Text, TextFault, copy_bytes};
 
 #[test]
 fn literals(rt: HostRuntime) {
@@ -55,14 +57,6 @@ fn numbers(rt: HostRuntime) -> Result<(), Fail> {
     assert_eq!(rt; S32.read(alloc, &mut c), Ok(-123456));
     c.at = 0;
     assert_eq!(rt; S64.read(alloc, &mut c), Ok(-123456));
-    let mut out = Vec::new(alloc);
-    put_byte(alloc, &mut out, 0xFF)?;
-    put_u32(alloc, &mut out, 624485)?;
-    put_signed(alloc, &mut out, -123456)?;
-    assert_eq!(rt;
-        out.as_slice(),
-        [0xFF, 0xE5, 0x8E, 0x26, 0xC0, 0xBB, 0x78].as_slice()
-    );
     Ok(())
 }
 
@@ -98,5 +92,124 @@ fn lists(rt: HostRuntime) -> Result<(), Fail> {
         item: U32,
     };
     assert!(rt; more.read(alloc, &mut c).is_err());
+    Ok(())
+}
+
+#[test]
+fn bytes_put(rt: HostRuntime) -> Result<(), Fail> {
+    let alloc = rt.alloc();
+    let mut out = Vec::new(alloc);
+    put_byte(alloc, &mut out, 0xFF)?;
+    put_bytes(alloc, &mut out, b"ok")?;
+    assert_eq!(rt; out.as_slice(), [0xFF, b'o', b'k'].as_slice());
+    Ok(())
+}
+
+/// Each number is written as the examples of the DWARF standard have it.
+#[test]
+#[tactic(auto, unfolding(crate::specs::Format::u32_format))]
+fn unsigned_written(rt: HostRuntime) -> Result<(), Fail> {
+    let alloc = rt.alloc();
+    let mut out = Vec::new(alloc);
+    U32.write(alloc, &mut out, &624_485)?;
+    assert_eq!(rt; out.as_slice(), [0xE5, 0x8E, 0x26].as_slice());
+    Ok(())
+}
+
+#[test]
+#[tactic(auto, unfolding(crate::specs::Numbers::s32_format))]
+fn s32_written(rt: HostRuntime) -> Result<(), Fail> {
+    let alloc = rt.alloc();
+    let mut out = Vec::new(alloc);
+    S32.write(alloc, &mut out, &-123_456)?;
+    assert_eq!(rt; out.as_slice(), [0xC0, 0xBB, 0x78].as_slice());
+    Ok(())
+}
+
+#[test]
+#[tactic(auto, unfolding(crate::specs::Numbers::s64_format))]
+fn s64_written(rt: HostRuntime) -> Result<(), Fail> {
+    let alloc = rt.alloc();
+    let mut out = Vec::new(alloc);
+    S64.write(alloc, &mut out, &-129)?;
+    assert_eq!(rt; out.as_slice(), [0xFF, 0x7E].as_slice());
+    Ok(())
+}
+
+#[test]
+#[tactic(auto, unfolding(crate::specs::Numbers::s33_format, crate::specs::Numbers::s33_index))]
+fn s33_index_written(rt: HostRuntime) -> Result<(), Fail> {
+    let alloc = rt.alloc();
+    let mut out = Vec::new(alloc);
+    S33Index.write(alloc, &mut out, &64)?;
+    assert_eq!(rt; out.as_slice(), [0xC0, 0x00].as_slice());
+    Ok(())
+}
+
+/// What is written for a name of these bytes; nothing where they are no text.
+#[tactic(auto, unfolding(crate::specs::Format::name), using(crate::proofs::NameLaws::is_text))]
+fn written_name(alloc: Global, bytes: &[u8; 2]) -> Result<Vec<u8>, NoMemory> {
+    let mut out = Vec::new(alloc);
+    match Text::new(alloc, bytes.as_slice()) {
+        Ok(name) => Names.write(alloc, &mut out, &name)?,
+        Err(TextFault::NotUtf8) => {}
+        Err(TextFault::NoMemory) => return Err(NoMemory),
+    }
+    Ok(out)
+}
+
+#[test]
+fn name_written(rt: HostRuntime) -> Result<(), Fail> {
+    let out = written_name(rt.alloc(), b"ok")?;
+    assert_eq!(rt; out.as_slice(), [2, b'o', b'k'].as_slice());
+    Ok(())
+}
+
+#[test]
+#[tactic(auto, unfolding(crate::specs::Format::u32_format))]
+fn list_written(rt: HostRuntime) -> Result<(), Fail> {
+    let alloc = rt.alloc();
+    let mut items = Items::empty(alloc);
+    items.push(5)?;
+    items.push(6)?;
+    let mut out = Vec::new(alloc);
+    Vecs(U32).write(alloc, &mut out, &items)?;
+    assert_eq!(rt; out.as_slice(), [2, 5, 6].as_slice());
+    Ok(())
+}
+
+#[test]
+#[tactic(auto, unfolding(crate::specs::Format::u32_format))]
+fn counted_list_written(rt: HostRuntime) -> Result<(), Fail> {
+    let alloc = rt.alloc();
+    let mut items = Items::empty(alloc);
+    items.push(5)?;
+    let counted = CountedVecs {
+        count: 1,
+        item: U32,
+    };
+    let mut out = Vec::new(alloc);
+    counted.write(alloc, &mut out, &items)?;
+    assert_eq!(rt; out.as_slice(), [1, 5].as_slice());
+    Ok(())
+}
+
+#[test]
+#[tactic(auto, unfolding(crate::specs::Format::u32_format))]
+fn sized_written(rt: HostRuntime) -> Result<(), Fail> {
+    let alloc = rt.alloc();
+    let mut out = Vec::new(alloc);
+    Sized(U32).write(alloc, &mut out, &128)?;
+    assert_eq!(rt; out.as_slice(), [2, 0x80, 0x01].as_slice());
+    Ok(())
+}
+
+#[test]
+fn byte_list_written(rt: HostRuntime) -> Result<(), Fail> {
+    let alloc = rt.alloc();
+    let bytes = copy_bytes(alloc, b"ok")?;
+    let mut out = Vec::new(alloc);
+    ByteLists.write(alloc, &mut out, &bytes)?;
+    assert_eq!(rt; out.as_slice(), [2, b'o', b'k'].as_slice());
     Ok(())
 }

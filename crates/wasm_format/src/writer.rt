@@ -5,10 +5,10 @@ ghost use Rattle.wasm_format.specs.Numbers.{s32_format, s33_index, s64_format};
 
 use crate::names::{ByteLists, Names};
 use crate::numbers::{S32, S33Index, S64, U32};
-use crate::put::{put_bytes, put_signed, put_u32};
+use crate::put::put_bytes;
 use crate::reader::{CountedVecs, Sized, Vecs};
 use std::alloc::Global;
-use virt_base::{Bytes, Items, NoMemory, Text};
+use virt_base::{Bytes, Items, NoMemory, Text, write_s64, write_u32};
 
 /// Writes values of a type.
 pub trait Writer {
@@ -30,7 +30,7 @@ impl Writer for U32 {
 
     #[tactic(auto, unfolding(crate::specs::Format::u32_format))]
     fn write(&self, alloc: Global, out: &mut Vec<u8>, value: &u32) -> Result<(), NoMemory> {
-        put_u32(alloc, out, *value)
+        write_u32(alloc, out, *value)
     }
 }
 
@@ -41,7 +41,7 @@ impl Writer for S32 {
 
     #[tactic(auto, unfolding(crate::specs::Numbers::s32_format))]
     fn write(&self, alloc: Global, out: &mut Vec<u8>, value: &i32) -> Result<(), NoMemory> {
-        put_signed(alloc, out, i64::from(*value))
+        write_s64(alloc, out, i64::from(*value))
     }
 }
 
@@ -52,7 +52,7 @@ impl Writer for S64 {
 
     #[tactic(auto, unfolding(crate::specs::Numbers::s64_format))]
     fn write(&self, alloc: Global, out: &mut Vec<u8>, value: &i64) -> Result<(), NoMemory> {
-        put_signed(alloc, out, *value)
+        write_s64(alloc, out, *value)
     }
 }
 
@@ -63,7 +63,7 @@ impl Writer for S33Index {
 
     #[tactic(auto, unfolding(crate::specs::Numbers::s33_format, crate::specs::Numbers::s33_index))]
     fn write(&self, alloc: Global, out: &mut Vec<u8>, value: &u32) -> Result<(), NoMemory> {
-        put_signed(alloc, out, i64::from(*value))
+        write_s64(alloc, out, i64::from(*value))
     }
 }
 
@@ -95,7 +95,7 @@ impl<W: Writer> Writer for Vecs<W> {
         value: &Items<W::Value>,
     ) -> Result<(), NoMemory> {
         let items = value.as_slice();
-        put_u32(alloc, out, items.len() as u32)?;
+        write_u32(alloc, out, items.len() as u32)?;
         write_all(&self.0, alloc, out, items)
     }
 }
@@ -113,7 +113,7 @@ impl<W: Writer> Writer for CountedVecs<W> {
         value: &Items<W::Value>,
     ) -> Result<(), NoMemory> {
         let items = value.as_slice();
-        put_u32(alloc, out, items.len() as u32)?;
+        write_u32(alloc, out, items.len() as u32)?;
         write_all(&self.item, alloc, out, items)
     }
 }
@@ -127,7 +127,7 @@ impl<W: Writer> Writer for Sized<W> {
     fn write(&self, alloc: Global, out: &mut Vec<u8>, value: &W::Value) -> Result<(), NoMemory> {
         let mut content = Vec::new(alloc);
         self.0.write(alloc, &mut content, value)?;
-        put_u32(alloc, out, content.len() as u32)?;
+        write_u32(alloc, out, content.len() as u32)?;
         put_bytes(alloc, out, content.as_slice())
     }
 }
@@ -140,7 +140,7 @@ impl Writer for ByteLists {
     #[tactic(auto, unfolding(crate::specs::Format::u32_format))]
     fn write(&self, alloc: Global, out: &mut Vec<u8>, value: &Bytes) -> Result<(), NoMemory> {
         let bytes = value.as_slice();
-        put_u32(alloc, out, bytes.len() as u32)?;
+        write_u32(alloc, out, bytes.len() as u32)?;
         put_bytes(alloc, out, bytes)
     }
 }
@@ -153,7 +153,7 @@ impl Writer for Names {
     #[tactic(auto, unfolding(crate::specs::Format::u32_format, crate::specs::Format::name))]
     fn write(&self, alloc: Global, out: &mut Vec<u8>, value: &Text) -> Result<(), NoMemory> {
         let bytes = value.bytes();
-        put_u32(alloc, out, bytes.len() as u32)?;
+        write_u32(alloc, out, bytes.len() as u32)?;
         put_bytes(alloc, out, bytes)
     }
 }

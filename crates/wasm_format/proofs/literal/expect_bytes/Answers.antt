@@ -1,6 +1,6 @@
 use Rattle.std.proofs.Common.{◌≡◌, ◌∙◌, ◌+◌, ◌++◌, ℕ, List, length, drop, ap, subst, Ok}
 use Rattle.std.proofs.lemmas.List.{drop-drop, take_rest}
-use Rattle.virt_base.specs.Place.{Place, rest, place}
+use Rattle.virt_base.specs.Place.{rest}
 use Rattle.wasm_format.proofs.Laws.{fixed_is, fixed_not}
 use Rattle.wasm_format.proofs.literal.expect_bytes.Goals as goal
 

@@ -1,8 +1,8 @@
-use Rattle.std.proofs.Common.{arith, ◌∙◌, ◌≡◌, ℕ, sym, ap, subst, ◌-◌, length}
+use Rattle.std.proofs.Common.{arith, ◌∙◌, subst, ◌-◌, length}
 use Rattle.std.proofs.lemmas.List.{length-drop}
 use Rattle.std.proofs.lemmas.Result.{err_from_is_err_and}
 use Rattle.virt_base.specs.Place.{rest, place}
-use Rattle.wasm_format.specs.Sections.{Ran, run, Run, good_at}
+use Rattle.wasm_format.specs.Sections.{Ran, run, Run}
 use Rattle.wasm_format.proofs.SectionLoop.{any_count, last_count, goes_on, stops}
 use Rattle.wasm_format.proofs.sections.read_sections.Goals as goal
 

@@ -1,8 +1,7 @@
-use Rattle.std.proofs.Common.{◌≡◌, ◌-◌, ◌+◌, ◌≤◌, ℕ, List, length, ap, sym, ◌∙◌, arith}
+use Rattle.std.proofs.Common.{sym, ◌∙◌, arith}
 use Rattle.std.proofs.lemmas.List.{length-drop}
 use Rattle.std.proofs.lemmas.Result.{err_from_is_err_and}
 use Rattle.virt_base.specs.Place.{place}
-use Rattle.wasm_format.specs.Until.{read_until}
 use Rattle.wasm_format.proofs.UntilLoop.{stands_closed, never_closed, goes_on, stops}
 use Rattle.wasm_format.proofs.until.read_until.Goals as goal
 

@@ -1,4 +1,4 @@
-use Rattle.std.proofs.Common.{◌≡◌, ◌++◌, ◌∷◌, drop, length, ap, ◌∙◌}
+use Rattle.std.proofs.Common.{◌++◌}
 use Rattle.wasm_format.specs.Format.{write_items}
 use Rattle.wasm_format.proofs.Writing.{fits_first, fits_rest, one_more}
 use Rattle.wasm_format.proofs.writer.write_all.Goals as goal
