@@ -8,3 +8,6 @@ pub mod SectionLoop
 pub mod UntilLaws
 pub mod UntilLoop
 pub mod Writing
+pub mod LeastLaws
+pub mod LeastNumbers
+pub mod LeastLists

@@ -18,6 +18,9 @@ pub record Format (A : Type 0) : Type 1 where
   -- the spelling that is written
   pub write : A → List ℕ
 
+abbrev pub AreBytes : List ℕ → Type 0
+AreBytes text = AllByRecursion (λ b. b < 256) text
+
 infixl 10 ◌>>=◌
 abbrev pub ◌>>=◌ : {A B : Type 0} → Result A Stop → (A → Result B Stop) → Result B Stop
 (Ok x) >>= f = f x
