@@ -1,0 +1,9 @@
+pub mod TypeLeast
+pub mod InstructionLeast
+pub mod ItemLeast
+pub mod SectionBytes
+pub mod ModuleLeast
+pub mod ModuleWriting
+pub mod Opcodes
+pub mod Expressions
+pub mod Shortest

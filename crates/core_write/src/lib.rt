@@ -1,0 +1,13 @@
+//! Writing core modules, in their shortest spelling.
+#![tactic(auto)]
+
+mod instrs;
+mod items;
+mod ops;
+mod sections;
+#[cfg(test)]
+mod tests;
+mod types;
+mod writing;
+
+pub use writing::write_module;
