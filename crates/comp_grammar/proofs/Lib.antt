@@ -1,0 +1,6 @@
+pub mod PlainLemmas
+pub mod CoreInstanceLaws
+pub mod TypeLaws
+pub mod ItemLaws
+pub mod TypeSectionLaws
+pub mod ComponentLaws

@@ -1,0 +1,6 @@
+pub mod Trees
+pub mod CoreInstances
+pub mod Types
+pub mod Items
+pub mod TypeSections
+pub mod Components
