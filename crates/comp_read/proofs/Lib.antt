@@ -1,1 +1,4 @@
 pub mod Grammar
+mod StopLaws
+mod ComponentAnswers
+mod ComponentLoop

@@ -1,1 +1,3 @@
 pub mod Constant
+pub mod Runs
+pub mod Answers
