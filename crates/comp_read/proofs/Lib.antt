@@ -1,4 +1,3 @@
-pub mod Grammar
 mod StopLaws
 mod ComponentAnswers
 mod ComponentLoop

@@ -1,3 +1,2 @@
-pub mod Constant
 pub mod Runs
 pub mod Answers

@@ -1,3 +1,4 @@
 pub mod Adding
+pub mod ConstantGrammar
 pub mod Outputs
 pub mod Runs

@@ -10,7 +10,7 @@ use Rattle.wasm_ast.proofs.ComponentGrammar.{exact_instance, exact_alias, exact_
 use Rattle.wasm_ast.specs.declared.component.Instance.{Instance}
 use Rattle.wasm_ast.specs.declared.component.Alias.{Alias}
 use Rattle.wasm_ast.specs.declared.component.ComponentExport.{ComponentExport}
-use Rattle.comp_read.specs.Constant.{section}
+use Rattle.virt_engine.specs.Constant.{section}
 use Rattle.virt_engine.specs.Output.{wrapped, preamble, behind_app, output_of, one_instance, one_alias, one_export, front_of, back_bytes, output_bytes, IsOutputOf}
 
 ruleset exact = (to_end, exact_both, exact_image, exact_fixed, exact_sized, exact_vec, anything_to_end)

@@ -5,8 +5,8 @@ use Rattle.std.proofs.lemmas.Bool.{le-ltb}
 use Rattle.virt_base.specs.Fault.{Rose}
 use Rattle.virt_base.specs.Files.{FilesState, Held, with_file, no_place}
 use Rattle.virt_base.specs.Sink.{SinkState}
-use Rattle.comp_read.specs.Constant.{SpellsConstant}
-use Rattle.comp_read.proofs.Grammar.{spelled_constant}
+use Rattle.virt_engine.specs.Constant.{SpellsConstant}
+use Rattle.virt_engine.proofs.ConstantGrammar.{spelled_constant}
 use Rattle.virt_engine.specs.declared.plan.Ready.{Ready}
 use Rattle.virt_engine.specs.declared.status.Status.{Status}
 use Rattle.virt_engine.specs.declared.status.Status.TheVariants.{Done, PolicyRefused, AppRefused, FileFault, SinkFault, OverLimit, NoMemory, ScriptRefused, Trapped, ScriptEnded, StepsSpent, BadAnswer, TooDeep, Usage}

@@ -1,5 +1,6 @@
 pub mod Code
 pub mod Command
+pub mod Constant
 pub mod Line
 pub mod Output
 pub mod Plan

@@ -10,7 +10,7 @@ use Rattle.wasm_ast.specs.declared.component.Alias.{Alias}
 use Rattle.wasm_ast.specs.declared.component.Alias.TheVariants.{Export, CoreExport, Outer}
 use Rattle.wasm_ast.specs.declared.component.ComponentExport.{ComponentExport}
 use Rattle.wasm_ast.specs.ComponentItems.{instance, alias, component_export}
-use Rattle.comp_read.specs.Constant.{after, same, section, SpellsConstant}
+use Rattle.virt_engine.specs.Constant.{after, same, section, SpellsConstant}
 
 -- ---- the form of the output
 

@@ -6,7 +6,7 @@ use Rattle.virt_base.specs.Fault.{Rose}
 use Rattle.virt_base.specs.Files.{FilesState, Held, Goes, with_file, no_place}
 use Rattle.virt_base.specs.Sink.{SinkState}
 use Rattle.virt_base.specs.declared.fault.AppFault.TheVariants.{Malformed}
-use Rattle.comp_read.specs.Constant.{SpellsConstant, constant_of}
+use Rattle.virt_engine.specs.Constant.{SpellsConstant, constant_of}
 use Rattle.virt_engine.specs.declared.status.PolicyFault.TheVariants.{BadKey}
 use Rattle.virt_engine.specs.declared.status.Status.{Status}
 use Rattle.virt_engine.specs.declared.status.Status.TheVariants.{Done, PolicyRefused, AppRefused, FileFault, OverLimit, NoMemory, Usage}

@@ -2,6 +2,9 @@
 #![tactic(auto)]
 
 mod command;
+mod constant;
+#[cfg(test)]
+mod constant_tests;
 mod engine;
 mod item_writers;
 mod line;

@@ -1,6 +1,6 @@
 ghost use Rattle.std.specs.Prelude.{◌≡◌, ◌++◌, ◌∷◌, [], ◌<◌, ◌^◌, length, IfOk, OnOk};
 ghost use Rattle.wasm_format.specs.Format.{sized, vec};
-ghost use Rattle.comp_read.specs.Constant.{section};
+ghost use Rattle.virt_engine.specs.Constant.{section};
 ghost use Rattle.virt_engine.specs.Output.{preamble, front_of, back_bytes, one_instance, one_alias, one_export};
 
 use crate::item_writers::{Aliases, ComponentExports, Instances};

@@ -5,10 +5,10 @@ ghost use Rattle.virt_engine.specs.Output.{output_bytes};
 ghost use Rattle.virt_engine.specs.Plan.{Fetches, Plans, IsFileFaultOf, IsOverLimitOf, IsReady, TestsForm, TestsPolicy, app_limit};
 
 use crate::command::Names;
+use crate::constant::read_constant;
 use crate::line::{done_line, line_of};
 use crate::output::pieces_around;
 use crate::status::{PolicyFault, Status};
-use comp_read::read_constant;
 use std::alloc::{AllocError, Global};
 use virt_base::{AppFault, FileFail, Files, NoMemory, Text};
 use wasm_format::Stop;

@@ -1,7 +1,7 @@
 use Rattle.std.proofs.Common.{◌≡◌, ◌∙◌, inl, inr, ℕ, List, Bor, Bool, true, false, length, arith, ap, sym}
 use Rattle.std.proofs.lemmas.List.{length-drop}
-use Rattle.comp_read.proofs.Grammar.{answers, answers_short}
-use Rattle.comp_read.proofs.constant.read_constant.Goals as goal
+use Rattle.virt_engine.proofs.ConstantGrammar.{answers, answers_short}
+use Rattle.virt_engine.proofs.constant.read_constant.Goals as goal
 
 pub returns-then-c-bytes : goal.returns-then-c-bytes
 returns-then-c-bytes c =

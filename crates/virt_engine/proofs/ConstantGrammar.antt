@@ -10,7 +10,7 @@ use Rattle.wasm_format.specs.declared.stop.Stop.TheVariants.{NoMemory, Malformed
 use Rattle.wasm_format.specs.Reads.{Reads}
 use Rattle.wasm_format.proofs.Laws.{IsExact, IsExactToEnd, to_end, exact_both, exact_image, exact_fixed, exact_sized}
 use Rattle.wasm_format.proofs.NumberLaws.{exact_s32}
-use Rattle.comp_read.specs.Constant.{body, code, core_module, lifting, component, SpellsConstant, constant_of, to_the_last, IsNoConstant, Answers}
+use Rattle.virt_engine.specs.Constant.{body, code, core_module, lifting, component, SpellsConstant, constant_of, to_the_last, IsNoConstant, Answers}
 
 ruleset exact = (to_end, exact_both, exact_image, exact_fixed, exact_sized)
 

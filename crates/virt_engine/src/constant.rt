@@ -2,7 +2,7 @@ ghost use Rattle.std.specs.Prelude.{◌≡◌};
 ghost use Rattle.virt_base.specs.Place.{place};
 ghost use Rattle.wasm_format.specs.Format.{fixed};
 ghost use Rattle.wasm_format.specs.Reads.{Reads};
-ghost use Rattle.comp_read.specs.Constant.{same_section, body, code, core_module, lifting, component, Answers};
+ghost use Rattle.virt_engine.specs.Constant.{same_section, body, code, core_module, lifting, component, Answers};
 
 use std::alloc::Global;
 use virt_base::Cursor;
