@@ -30,9 +30,9 @@ fn seven_and_its_cuts(rt: HostRuntime) -> Result<(), Fail> {
         alloc,
         b"0061736d0d00010001220061736d010000000105016000017f03020100070501016600000a0601040041070b0204010000000607010000010001660705014000007908060100000000000b0701000166010000".as_slice(),
     )?;
-    for n in 0..=bytes.len() {
+    for n in 0..bytes.len() {
         let want = match n {
-            8 | 44 | 50 | 59 | 66 | 74 | 83 => None,
+            8 | 44 | 50 | 59 | 66 | 74 => None,
             0..=7 => Some(Malformed(0)),
             9..=43 => Some(Malformed(8)),
             45..=49 => Some(Malformed(44)),
@@ -46,7 +46,7 @@ fn seven_and_its_cuts(rt: HostRuntime) -> Result<(), Fail> {
     Ok(())
 }
 
-/// Whole components, one with an instruction on floats, and bytes that are none.
+/// Whole components, one with an instruction on floats, fronts of one that imports a clock, and bytes that are none.
 #[test]
 fn components(rt: HostRuntime) -> Result<(), Fail> {
     let alloc = rt.alloc();
@@ -58,6 +58,10 @@ fn components(rt: HostRuntime) -> Result<(), Fail> {
         ("0061736d0d000100", None),
         ("0061736d0d00010000", Some(Malformed(8))),
         (
+            "0061736d0d00010001220061736d010000000105016000017f03020100070501016600000a0601040041070b0204010000000607010000010001660705014000007908060100000000000b0701000166010000",
+            None,
+        ),
+        (
             "0061736d0d00010001a2808080000061736d010000000105016000017f03020100070501016600000a0601040041070b0204010000000607010000010001660705014000007908060100000000000b0701000166010000",
             None,
         ),
@@ -65,23 +69,18 @@ fn components(rt: HostRuntime) -> Result<(), Fail> {
             "0061736d0d00010001230061736d010000000105016000017f03020100070501016600000a070105004107920b0204010000000607010000010001660705014000007908060100000000000b0701000166010000",
             Some(Unsupported(43, 0x92)),
         ),
+        (
+            "0061736d0d000100071001420201400000770400036e6f7701000a26010021776173693a636c6f636b732f6d6f6e6f746f6e69632d636c6f636b40302e322e300500060801010000036e6f7708050101000000012b0061736d010000000105016000017e0207010168016e000003020100070501016600010a0601040010000b020e020101016e0000000001016812000607010000010101660705014000007708060100000100010b0701000166010100",
+            None,
+        ),
+        ("0061736d0d000100071001420201400000770400036e6f770100", None),
+        (
+            "0061736d0d000100071001420201400000770400036e6f7701000a",
+            Some(Malformed(26)),
+        ),
     ] {
         let bytes = hex::decode(alloc, text.as_bytes())?;
         assert_eq!(rt; fault_of(alloc, bytes.as_slice()), want, "{text}");
-    }
-    Ok(())
-}
-
-/// A component that imports a clock and exports a function that asks it, and two fronts of its bytes.
-#[test]
-fn clock_reader(rt: HostRuntime) -> Result<(), Fail> {
-    let alloc = rt.alloc();
-    let bytes = hex::decode(
-        alloc,
-        b"0061736d0d000100071001420201400000770400036e6f7701000a26010021776173693a636c6f636b732f6d6f6e6f746f6e69632d636c6f636b40302e322e300500060801010000036e6f7708050101000000012b0061736d010000000105016000017e0207010168016e000003020100070501016600010a0601040010000b020e020101016e0000000001016812000607010000010101660705014000007708060100000100010b0701000166010100".as_slice(),
-    )?;
-    for (n, want) in [(26, None), (27, Some(Malformed(26))), (177, None)] {
-        assert_eq!(rt; fault_of(alloc, &bytes[..n]), want, "{n}");
     }
     Ok(())
 }
