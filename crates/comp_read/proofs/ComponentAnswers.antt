@@ -1,15 +1,15 @@
 -- What reading the sections of a component gives says whether its bytes are a component.
-use Rattle.std.proofs.Common.{◌≡◌, ℕ, ◌+◌, ◌≤◌, true, false, List, [], ◌++◌, length, take, drop, Result, Ok, Err, is_err, ◌⊎◌, refl, sym, ap, subst, ◌∙◌, append_assoc, arith, inl, inr}
+use Rattle.std.proofs.Common.{◌≡◌, ℕ, ◌+◌, ◌≤◌, true, false, List, ◌++◌, length, take, drop, Result, Ok, Err, is_err, ◌⊎◌, refl, sym, ap, subst, ◌∙◌, append_assoc, arith, inl, inr}
 use Rattle.std.proofs.lemmas.List.{length-append, length-take, take-append-drop, take_at, drop_at}
 use Rattle.wasm_format.specs.declared.stop.Stop.{Stop}
 use Rattle.wasm_format.specs.declared.stop.Stop.TheVariants as stops
 use Rattle.virt_base.specs.declared.cursor.Cursor.{Cursor}
 use Rattle.virt_base.specs.Place.{Place, Gives, rest, place}
 use Rattle.wasm_format.specs.Format.{fixed}
-use Rattle.wasm_format.proofs.Laws.{IsExactToEnd, exact_fixed, ok_is}
+use Rattle.wasm_format.proofs.Laws.{exact_fixed}
 use Rattle.wasm_format.specs.Sections.{SectionsSpell, built, SpellsTo, Run, run, Ran}
 use Rattle.wasm_format.proofs.SectionLaws.{AreExact, run_ok, run_good, run_longest, run_all}
-use Rattle.comp_grammar.specs.Trees.{Part, Tree, End}
+use Rattle.comp_grammar.specs.Trees.{Tree, End}
 use Rattle.comp_grammar.specs.Components.{preamble, section, sections, all_sections, component, SpellsComponent}
 use Rattle.comp_grammar.proofs.ComponentLaws.{exact_sections, exact_component, spelled_once}
 use Rattle.comp_read.specs.Answers.{inside, StopsAt, MeetsTag, ReachesTooDeep, IsLongest, IsNoComponent, IsTheComponent}

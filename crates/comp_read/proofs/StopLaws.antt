@@ -4,7 +4,6 @@ use Rattle.std.proofs.lemmas.List.{length-append}
 use Rattle.wasm_format.specs.declared.stop.Stop.{Stop}
 use Rattle.wasm_format.specs.declared.stop.Stop.TheVariants.{Malformed}
 use Rattle.virt_base.specs.Place.{Place}
-use Rattle.wasm_format.specs.Format.{Format}
 use Rattle.wasm_format.specs.Sections.{Sections, SectionsSpell, built, Run, after_part, good_at, run}
 use Rattle.wasm_format.proofs.Laws.{after}
 use Rattle.wasm_format.proofs.SectionLaws.{AreExact}
