@@ -9,10 +9,10 @@ use Rattle.core_store.specs.State.{State, IsSound}
 use Rattle.core_store.proofs.References.{repeated_refs}
 
 pub sound_table : (s : State) (k : ℕ) (t : Entries) → IsSound s → AreRefs (length s.functions) t.refs → IsSound (record s { tables = set s.tables k t })
-sound_table s k t w refs = record { tables = All-set (λ (v : Entries). AreRefs (length s.functions) v.refs) s.tables k t refs w.tables; elements = w.elements; globals = w.globals; instances = w.instances; nesting = w.nesting }
+sound_table s k t w refs = record { tables = All-set (λ (v : Entries). AreRefs (length s.functions) v.refs) s.tables k t refs w.tables; elements = w.elements; globals = w.globals; functions = w.functions; instances = w.instances; nesting = w.nesting }
 
 pub sound_table_push : (s : State) (ts : List Entries) (t : Entries) → IsSound s → AreRefs (length s.functions) t.refs → ts ≡ s.tables ++ t ∷ [] → IsSound (record s { tables = ts })
-sound_table_push s ts t w refs e = subst (λ (v : List Entries). IsSound (record s { tables = v })) (sym e) (record { tables = All-push (λ (v : Entries). AreRefs (length s.functions) v.refs) s.tables t w.tables refs; elements = w.elements; globals = w.globals; instances = w.instances; nesting = w.nesting })
+sound_table_push s ts t w refs e = subst (λ (v : List Entries). IsSound (record s { tables = v })) (sym e) (record { tables = All-push (λ (v : Entries). AreRefs (length s.functions) v.refs) s.tables t w.tables refs; elements = w.elements; globals = w.globals; functions = w.functions; instances = w.instances; nesting = w.nesting })
 
 pub null_refs : (n count : ℕ) (max : Option ℕ) → AreRefs n (nulls count max).refs
 null_refs n count max = repeated_refs n count Null tt

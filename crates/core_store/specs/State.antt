@@ -76,6 +76,7 @@ pub record IsSound (s : State) : Type 0 where
   pub tables : All (λ t. AreRefs (length s.functions) t.refs) s.tables
   pub elements : All (AreRefs (length s.functions)) s.elements
   pub globals : All (IsStoreValue (length s.functions)) s.globals
+  pub functions : length s.functions < 4294967296
   pub instances : length s.instances < 4294967296
   pub nesting : s.nesting ≤ 65536
 

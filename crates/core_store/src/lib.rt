@@ -17,7 +17,7 @@ pub use makers::{
     add_elements, add_function, add_global, add_instance, add_memory, add_segment, add_table,
 };
 pub use memories::{copy, drop_segment, fill, grow, init, load, size, store_at};
-pub use state::{Store, function, instances, spaces};
+pub use state::{Store, function, functions, instances, spaces};
 pub use tables::{
     drop_element, table_copy, table_fill, table_get, table_grow, table_init, table_set, table_size,
 };

@@ -107,6 +107,13 @@ pub fn instances(store: &Store) -> u32
     store.instances.len() as u32
 }
 
+/// The number of functions, which is the next one's place.
+pub fn functions(store: &Store) -> u32
+    ensures { result ≡ length store.now.functions }
+{
+    store.functions.len() as u32
+}
+
 /// The function at a place.
 pub fn function(store: &Store, at: u32) -> &StoreFunc
     requires { at < length store.now.functions }

@@ -1,8 +1,8 @@
 use crate::{
     CoreRef, CoreRefs, CoreSpaces, CoreValue, Store, StoreFault, StoreFunc, TooDeep, add_elements,
     add_function, add_global, add_instance, add_memory, add_segment, add_table, copy, drop_element,
-    drop_segment, fill, function, global_get, global_set, grow, init, instances, load, size,
-    spaces, store_at, table_copy, table_fill, table_get, table_grow, table_init, table_set,
+    drop_segment, fill, function, functions, global_get, global_set, grow, init, instances, load,
+    size, spaces, store_at, table_copy, table_fill, table_get, table_grow, table_init, table_set,
     table_size,
 };
 use std::test::Fail;
@@ -98,6 +98,7 @@ fn references_in_a_table(rt: HostRuntime) -> Result<(), Fail> {
     let alloc = rt.alloc();
     let mut store = Store::new(alloc);
     assert_eq!(rt; add_function(alloc, &mut store, make_function(&rt))?, 0);
+    assert_eq!(rt; functions(&store), 1);
     assert_eq!(rt;
         matches!(function(&store, 0), StoreFunc::Outside { ty: _, number: 7 }),
         true
