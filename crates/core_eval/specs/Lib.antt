@@ -1,0 +1,6 @@
+pub mod Words
+pub mod Config
+pub mod Effects
+pub mod Plain
+pub mod Eval
+pub mod Laws

@@ -1,0 +1,11 @@
+ghost use Rattle.core_eval.specs.Laws.{TurnsAreBodies, CallsAreBodies};
+
+/// A turn of a loop is its body, and then what its end says: the depth that the definition allows does not matter.
+pub fn turns_are_bodies()
+    ensures { TurnsAreBodies }
+{}
+
+/// A call is the body of its function, or the answer of the embedder.
+pub fn calls_are_bodies()
+    ensures { CallsAreBodies }
+{}
