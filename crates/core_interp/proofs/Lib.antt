@@ -1,0 +1,16 @@
+pub mod Scenes
+pub mod Values
+pub mod Changes
+pub mod Numerics
+pub mod Moves
+pub mod Opening
+pub mod Jumps
+pub mod Calling
+pub mod Given
+pub mod Alike
+pub mod Entering
+pub mod Stepping
+pub mod Extending
+pub mod Asking
+pub mod Pauses
+pub mod Beginning

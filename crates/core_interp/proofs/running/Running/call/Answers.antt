@@ -1,0 +1,12 @@
+use Rattle.core_interp.proofs.Entering.{call_names, call_enters, call_leads, leads_from}
+use Rattle.core_interp.proofs.running.Running.call.Goals as goal
+
+pub function_place-callee-requires-clause-names : goal.function_place-callee-requires-clause-names
+function_place-callee-requires-clause-names c = call_names c.args.self.now c.args.store.now c.args.index c.requires.before
+
+pub enter-requires-clause-enters : goal.enter-requires-clause-enters
+enter-requires-clause-enters c = call_enters c.args.self.now c.args.store.now c.args.index c.function_place-callee.result c.requires.before c.function_place-callee.ensures.is
+
+pub returns-clause-leads : goal.returns-clause-leads
+returns-clause-leads c =
+    leads_from _ _ c.in_ok-flow.flow c.enter.new.self _ (λ rs n. call_leads c.args.self.now c.args.store.now c.args.index c.function_place-callee.result rs n c.requires.before c.function_place-callee.ensures.is) c.in_ok-flow.ensures.leads

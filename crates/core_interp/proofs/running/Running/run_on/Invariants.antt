@@ -1,0 +1,15 @@
+use Rattle.std.proofs.Common.{◌≡◌, ◌+◌, ◌*◌, ℕ, List, length}
+use Rattle.core_eval.specs.Config.{Reply}
+use Rattle.core_interp.specs.Scene.{scene_of}
+use Rattle.core_interp.specs.Run.{goes, ahead, Ready}
+use Rattle.core_interp.proofs.running.Running.run_on.Given as goal
+
+abbrev pub invariant-loop-flow : goal.invariant-loop-flow
+invariant-loop-flow l = record {
+  leads : (rs : List Reply) (n : ℕ) → ahead (goes l.fn.self l.fn.store) l.fn.budget rs n ≡ goes l.self l.store rs (l.left + n);
+  ready : Ready l.self l.store;
+  scene : scene_of l.fn.store ≡ scene_of l.store;
+}
+
+abbrev pub decreases-loop-flow : goal.decreases-loop-flow
+decreases-loop-flow l = 2 * l.left + length l.self.controls.items

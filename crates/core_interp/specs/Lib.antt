@@ -1,0 +1,8 @@
+pub mod Scene
+pub mod Groups
+pub mod Rest
+pub mod Valid
+pub mod Jumping
+pub mod Plains
+pub mod Run
+pub mod Session

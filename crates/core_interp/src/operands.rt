@@ -1,0 +1,126 @@
+//! Instructions on operands alone.
+
+ghost use Rattle.std.specs.Prelude.{◌≡◌, ◌≤◌, IfOk, length, slice_get};
+ghost use Rattle.core_integer.specs.Integer.{IsOperand};
+ghost use Rattle.core_store.specs.declared.value.CoreSpaces.{CoreSpaces};
+ghost use Rattle.core_store.specs.State.{State};
+ghost use Rattle.core_eval.specs.Plain.{operand_in};
+ghost use Rattle.core_eval.specs.Words.{i32_in};
+ghost use Rattle.core_interp.specs.Scene.{scene_of, spaces_at, IsInside};
+ghost use Rattle.core_interp.specs.Groups.{IsOnOperands};
+ghost use Rattle.core_interp.specs.Valid.{takes, Names};
+ghost use Rattle.core_interp.specs.Plains.{Did, Puts};
+
+use crate::fetch::function_place;
+use core_integer::integer;
+use core_slots::Slots;
+use core_store::Store;
+use virt_base::{CoreType, NoMemory, Trap};
+use wasm_ast::{NumericOp, Op, numeric_of};
+
+/// The i32 of a word.
+#[inline]
+pub fn low(word: u64) -> u32
+    ensures { result ≡ i32_in word }
+{
+    (word % 0x1_0000_0000) as u32
+}
+
+// An operand of a numeric instruction, read at its type.
+#[inline]
+fn operand(ty: CoreType, word: u64) -> u64
+    ensures value { result ≡ operand_in ty word }
+    ensures fits { IsOperand ty result }
+{
+    match ty {
+        CoreType::I32 => low(word) as u64,
+        CoreType::I64 | CoreType::Funcref | CoreType::Externref => word,
+    }
+}
+
+// A numeric instruction.
+#[inline]
+pub fn calculate(slots: &mut Slots, op: NumericOp) -> Result<bool, NoMemory>
+    requires { takes (Op.Numeric op) ≤ length slots.old.operands }
+    ensures { IfOk result (λ went. (spaces : CoreSpaces) (store : State) → Did (Op.Numeric op) spaces slots.old store slots.new store went) }
+{
+    let code = op.code();
+    match numeric_of(code) {
+        Some(kind) => {
+            let last = slots.pop();
+            if kind.params == 1 {
+                return put(slots, integer(code, operand(kind.from, last), 0));
+            }
+            let first = slots.pop();
+            put(
+                slots,
+                integer(code, operand(kind.from, first), operand(kind.from, last)),
+            )
+        }
+        None => unreachable!(),
+    }
+}
+
+// The result of a numeric instruction, if it has one.
+#[inline]
+fn put(slots: &mut Slots, outcome: Result<u64, Trap>) -> Result<bool, NoMemory>
+    ensures { IfOk result (Puts outcome slots.old slots.new) }
+{
+    match outcome {
+        Ok(value) => {
+            slots.push(value)?;
+            Ok(true)
+        }
+        Err(_) => Ok(false),
+    }
+}
+
+/// Does an instruction on operands alone, or answers that it traps.
+#[inline]
+pub fn on_operands(
+    slots: &mut Slots,
+    store: &mut Store,
+    place: u32,
+    op: Op,
+) -> Result<bool, NoMemory>
+    requires group { IsOnOperands op }
+    requires operands { takes op ≤ length slots.old.operands }
+    requires names { Names (scene_of store.old) (spaces_at (scene_of store.old) place) (length slots.old.locals) op }
+    requires inside { IsInside (scene_of store.old) (slice_get store.old.functions place) }
+    ensures did { IfOk result (λ went. Did op (spaces_at (scene_of store.old) place) slots.old store.old slots.new store.new went) }
+{
+    match op {
+        Op::Nop => Ok(true),
+        Op::Drop => {
+            let _dropped = slots.pop();
+            Ok(true)
+        }
+        Op::Select => {
+            let test = slots.pop();
+            let other = slots.pop();
+            let first = slots.pop();
+            slots.push(if low(test) == 0 { other } else { first })?;
+            Ok(true)
+        }
+        Op::I32Const(value) => {
+            slots.push(value.cast_unsigned() as u64)?;
+            Ok(true)
+        }
+        Op::Numeric(op) => calculate(slots, op),
+        Op::RefNull(_) => {
+            slots.push(0)?;
+            Ok(true)
+        }
+        Op::RefIsNull => {
+            let value = slots.pop();
+            slots.push((value == 0) as u64)?;
+            Ok(true)
+        }
+        Op::RefFunc(index) => {
+            let at = function_place(store, place, index);
+            slots.push(at as u64 + 1)?;
+            Ok(true)
+        }
+        _ => unreachable!(),
+    }
+}

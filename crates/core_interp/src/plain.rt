@@ -1,0 +1,62 @@
+//! The instructions that go on to the next.
+
+ghost use Rattle.std.specs.Prelude.{◌≡◌, ◌≤◌, IfOk, length, slice_get};
+ghost use Rattle.core_interp.specs.Scene.{scene_of, spaces_at, IsInside};
+ghost use Rattle.core_interp.specs.Valid.{takes, Names};
+ghost use Rattle.core_interp.specs.Plains.{Did};
+
+use crate::bytes::on_bytes;
+use crate::memory::on_memory;
+use crate::operands::on_operands;
+use crate::refs::on_refs;
+use crate::tables::on_table;
+use crate::variables::on_variable;
+use core_slots::Slots;
+use core_store::Store;
+use std::alloc::Global;
+use virt_base::NoMemory;
+use wasm_ast::Op;
+
+/// Does an instruction that goes on to the next, or answers that it traps.
+#[inline]
+pub fn operate(
+    alloc: Global,
+    slots: &mut Slots,
+    store: &mut Store,
+    place: u32,
+    op: Op,
+) -> Result<bool, NoMemory>
+    requires operands { takes op ≤ length slots.old.operands }
+    requires names { Names (scene_of store.old) (spaces_at (scene_of store.old) place) (length slots.old.locals) op }
+    requires inside { IsInside (scene_of store.old) (slice_get store.old.functions place) }
+    ensures did { IfOk result (λ went. Did op (spaces_at (scene_of store.old) place) slots.old store.old slots.new store.new went) }
+{
+    match op {
+        Op::LocalGet(_) | Op::LocalSet(_) | Op::LocalTee(_) | Op::GlobalGet(_) | Op::GlobalSet(_) =>
+            on_variable(slots, store, place, op),
+        Op::Nop
+        | Op::Drop
+        | Op::Select
+        | Op::I32Const(_)
+        | Op::Numeric(_)
+        | Op::RefNull(_)
+        | Op::RefIsNull
+        | Op::RefFunc(_) => on_operands(slots, store, place, op),
+        Op::Load(_, _) | Op::Store(_, _) | Op::MemorySize | Op::MemoryGrow => {
+            on_memory(alloc, slots, store, place, op)
+        }
+        Op::MemoryInit(_) | Op::DataDrop(_) | Op::MemoryCopy | Op::MemoryFill => {
+            on_bytes(slots, store, place, op)
+        }
+        Op::TableGet(_) | Op::TableSet(_) | Op::TableGrow(_) | Op::TableSize(_) => {
+            on_table(alloc, slots, store, place, op)
+        }
+        Op::TableInit {
+            segment: _,
+            table: _,
+        }
+        | Op::ElemDrop(_)
+        | Op::TableCopy { to: _, from: _ }
+        | Op::TableFill(_) => on_refs(slots, store, place, op),
+    }
+}

@@ -1,0 +1,251 @@
+//! The instructions, one after another.
+
+ghost use Rattle.std.specs.Prelude.{◌≡◌, ◌+◌, ◌*◌, ◌<◌, ◌≤◌, Some, IfOk, length, slice_get};
+ghost use Rattle.core_eval.specs.Eval.{target as target_of};
+ghost use Rattle.wasm_ast.specs.declared.instr.Instr.{Instr};
+ghost use Rattle.core_interp.specs.Scene.{scene_of, code_at, IsInside};
+ghost use Rattle.core_interp.specs.Valid.{IsFine};
+ghost use Rattle.core_interp.specs.Run.{IsBefore, IsTable, HasTable, TakesLabel, Leads, Performs, steps, Steps, Ready, goes, ahead, RunLeads, Falls, Stops};
+
+use crate::control::Flow;
+use crate::fetch::{code_len, instr_at, jump_at};
+use crate::operands::low;
+use crate::plain::operate;
+use crate::running::Running;
+use core_store::Store;
+use std::alloc::Global;
+use virt_base::NoMemory;
+use wasm_ast::{BranchTable, Instr, Op};
+
+impl Running {
+    // An instruction that does as one does that goes on to the next.
+    #[inline]
+    fn plain(&mut self, alloc: Global, store: &mut Store, op: Op) -> Result<Flow, NoMemory>
+        requires { (i : Instr) × Performs i op × IsBefore i self.old store.old }
+        ensures leads { IfOk result (λ flow. Leads (steps self.old store.old) flow self.new store.new) }
+        ensures scene { IfOk result (λ _. scene_of store.old ≡ scene_of store.new) }
+        ensures grows { IfOk result (λ _. length self.new.controls.items ≤ length self.old.controls.items + 1) }
+    {
+        let went = operate(alloc, &mut self.slots, store, self.function, op)?;
+        if went {
+            self.at += 1;
+            return Ok(Flow::On);
+        }
+        Ok(Flow::Failed)
+    }
+
+    // A constant of 64 bits.
+    #[inline]
+    fn constant(&mut self, store: &Store, value: i64) -> Result<Flow, NoMemory>
+        requires { IsBefore (Instr.I64Const value) self.old store.now }
+        ensures leads { IfOk result (λ flow. Leads (steps self.old store.now) flow self.new store.now) }
+        ensures grows { IfOk result (λ _. length self.new.controls.items ≤ length self.old.controls.items + 1) }
+    {
+        self.slots.push(value.cast_unsigned())?;
+        self.at += 1;
+        Ok(Flow::On)
+    }
+
+    fn br(&mut self, store: &mut Store, label: u32) -> Flow
+        requires { IsBefore (Instr.Br label) self.old store.old }
+        ensures leads { Leads (steps self.old store.old) result self.new store.new }
+        ensures scene { scene_of store.old ≡ scene_of store.new }
+        ensures grows { length self.new.controls.items ≤ length self.old.controls.items + 1 }
+    {
+        let flow = self.branch(store, label);
+        flow
+    }
+
+    #[inline]
+    fn br_if(&mut self, store: &mut Store, label: u32) -> Flow
+        requires { IsBefore (Instr.BrIf label) self.old store.old }
+        ensures leads { Leads (steps self.old store.old) result self.new store.new }
+        ensures scene { scene_of store.old ≡ scene_of store.new }
+        ensures grows { length self.new.controls.items ≤ length self.old.controls.items + 1 }
+    {
+        let test = low(self.slots.pop());
+        if test == 0 {
+            self.at += 1;
+            return Flow::On;
+        }
+        let flow = self.branch(store, label);
+        flow
+    }
+
+    fn br_table(&mut self, store: &mut Store) -> Flow
+        requires { IsTable self.old store.old }
+        ensures leads { Leads (steps self.old store.old) result self.new store.new }
+        ensures scene { scene_of store.old ≡ scene_of store.new }
+        ensures grows { length self.new.controls.items ≤ length self.old.controls.items + 1 }
+    {
+        let index = low(self.slots.pop());
+        let label = label_at(store, self.function, self.at, index);
+        let flow = self.branch(store, label);
+        flow
+    }
+
+    fn return_from(&mut self, store: &mut Store) -> Flow
+        requires { IsBefore Instr.Return self.old store.old }
+        ensures leads { Leads (steps self.old store.old) result self.new store.new }
+        ensures scene { scene_of store.old ≡ scene_of store.new }
+        ensures grows { length self.new.controls.items ≤ length self.old.controls.items + 1 }
+    {
+        let flow = self.back(store);
+        flow
+    }
+
+    // An instruction that takes a step.
+    #[inline]
+    fn step(&mut self, alloc: Global, store: &mut Store) -> Result<Flow, NoMemory>
+        requires steps { Steps self.old store.old }
+        requires fine { IsFine (scene_of store.old) }
+        ensures leads { IfOk result (λ flow. Leads (steps self.old store.old) flow self.new store.new) }
+        ensures scene { IfOk result (λ _. scene_of store.old ≡ scene_of store.new) }
+        ensures grows { IfOk result (λ _. length self.new.controls.items ≤ length self.old.controls.items + 1) }
+    {
+        match instr_at(store, self.function, self.at) {
+            Instr::Plain(op) => {
+                let op = *op;
+                self.plain(alloc, store, op)
+            }
+            Instr::I64Const(value) => {
+                let value = *value;
+                self.constant(store, value)
+            }
+            Instr::SelectTyped(_) => self.plain(alloc, store, Op::Select),
+            Instr::Unreachable => Ok(Flow::Failed),
+            Instr::Block(ty) => {
+                let ty = *ty;
+                self.block(store, ty)
+            }
+            Instr::Loop(ty) => {
+                let ty = *ty;
+                self.begin_loop(store, ty)
+            }
+            Instr::If(ty) => {
+                let ty = *ty;
+                self.begin_if(store, ty)
+            }
+            Instr::Br(label) => {
+                let label = *label;
+                Ok(self.br(store, label))
+            }
+            Instr::BrIf(label) => {
+                let label = *label;
+                Ok(self.br_if(store, label))
+            }
+            Instr::BrTable(_) => Ok(self.br_table(store)),
+            Instr::Return => Ok(self.return_from(store)),
+            Instr::Call(index) => {
+                let index = *index;
+                self.call(store, index)
+            }
+            Instr::CallIndirect { ty, table } => {
+                let ty = *ty;
+                let table = *table;
+                self.call_indirect(store, ty, table)
+            }
+            Instr::Else => unreachable!(),
+            Instr::End => unreachable!(),
+        }
+    }
+
+    // An instruction that takes a step, if the budget has one.
+    #[inline]
+    fn counted(
+        &mut self,
+        alloc: Global,
+        store: &mut Store,
+        budget: &mut u64,
+    ) -> Result<Flow, NoMemory>
+        requires steps { Steps self.old store.old }
+        requires fine { IsFine (scene_of store.old) }
+        ensures leads { IfOk result (λ flow. RunLeads (ahead (goes self.old store.old) budget.old) budget.new flow self.new store.new) }
+        ensures scene { IfOk result (λ _. scene_of store.old ≡ scene_of store.new) }
+        ensures falls { IfOk result (λ flow. Falls flow (2 * budget.new + length self.new.controls.items) (2 * budget.old + length self.old.controls.items)) }
+    {
+        if *budget == 0 {
+            return Ok(Flow::Exhausted);
+        }
+        *budget -= 1;
+        let flow = self.step(alloc, store)?;
+        Ok(flow)
+    }
+
+    // One instruction, or the end of a piece.
+    #[inline]
+    fn one(&mut self, alloc: Global, store: &mut Store, budget: &mut u64) -> Result<Flow, NoMemory>
+        requires ready { Ready self.old store.old }
+        requires fine { IsFine (scene_of store.old) }
+        ensures leads { IfOk result (λ flow. RunLeads (ahead (goes self.old store.old) budget.old) budget.new flow self.new store.new) }
+        ensures scene { IfOk result (λ _. scene_of store.old ≡ scene_of store.new) }
+        ensures falls { IfOk result (λ flow. Falls flow (2 * budget.new + length self.new.controls.items) (2 * budget.old + length self.old.controls.items)) }
+    {
+        if self.at >= code_len(store, self.function) {
+            let next = self.at;
+            let flow = self.leave(store, next);
+            return Ok(flow);
+        }
+        match instr_at(store, self.function, self.at) {
+            Instr::End => {
+                let next = self.at + 1;
+                let flow = self.leave(store, next);
+                Ok(flow)
+            }
+            Instr::Else => {
+                let next = jump_at(store, self.function, self.at).behind;
+                let flow = self.leave(store, next);
+                Ok(flow)
+            }
+            _ => self.counted(alloc, store, budget),
+        }
+    }
+
+    /// Runs until the outermost call ends, or until the run stops.
+    pub fn run_on(
+        &mut self,
+        alloc: Global,
+        store: &mut Store,
+        budget: &mut u64,
+    ) -> Result<Flow, NoMemory>
+        requires ready { Ready self.old store.old }
+        requires fine { IsFine (scene_of store.old) }
+        ensures leads { IfOk result (λ flow. RunLeads (ahead (goes self.old store.old) budget.old) budget.new flow self.new store.new) }
+        ensures scene { IfOk result (λ _. scene_of store.old ≡ scene_of store.new) }
+        ensures stops { IfOk result Stops }
+    {
+        let mut left = *budget;
+        loop {
+            match self.one(alloc, store, &mut left)? {
+                Flow::On => {}
+                flow => {
+                    *budget = left;
+                    return Ok(flow);
+                }
+            }
+        }
+    }
+}
+
+// The label to which the br_table there leads.
+fn label_at(store: &Store, place: u32, at: usize, index: u32) -> u32
+    requires inside { IsInside (scene_of store.now) (slice_get store.now.functions place) }
+    requires within { at < length (code_at (scene_of store.now) place) }
+    requires table { HasTable (slice_get (code_at (scene_of store.now) place) at) }
+    ensures { TakesLabel (slice_get (code_at (scene_of store.now) place) at) index result }
+{
+    match instr_at(store, place, at) {
+        Instr::BrTable(table) => target(table, index),
+        _ => unreachable!(),
+    }
+}
+
+// The label to which a br_table leads.
+fn target(table: &BranchTable, index: u32) -> u32
+    ensures { result ≡ target_of table.now index }
+{
+    match table.labels.as_slice().get(index as usize) {
+        Some(label) => *label,
+        None => table.default,
+    }
+}
