@@ -1,0 +1,5 @@
+pub mod FunctionLemmas
+pub mod ItemLemmas
+pub mod OperandLemmas
+pub mod PartLemmas
+pub mod PlaceLemmas

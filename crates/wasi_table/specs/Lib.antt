@@ -1,0 +1,9 @@
+pub mod Before
+pub mod Forms
+pub mod Functions
+pub mod Items
+pub mod Plain
+pub mod Tables
+pub mod Texts
+pub mod Types
+pub mod Words
