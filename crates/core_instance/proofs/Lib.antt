@@ -1,0 +1,11 @@
+pub mod EndLemmas
+pub mod RangeLemmas
+pub mod ValidLemmas
+pub mod SegmentLemmas
+pub mod PlaceLemmas
+pub mod GrowLemmas
+pub mod FunctionLemmas
+pub mod AllocateLemmas
+pub mod LoopLemmas
+pub mod WholeLemmas
+pub mod RunLemmas

@@ -1,0 +1,96 @@
+//! Copies of what a module holds, for the functions of its instance.
+
+ghost use Rattle.std.specs.Prelude.{◌≡◌, [], IfOk};
+ghost use Rattle.core_body.specs.Context.{arrow};
+ghost use Rattle.core_body.specs.Locals.{spread};
+
+use std::alloc::Global;
+use virt_base::{CoreTypes, Items, NoMemory};
+use wasm_ast::{Boxed, BranchTable, CoreFunc, Indexes, Instr, Instrs, LocalRun};
+
+fn copy_types(alloc: Global, types: &CoreTypes) -> Result<CoreTypes, NoMemory>
+    ensures { IfOk result (λ copy. copy ≡ types.now) }
+{
+    Ok(Items::new(Vec::from_slice(alloc, types.as_slice())?))
+}
+
+fn copy_indexes(alloc: Global, indexes: &Indexes) -> Result<Indexes, NoMemory>
+    ensures { IfOk result (λ copy. copy ≡ indexes.now) }
+{
+    Ok(Items::new(Vec::from_slice(alloc, indexes.as_slice())?))
+}
+
+/// The types of a body's locals.
+#[tactic(auto, using(crate::proofs::RunLemmas::spread_more))]
+pub fn spread(alloc: Global, runs: &[LocalRun]) -> Result<CoreTypes, NoMemory>
+    ensures { IfOk result (λ types. types ≡ spread runs.now) }
+{
+    let mut list = Vec::new(alloc);
+    for run in runs {
+        let len = list.len() + run.count as usize;
+        list.resize(len, run.ty)?;
+    }
+    Ok(Items::new(list))
+}
+
+/// The type that takes and gives nothing, which stands for one that is not there.
+pub fn no_func(alloc: Global) -> CoreFunc
+    ensures { result ≡ arrow [] [] }
+{
+    CoreFunc {
+        params: Items::empty(alloc),
+        results: Items::empty(alloc),
+    }
+}
+
+/// A copy of a function type.
+pub fn copy_func(alloc: Global, func: &CoreFunc) -> Result<CoreFunc, NoMemory>
+    ensures { IfOk result (λ copy. copy ≡ func.now) }
+{
+    let params = copy_types(alloc, &func.params)?;
+    let results = copy_types(alloc, &func.results)?;
+    Ok(CoreFunc { params, results })
+}
+
+fn copy_instr(alloc: Global, instr: &Instr) -> Result<Instr, NoMemory>
+    ensures { IfOk result (λ copy. copy ≡ instr.now) }
+{
+    Ok(match instr {
+        Instr::Plain(op) => Instr::Plain(*op),
+        Instr::I64Const(n) => Instr::I64Const(*n),
+        Instr::SelectTyped(types) => {
+            let types = copy_types(alloc, types)?;
+            Instr::SelectTyped(Boxed::new(alloc, types)?)
+        }
+        Instr::BrTable(table) => {
+            let labels = copy_indexes(alloc, &table.labels)?;
+            let default = table.default;
+            Instr::BrTable(Boxed::new(alloc, BranchTable { labels, default })?)
+        }
+        Instr::Unreachable => Instr::Unreachable,
+        Instr::Block(ty) => Instr::Block(*ty),
+        Instr::Loop(ty) => Instr::Loop(*ty),
+        Instr::If(ty) => Instr::If(*ty),
+        Instr::Else => Instr::Else,
+        Instr::End => Instr::End,
+        Instr::Br(label) => Instr::Br(*label),
+        Instr::BrIf(label) => Instr::BrIf(*label),
+        Instr::Return => Instr::Return,
+        Instr::Call(function) => Instr::Call(*function),
+        Instr::CallIndirect { ty, table } => Instr::CallIndirect {
+            ty: *ty,
+            table: *table,
+        },
+    })
+}
+
+/// A copy of code.
+pub fn copy_instrs(alloc: Global, instrs: &Instrs) -> Result<Instrs, NoMemory>
+    ensures { IfOk result (λ copy. copy ≡ instrs.now) }
+{
+    let mut list = Vec::with_capacity(alloc, instrs.len())?;
+    for instr in instrs.as_slice() {
+        list.push(copy_instr(alloc, instr)?)?;
+    }
+    Ok(Items::new(list))
+}
