@@ -1,0 +1,12 @@
+pub mod FloatLaws
+pub mod FloatCore
+pub mod FloatItems
+pub mod LeastItems
+pub mod Bare
+pub mod SectionFloats
+pub mod SectionFits
+pub mod Writes
+pub mod TypeForms
+pub mod SectionForms
+pub mod Loops
+pub mod FromInput
