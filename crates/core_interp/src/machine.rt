@@ -94,6 +94,7 @@ impl Machine {
         requires can { CanRun self.old store.old }
         requires fine { IsFine (scene_of store.old) }
         ensures leads { IfOk result (λ pause. PauseLeads (granted (goes_on self.old store.old) budget.old) budget.new pause self.new store.new) }
+        ensures scene { IfOk result (λ _. scene_of store.old ≡ scene_of store.new) }
         ensures says { IfOk result (λ pause. (first : State) (f : ℕ) (args : List CoreValue) (used : List Reply) (given : ℕ) → Follows first f args used given budget.old self.old store.old → Says first f args used given budget.new pause self.new store.new) }
     {
         let pause = self.next_pause(alloc, store, budget)?;
@@ -109,6 +110,7 @@ impl Machine {
         requires can { CanRun self.old store.old }
         requires fine { IsFine (scene_of store.old) }
         ensures leads { IfOk result (λ pause. PauseLeads (granted (goes_on self.old store.old) budget.old) budget.new pause self.new store.new) }
+        ensures scene { IfOk result (λ _. scene_of store.old ≡ scene_of store.new) }
     {
         match self.stage {
             Stage::Starts => self.begin(alloc, store, budget),
@@ -133,6 +135,7 @@ impl Machine {
         requires can { CanRun self.old store.old }
         requires fine { IsFine (scene_of store.old) }
         ensures leads { IfOk result (λ pause. PauseLeads (granted (goes_on self.old store.old) budget.old) budget.new pause self.new store.new) }
+        ensures scene { IfOk result (λ _. scene_of store.old ≡ scene_of store.new) }
     {
         match function(store, self.entry) {
             StoreFunc::Inside {
@@ -178,6 +181,7 @@ impl Machine {
         requires can { CanRun self.old store.old }
         requires fine { IsFine (scene_of store.old) }
         ensures leads { IfOk result (λ pause. PauseLeads (granted (goes_on self.old store.old) budget.old) budget.new pause self.new store.new) }
+        ensures scene { IfOk result (λ _. scene_of store.old ≡ scene_of store.new) }
     {
         let flow = self.running.run_on(alloc, store, budget)?;
         match flow {

@@ -1,9 +1,10 @@
-use Rattle.std.proofs.Common.{ℕ, List, [], ◌∷◌, ◌++◌, length, ◌∙◌, ap, Some, refl}
+use Rattle.std.proofs.Common.{ℕ, List, [], ◌∷◌, ◌++◌, length, ◌∙◌, ap, sym, Some, refl}
 use Rattle.core_slots.specs.Stacked.{opened}
 use Rattle.core_interp.specs.declared.control.Control.TheVariants.{Entry}
 use Rattle.core_interp.specs.declared.machine.Stage.TheVariants.{Runs, Answered}
 use Rattle.core_interp.specs.declared.machine.Machine.{Machine}
 use Rattle.core_interp.specs.declared.running.Running.{Running}
+use Rattle.core_interp.specs.Scene.{scene_of}
 use Rattle.core_interp.proofs.Pauses.{pause_from}
 use Rattle.core_interp.proofs.Beginning.{first_of, begun_goes, begun_can, first_asks}
 use Rattle.core_interp.proofs.machine.Machine.begin.Goals as goal
@@ -24,8 +25,9 @@ returns-in_ok-pause-in-Ok c =
           (c.in_ok-push-in-Ok.ensures.items ∙ ap (λ (k : ℕ). c.args.self.now.running.controls.items ++ Entry k ∷ []) c.len-results.ensures)
           rs _)
           c.in_ok-pause-in-Ok.ensures.leads;
+      scene = ap scene_of (sym c.in-Ok.ensures.1) ∙ c.in_ok-pause-in-Ok.ensures.scene;
     }
 
 pub returns-in_ok-pause-in-Outside : goal.returns-in_ok-pause-in-Outside
 returns-in_ok-pause-in-Outside c =
-    record { leads = first_asks c.args.self.now (let k : Machine = record c.args.self.now { stage = Answered } in k) c.ask.new.self c.args.store.now c.args.budget.now c.in-Outside.number c.in-Outside.ty c.in_ok-pause-in-Outside.pause c.requires.stage refl refl refl c.requires.can (c.function.ensures ∙ ap Some c.in-Outside.is) c.in_ok-pause-in-Outside.ensures }
+    record { leads = first_asks c.args.self.now (let k : Machine = record c.args.self.now { stage = Answered } in k) c.ask.new.self c.args.store.now c.args.budget.now c.in-Outside.number c.in-Outside.ty c.in_ok-pause-in-Outside.pause c.requires.stage refl refl refl c.requires.can (c.function.ensures ∙ ap Some c.in-Outside.is) c.in_ok-pause-in-Outside.ensures; scene = refl }

@@ -12,9 +12,9 @@ run_on-requires-clause-ready c = runs_ready c.args.self.now c.args.store.now c.r
 pub returns-in_ok-pause-in-Asking : goal.returns-in_ok-pause-in-Asking
 returns-in_ok-pause-in-Asking c =
     let lead = subst (λ (w : Flow). RunLeads (ahead (goes c.args.self.now.running c.args.store.now) c.args.budget.now) c.run_on.new.budget w c.run_on.new.self c.run_on.new.store) c.in-Asking.is c.in_ok-flow.ensures.leads in
-    record { leads = asking_leads c.args.self.now (let k : Machine = record c.args.self.now { running = c.run_on.new.self } in k) c.ask.new.self c.args.store.now c.run_on.new.store c.args.budget.now c.run_on.new.budget c.in-Asking.callee c.in_ok-pause-in-Asking.pause c.requires.stage c.requires.stage refl c.in_ok-flow.ensures.scene c.requires.can lead c.in_ok-pause-in-Asking.ensures }
+    record { scene = c.in_ok-flow.ensures.scene; leads = asking_leads c.args.self.now (let k : Machine = record c.args.self.now { running = c.run_on.new.self } in k) c.ask.new.self c.args.store.now c.run_on.new.store c.args.budget.now c.run_on.new.budget c.in-Asking.callee c.in_ok-pause-in-Asking.pause c.requires.stage c.requires.stage refl c.in_ok-flow.ensures.scene c.requires.can lead c.in_ok-pause-in-Asking.ensures }
 
 pub returns-in-Exhausted : goal.returns-in-Exhausted
 returns-in-Exhausted c =
     let lead = subst (λ (w : Flow). RunLeads (ahead (goes c.args.self.now.running c.args.store.now) c.args.budget.now) c.run_on.new.budget w c.run_on.new.self c.run_on.new.store) c.in-Exhausted.is c.in_ok-flow.ensures.leads in
-    record { leads = exhausted_leads c.args.self.now (let k : Machine = record c.args.self.now { running = c.run_on.new.self } in k) c.args.store.now c.run_on.new.store c.args.budget.now c.run_on.new.budget c.requires.stage c.requires.stage refl c.in_ok-flow.ensures.scene c.requires.can lead }
+    record { scene = c.in_ok-flow.ensures.scene; leads = exhausted_leads c.args.self.now (let k : Machine = record c.args.self.now { running = c.run_on.new.self } in k) c.args.store.now c.run_on.new.store c.args.budget.now c.run_on.new.budget c.requires.stage c.requires.stage refl c.in_ok-flow.ensures.scene c.requires.can lead }
