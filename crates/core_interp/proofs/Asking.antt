@@ -1,9 +1,7 @@
 -- Asking for a call of the embedder.
-use Rattle.std.proofs.Common.{◌≡◌, ℕ, zero, suc, ◌+◌, ◌-◌, ◌≤◌, List, [], ◌∷◌, ◌++◌, length, take, drop, refl, sym, ap, ◌∙◌, arith, length-append}
+use Rattle.std.proofs.Common.{◌≡◌, ℕ, suc, ◌+◌, ◌-◌, ◌≤◌, List, ◌∷◌, ◌++◌, length, take, drop, refl, ap, ◌∙◌, arith}
 use Rattle.std.specs.Prelude.{reverse, replicate}
-use Rattle.std.proofs.lemmas.List.{take_rest, length-reverse, length-replicate, drop-append-le, drop_at}
-use Rattle.core_eval.specs.Words.{words}
-use Rattle.core_store.specs.declared.value.CoreValue.{CoreValue}
+use Rattle.std.proofs.lemmas.List.{take_rest, length-reverse}
 use Rattle.core_slots.specs.Stacked.{Stacked, with_operands}
 use Rattle.core_slots.proofs.WordLaws.{rest_first}
 

@@ -1,7 +1,7 @@
 -- The first call, and a call over all its pauses.
-use Rattle.std.proofs.Common.{◌≡◌, ℕ, zero, suc, ◌+◌, ◌-◌, ◌<◌, ◌≤◌, List, [], ◌∷◌, ◌++◌, length, take, drop, Some, None, Option, Bool, true, false, refl, sym, ap, ◌∙◌, subst, arith, append_assoc, length-append}
-use Rattle.std.specs.Prelude.{reverse, replicate, slice_get, nat_lt}
-use Rattle.std.proofs.lemmas.List.{append-nil, drop_all, length-reverse, length-take-le, length-replicate, reverse-reverse}
+use Rattle.std.proofs.Common.{◌≡◌, ℕ, zero, suc, ◌+◌, ◌<◌, List, [], ◌∷◌, ◌++◌, length, take, drop, Some, Option, Bool, refl, sym, ap, ◌∙◌, subst, arith, append_assoc, length-append}
+use Rattle.std.specs.Prelude.{reverse, replicate, slice_get}
+use Rattle.std.proofs.lemmas.List.{append-nil, drop_all, length-reverse, length-take-le, length-replicate}
 use Rattle.virt_base.specs.declared.core_type.CoreType.{CoreType}
 use Rattle.wasm_ast.specs.declared.module.CoreFunc.{CoreFunc}
 use Rattle.wasm_ast.specs.declared.instr.Instr.{Instr}
@@ -11,26 +11,25 @@ use Rattle.core_store.specs.declared.value.StoreFunc.{StoreFunc}
 use Rattle.core_store.specs.declared.value.StoreFunc.TheVariants.{Inside, Outside}
 use Rattle.core_store.specs.State.{State}
 use Rattle.core_eval.specs.Words.{words, values_in}
-use Rattle.core_eval.specs.Config.{Reply, Outcome, Done, Asks, Out, Over, bare, spaces_of}
-use Rattle.core_eval.specs.Eval.{Enter, arguments, function_type, deep, go, exec, finish, eval, entered, enter_within, call_end, entered_store, begun}
+use Rattle.core_eval.specs.Config.{Reply, Done, Asks, bare, spaces_of}
+use Rattle.core_eval.specs.Eval.{arguments, function_type, go, exec, finish, eval, entered, enter_within, call_end, entered_store, begun}
 use Rattle.core_eval.proofs.Steps.{go_enter}
-use Rattle.core_slots.specs.Stacked.{Stacked, with_operands, opened}
+use Rattle.core_slots.specs.Stacked.{Stacked, opened}
 use Rattle.core_interp.specs.declared.control.Control.{Control}
 use Rattle.core_interp.specs.declared.control.Control.TheVariants.{Entry}
-use Rattle.core_interp.specs.declared.running.Running.{Running}
 use Rattle.core_interp.specs.declared.machine.Stage.TheVariants.{Starts, Runs, Answered, Due}
 use Rattle.core_interp.specs.declared.machine.Machine.{Machine}
 use Rattle.core_interp.specs.declared.machine.Pause.{Pause}
 use Rattle.core_interp.specs.declared.machine.Pause.TheVariants as pauses
-use Rattle.core_interp.specs.Scene.{Scene, scene_of, code_of, code_at, instance_of, spaces_at, results_at, IsInside}
+use Rattle.core_interp.specs.Scene.{Scene, scene_of, code_of, instance_of, results_at, IsInside}
 use Rattle.core_interp.specs.Rest.{config_of, goes_with, goes_at}
 use Rattle.core_interp.specs.Valid.{frame_at, Fine, IsFine, IsReady, params_of}
-use Rattle.core_interp.specs.Run.{progress, goes, calls, ReadyAt, Ready}
-use Rattle.core_interp.specs.Session.{results_due, goes_on, IsFirst, CanRun, Extends, IsAnswer, answered_slots, resumed, PauseLeads, granted, Follows, Says, asking, AsksBy, Dues}
+use Rattle.core_interp.specs.Run.{progress, calls, ReadyAt}
+use Rattle.core_interp.specs.Session.{results_due, goes_on, IsFirst, CanRun, resumed, PauseLeads, granted, Follows, Says, asking, AsksBy, Dues}
 use Rattle.core_interp.proofs.Changes.{lt_true, lt_false}
 use Rattle.core_interp.proofs.Given.{pushed}
 use Rattle.core_interp.proofs.Extending.{functions_longer}
-use Rattle.core_interp.proofs.Pauses.{goes_at_stage, staged_at, at_stage, pause_from, due_leads, asked_same, asks_only, due_more, asked_for}
+use Rattle.core_interp.proofs.Pauses.{goes_at_stage, staged_at, at_stage, due_leads, asked_same, asks_only, due_more, asked_for}
 
 pub first_of : (m : Machine) (s : State) → m.stage ≡ Starts → CanRun m s → IsFirst m s
 first_of m s e can = staged_at m s Starts e can.staged

@@ -1,6 +1,6 @@
 -- Calls, from the instruction.
-use Rattle.std.proofs.Common.{◌≡◌, ℕ, zero, suc, ◌+◌, ◌-◌, ◌<◌, ◌≤◌, List, [], ◌∷◌, ◌++◌, length, take, drop, Some, None, Option, Bool, true, false, Result, Ok, Err, refl, sym, ap, ◌∙◌, subst, arith, length-append, length-drop}
-use Rattle.std.specs.Prelude.{reverse, replicate, slice_get, nat_lt, ◌&&◌}
+use Rattle.std.proofs.Common.{◌≡◌, ℕ, suc, ◌+◌, ◌-◌, ◌<◌, ◌≤◌, List, [], ◌∷◌, length, take, drop, Some, Option, Bool, true, false, Result, Ok, refl, sym, ap, ◌∙◌, subst, arith, length-append, length-drop}
+use Rattle.std.specs.Prelude.{reverse, replicate, slice_get, ◌&&◌}
 use Rattle.std.proofs.lemmas.Option.{slice_get_within}
 use Rattle.std.proofs.lemmas.List.{length-reverse, length-take-le, length-replicate}
 use Rattle.virt_base.specs.declared.fault.Trap.{Trap}
@@ -8,9 +8,9 @@ use Rattle.virt_base.specs.declared.core_type.CoreType.{CoreType}
 use Rattle.wasm_ast.specs.declared.module.CoreFunc.{CoreFunc}
 use Rattle.wasm_ast.specs.declared.instr.Instr.{Instr}
 use Rattle.wasm_ast.specs.declared.instr.Instr.TheVariants.{Call, CallIndirect}
-use Rattle.core_code.specs.Tree.{Then, Part, first, onto, placed, parts, tree}
+use Rattle.core_code.specs.Tree.{Part, first, placed, parts, tree}
 use Rattle.core_store.specs.declared.value.CoreRef.{CoreRef}
-use Rattle.core_store.specs.declared.value.CoreRef.TheVariants.{Null, Func}
+use Rattle.core_store.specs.declared.value.CoreRef.TheVariants.{Func}
 use Rattle.core_store.specs.declared.value.CoreSpaces.{CoreSpaces}
 use Rattle.core_store.specs.declared.value.CoreValue.{CoreValue}
 use Rattle.core_store.specs.declared.value.StoreFunc.{StoreFunc}
@@ -18,8 +18,8 @@ use Rattle.core_store.specs.declared.value.StoreFunc.TheVariants.{Inside, Outsid
 use Rattle.core_store.specs.Table.{got}
 use Rattle.core_store.specs.State.{State, table_at}
 use Rattle.core_eval.specs.Words.{words, i32_in}
-use Rattle.core_eval.specs.Config.{Reply, Config, Out, Over, Asks, Trapped, then_do, spaces_of, type_at}
-use Rattle.core_eval.specs.Eval.{type_of, function_type, same_type, same_types, same_func, enter_if, call_ref, call_place, indirect, Enter, single, exec, go, entered, enter_within, call_end, begun, entered_store, deep, arguments}
+use Rattle.core_eval.specs.Config.{Reply, Config, Over, Asks, Trapped, then_do, spaces_of, type_at}
+use Rattle.core_eval.specs.Eval.{type_of, function_type, same_type, same_types, same_func, enter_if, call_ref, call_place, indirect, Enter, exec, go, entered, enter_within, call_end, begun, entered_store, deep, arguments}
 use Rattle.core_eval.proofs.Steps.{go_enter}
 use Rattle.core_slots.specs.Stacked.{Stacked, with_operands, opened}
 use Rattle.core_interp.specs.declared.control.Control.{Control}
@@ -30,7 +30,7 @@ use Rattle.core_interp.specs.Valid.{Frame, Place, frame_at, Fine, IsFine, aritie
 use Rattle.core_interp.specs.Jumping.{IsEntering, enters}
 use Rattle.core_interp.specs.Run.{answered}
 use Rattle.core_interp.proofs.Changes.{lt_true, lt_false}
-use Rattle.core_interp.proofs.Moves.{conts_later, stands_later, over_after, then_traps}
+use Rattle.core_interp.proofs.Moves.{conts_later, stands_later, over_after}
 
 -- a call is what its function does
 pub entered_goes : (w : Scene) (sp : CoreSpaces) (code : List Instr) (qs : List Part) (a : Stacked) (cs : List Control) (s : State) (rs : List Reply) (f n : ℕ) (g : StoreFunc) → slice_get s.functions f ≡ Some g → enters w sp code qs a cs s rs f n ≡ after (conts w code cs qs a.callers) (then_do (entered go (Some g) n (config_of a sp s rs)) (exec go (first qs).here))

@@ -1,16 +1,16 @@
 -- Changes of memories and tables, as the store tells them.
-use Rattle.std.proofs.Common.{◌≡◌, ℕ, zero, suc, ◌+◌, ◌<◌, ◌≤◌, List, [], length, take, drop, length-set, refl, ap, sym, ◌∙◌, subst, arith, Bool, true, false, Option, Some, None, Result, Ok, Err, ⊎_elim, inl, inr}
+use Rattle.std.proofs.Common.{◌≡◌, ℕ, ◌<◌, ◌≤◌, List, length-set, refl, ap, sym, ◌∙◌, subst, arith, Bool, true, false, Option, Some, None, Result, Ok, Err, ⊎_elim, inl, inr}
 use Rattle.std.specs.Prelude.{nat_lt, nat_le, ◌&&◌, slice_set, if◌then◌else◌, ℤ, pos, negsuc, ◌⊎◌}
 use Rattle.std.proofs.lemmas.Grind.{common_steps}
 use Rattle.virt_base.specs.declared.fault.Trap.{Trap as TrapType}
 use Rattle.core_memory.specs.declared.fault.StoreFault.{StoreFault}
 use Rattle.core_memory.specs.declared.fault.StoreFault.TheVariants.{Trap, NoMemory}
-use Rattle.core_memory.specs.Linear.{Linear, Writes, Moves, Grows, written}
+use Rattle.core_memory.specs.Linear.{Linear, Writes, Moves, Grows}
 use Rattle.core_store.specs.declared.value.CoreRef.{CoreRef}
 use Rattle.core_store.specs.Table.{Entries, Sets, Fills, Moves as MovesRefs, Grows as GrowsTable}
 use Rattle.core_store.specs.State.{State, memory_at, table_at, InMemory, InTable}
-use Rattle.core_eval.specs.Effects.{with_memory, with_table, with_refs, put_bytes, move_bytes, set_ref, fill_refs, move_refs, grown_size, grow_memory, grown_table_size, grow_table}
-use Rattle.core_interp.specs.Scene.{Scene, scene_of}
+use Rattle.core_eval.specs.Effects.{with_memory, with_table, put_bytes, move_bytes, set_ref, fill_refs, move_refs, grow_memory, grow_table}
+use Rattle.core_interp.specs.Scene.{scene_of}
 use Rattle.core_interp.specs.Plains.{Stays, Made, word_of_answer}
 
 pub stays_memory : (s : State) (k : ℕ) (m : Linear) → Stays s (with_memory s k m)

@@ -1,5 +1,5 @@
 -- Calls, over the parts of a run.
-use Rattle.std.proofs.Common.{◌≡◌, ℕ, zero, suc, ◌+◌, ◌-◌, ◌<◌, ◌≤◌, List, [], ◌∷◌, ◌++◌, length, take, drop, Some, Option, Bool, true, false, Result, Ok, Err, refl, sym, ap, ◌∙◌, subst, arith}
+use Rattle.std.proofs.Common.{◌≡◌, ℕ, ◌+◌, ◌<◌, ◌≤◌, List, [], ◌∷◌, ◌++◌, length, drop, Some, Option, Bool, true, false, Result, Ok, Err, refl, sym, ap, ◌∙◌, subst, arith}
 use Rattle.std.specs.Prelude.{reverse, slice_get}
 use Rattle.std.proofs.lemmas.Option.{slice_get_within}
 use Rattle.virt_base.specs.declared.fault.Trap.{Trap}
@@ -7,7 +7,7 @@ use Rattle.virt_base.specs.declared.core_type.CoreType.{CoreType}
 use Rattle.wasm_ast.specs.declared.module.CoreFunc.{CoreFunc}
 use Rattle.wasm_ast.specs.declared.instr.Instr.{Instr}
 use Rattle.wasm_ast.specs.declared.instr.Instr.TheVariants.{Call, CallIndirect}
-use Rattle.core_code.specs.Tree.{Part, first, placed, parts}
+use Rattle.core_code.specs.Tree.{first, parts}
 use Rattle.core_store.specs.declared.value.CoreRef.{CoreRef}
 use Rattle.core_store.specs.declared.value.CoreRef.TheVariants.{Null, Func}
 use Rattle.core_store.specs.declared.value.CoreSpaces.{CoreSpaces}
@@ -24,9 +24,9 @@ use Rattle.core_interp.specs.declared.control.Control.TheVariants.{Called}
 use Rattle.core_interp.specs.declared.control.Flow.{Flow}
 use Rattle.core_interp.specs.declared.control.Flow.TheVariants.{On, Ended, Failed, Asking, Exhausted, Deep}
 use Rattle.core_interp.specs.declared.running.Running.{Running}
-use Rattle.core_interp.specs.Scene.{Scene, scene_of, code_of, code_at, instance_of, spaces_at, IsInside}
+use Rattle.core_interp.specs.Scene.{scene_of, code_of, code_at, instance_of, spaces_at, IsInside}
 use Rattle.core_interp.specs.Rest.{after, conts, config_of, goes_with, goes_at}
-use Rattle.core_interp.specs.Valid.{Place, frame_at, IsFine, IsReady, params_of}
+use Rattle.core_interp.specs.Valid.{Place, frame_at, IsFine, IsReady}
 use Rattle.core_interp.specs.Jumping.{IsEntering, enters}
 use Rattle.core_interp.specs.Run.{progress, calls, ReadyAt, IsBefore, LeadsTo, AsksFor, Leads, steps, next_parts, Enters, entry, answered}
 use Rattle.core_interp.proofs.Calling.{inside_goes, inside_ready, deep_goes, outside_asks, outside_goes, outside_ready, enters_fits, call_goes, call_entering, call_there, indirect_goes, indirect_enters, indirect_traps, indirect_entering, indirect_below, indirect_needs, other_type}

@@ -1,7 +1,6 @@
 -- What can run over a store can run over one to which items were added.
 use Rattle.std.proofs.Common.{◌≡◌, ℕ, zero, suc, ◌+◌, ◌-◌, ◌<◌, ◌≤◌, List, [], ◌∷◌, ◌++◌, length, drop, Some, None, Option, refl, sym, ap, ◌∙◌, subst, arith, length-append}
 use Rattle.std.specs.Prelude.{slice_get, unwrap_or}
-use Rattle.std.proofs.lemmas.Option.{slice_get_within}
 use Rattle.virt_base.specs.declared.core_type.CoreType.{CoreType}
 use Rattle.wasm_ast.specs.declared.module.CoreFunc.{CoreFunc}
 use Rattle.wasm_ast.specs.declared.instr.Op.{Op}
@@ -13,12 +12,12 @@ use Rattle.core_store.specs.declared.value.CoreSpaces.{CoreSpaces}
 use Rattle.core_store.specs.declared.value.StoreFunc.{StoreFunc}
 use Rattle.core_store.specs.declared.value.StoreFunc.TheVariants.{Inside, Outside}
 use Rattle.core_store.specs.State.{State}
-use Rattle.core_eval.specs.Config.{Reply, Out, bare, block_params, block_results}
+use Rattle.core_eval.specs.Config.{Reply, bare, block_params, block_results}
 use Rattle.core_eval.specs.Eval.{function_type, exec, go}
 use Rattle.core_slots.specs.Stacked.{Held, Stacked}
 use Rattle.core_interp.specs.declared.control.Control.{Control}
 use Rattle.core_interp.specs.declared.control.Control.TheVariants.{Label, Called, Entry}
-use Rattle.core_interp.specs.Scene.{Scene, scene_of, code_of, code_at, instance_of, spaces_at, results_at, IsInside}
+use Rattle.core_interp.specs.Scene.{Scene, scene_of, code_of, code_at, instance_of, spaces_at, IsInside}
 use Rattle.core_interp.specs.Rest.{Cont, AfterLabel, AfterCall, after, conts, config_of, goes_at}
 use Rattle.core_interp.specs.Valid.{Frame, frame_at, Place, Names, FineOne, Fine, arities, Stands, IsReady}
 use Rattle.core_interp.specs.Run.{ReadyAt}

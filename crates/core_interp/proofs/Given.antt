@@ -1,6 +1,6 @@
 -- The machine's functions, over their parts.
-use Rattle.std.proofs.Common.{◌≡◌, ℕ, zero, suc, ◌+◌, ◌-◌, ◌<◌, ◌≤◌, List, [], ◌∷◌, ◌++◌, length, take, drop, Some, refl, sym, ap, ◌∙◌, subst, arith, length-drop}
-use Rattle.std.specs.Prelude.{reverse, slice_get}
+use Rattle.std.proofs.Common.{◌≡◌, ℕ, zero, suc, ◌+◌, ◌-◌, ◌<◌, ◌≤◌, List, [], ◌∷◌, ◌++◌, length, take, drop, refl, sym, ap, ◌∙◌, subst, arith, length-drop}
+use Rattle.std.specs.Prelude.{reverse}
 use Rattle.std.proofs.lemmas.Option.{slice_get_within}
 use Rattle.std.proofs.lemmas.List.{reverse-append, take-append-drop, drop_at, length-reverse}
 use Rattle.wasm_ast.specs.declared.instr.BlockType.{BlockType}
@@ -18,7 +18,7 @@ use Rattle.core_slots.specs.Stacked.{Held, Stacked, with_operands, closed}
 use Rattle.core_interp.specs.declared.control.Control.{Control}
 use Rattle.core_interp.specs.declared.control.Control.TheVariants.{Label, Called, Entry}
 use Rattle.core_interp.specs.declared.running.Running.{Running}
-use Rattle.core_interp.specs.Scene.{Scene, scene_of, code_at, spaces_at, IsInside}
+use Rattle.core_interp.specs.Scene.{Scene, scene_of, code_at, spaces_at}
 use Rattle.core_interp.specs.Rest.{goes_with, goes_at}
 use Rattle.core_interp.specs.Valid.{Frame, frame_at, IsReady, IsBlock}
 use Rattle.core_interp.specs.Jumping.{IsJumping, jumps, IsReturning, returns_from, beyond}

@@ -1,12 +1,12 @@
 -- Ends, branches and returns.
 use Rattle.std.proofs.Common.{◌≡◌, ℕ, zero, suc, ◌+◌, ◌-◌, ◌<◌, ◌≤◌, List, [], ◌∷◌, ◌++◌, length, take, drop, Some, refl, sym, ap, ◌∙◌, subst, arith, length-append, length-drop}
-use Rattle.std.specs.Prelude.{reverse, slice_get}
+use Rattle.std.specs.Prelude.{slice_get}
 use Rattle.std.proofs.lemmas.List.{length-take-le}
 use Rattle.wasm_ast.specs.declared.instr.Instr.{Instr}
 use Rattle.core_code.specs.Tree.{Seq, Stop, Part, first, later, parts}
 use Rattle.core_store.specs.declared.value.CoreSpaces.{CoreSpaces}
 use Rattle.core_store.specs.State.{State}
-use Rattle.core_eval.specs.Config.{Reply, Out, Next, Break, Back, kept}
+use Rattle.core_eval.specs.Config.{Reply, Next, Break, Back, kept}
 use Rattle.core_eval.specs.Eval.{exec, go, left_store}
 use Rattle.core_slots.specs.Stacked.{Held, Stacked, with_operands, closed}
 use Rattle.core_interp.specs.declared.control.Control.{Control}

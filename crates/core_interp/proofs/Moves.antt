@@ -1,23 +1,19 @@
 -- What is left of a run, before and after each instruction.
-use Rattle.std.proofs.Common.{◌≡◌, ℕ, zero, suc, ◌+◌, ◌-◌, ◌≤◌, List, [], ◌∷◌, length, drop, Some, None, refl, sym, ap, ◌∙◌, subst, arith}
+use Rattle.std.proofs.Common.{◌≡◌, ℕ, zero, suc, ◌+◌, ◌-◌, ◌≤◌, List, [], ◌∷◌, length, drop, Some, refl, ap, ◌∙◌, subst}
 use Rattle.std.specs.Prelude.{slice_get}
 use Rattle.std.proofs.lemmas.List.{drop_more}
 use Rattle.std.proofs.lemmas.Option.{slice_get_within, get_or_from_slice_get}
 use Rattle.wasm_ast.specs.declared.instr.BlockType.{BlockType}
-use Rattle.wasm_ast.specs.declared.instr.Op.{Op}
-use Rattle.wasm_ast.specs.declared.instr.Op.TheVariants as op
 use Rattle.wasm_ast.specs.declared.instr.Instr.{Instr}
-use Rattle.wasm_ast.specs.declared.instr.Instr.TheVariants.{Plain, I64Const, SelectTyped, Unreachable, Block, Loop, If, Else, End, Br, BrIf, BrTable, Return, Call, CallIndirect}
 use Rattle.core_code.specs.Tree.{Seq, Then, InLoop, Part, first, later, onto, placed, parts}
 use Rattle.core_store.specs.declared.value.CoreSpaces.{CoreSpaces}
 use Rattle.core_store.specs.State.{State}
-use Rattle.core_eval.specs.Config.{Reply, Config, Outcome, Trapped, Out, Next, Break, Back, Over, then_do, with_stack, kept, block_params}
-use Rattle.core_eval.specs.Plain.{plain}
+use Rattle.core_eval.specs.Config.{Reply, Config, Outcome, Trapped, Out, Next, Break, Back, Over, then_do, with_stack, kept}
 use Rattle.core_eval.specs.Eval.{block_end, step_then, loop_end, Turn, single, exec, go}
 use Rattle.core_slots.specs.Stacked.{Held, Stacked}
 use Rattle.core_interp.specs.declared.control.Control.{Control}
 use Rattle.core_interp.specs.declared.control.Control.TheVariants.{Label, Called, Entry}
-use Rattle.core_interp.specs.Scene.{Scene, code_at, spaces_at}
+use Rattle.core_interp.specs.Scene.{Scene, code_at}
 use Rattle.core_interp.specs.Rest.{AfterLabel, label_end, after, conts, config_of, goes_with}
 use Rattle.core_interp.specs.Valid.{Frame, frame_at, FineOne, Fine, arities, Stands, IsReady}
 

@@ -1,8 +1,8 @@
 -- Numeric instructions.
-use Rattle.std.proofs.Common.{◌≡◌, ◌≢◌, ℕ, zero, suc, ◌+◌, ◌==◌, ◌≤◌, List, [], ◌∷◌, length, refl, ap, sym, ◌∙◌, subst, arith, Bool, true, false, Option, Some, None, Result, Ok, Err}
+use Rattle.std.proofs.Common.{◌≡◌, ◌≢◌, ℕ, suc, ◌+◌, ◌==◌, List, ◌∷◌, length, refl, ap, sym, ◌∙◌, arith, Bool, true, false, Option, Some, None, Result, Ok, Err}
 use Rattle.std.proofs.Common.{eq-eqb}
 use Rattle.std.proofs.lemmas.Bool.{ne_eqb}
-use Rattle.std.specs.Prelude.{if◌then◌else◌, MatchResult, IfOk}
+use Rattle.std.specs.Prelude.{IfOk}
 use Rattle.virt_base.specs.declared.fault.Trap.{Trap}
 use Rattle.wasm_ast.specs.declared.numeric.Numeric.{Numeric}
 use Rattle.wasm_ast.specs.Numeric.{numeric}
@@ -10,12 +10,12 @@ use Rattle.wasm_ast.specs.declared.instr.Op.TheVariants as op
 use Rattle.core_integer.specs.Integer.{integer}
 use Rattle.core_store.specs.declared.value.CoreSpaces.{CoreSpaces}
 use Rattle.core_store.specs.State.{State}
-use Rattle.core_eval.specs.Config.{Reply, Config, with_stack}
-use Rattle.core_eval.specs.Plain.{calculate, with_ok, operand_in, on_one, on_two}
+use Rattle.core_eval.specs.Config.{Reply}
+use Rattle.core_eval.specs.Plain.{calculate, with_ok, operand_in}
 use Rattle.core_slots.specs.Stacked.{Stacked, with_operands}
 use Rattle.core_interp.specs.Rest.{config_of}
 use Rattle.core_interp.specs.Valid.{numeric_takes}
-use Rattle.core_interp.specs.Plains.{Stays, Does, Did, Puts}
+use Rattle.core_interp.specs.Plains.{Stays, Did, Puts}
 use Rattle.core_interp.proofs.Changes.{if_true, if_false}
 
 unequal : (a b : ℕ) → a ≢ b → (a == b) ≡ false

@@ -1,24 +1,18 @@
 -- The machine from pause to pause.
-use Rattle.std.proofs.Common.{◌≡◌, ℕ, zero, suc, ◌+◌, ◌-◌, ◌<◌, ◌≤◌, List, [], ◌∷◌, ◌++◌, length, take, drop, Some, None, Option, Result, Ok, Err, refl, sym, ap, ◌∙◌, subst, arith, append_assoc, length-append}
-use Rattle.std.specs.Prelude.{reverse, replicate, slice_get, IfOk, nat_lt, Bool, true, false}
+use Rattle.std.proofs.Common.{◌≡◌, ℕ, zero, suc, ◌+◌, ◌<◌, List, [], ◌∷◌, ◌++◌, length, take, drop, Some, None, Option, Result, refl, sym, ap, ◌∙◌, subst, arith, length-append}
+use Rattle.std.specs.Prelude.{reverse, replicate, slice_get, IfOk}
 use Rattle.std.proofs.lemmas.Option.{slice_get_within}
-use Rattle.std.proofs.lemmas.List.{append-nil, drop_all, take_all, length-reverse, length-take-le, length-replicate, drop_at}
+use Rattle.std.proofs.lemmas.List.{append-nil, take_all, length-reverse, length-replicate}
 use Rattle.virt_base.specs.declared.core_type.CoreType.{CoreType}
 use Rattle.wasm_ast.specs.declared.module.CoreFunc.{CoreFunc}
-use Rattle.wasm_ast.specs.declared.instr.Instr.{Instr}
-use Rattle.core_code.specs.Tree.{tree, parts}
 use Rattle.core_store.specs.declared.value.CoreValue.{CoreValue}
-use Rattle.core_store.specs.declared.value.CoreSpaces.{CoreSpaces}
 use Rattle.core_store.specs.declared.value.StoreFunc.{StoreFunc}
 use Rattle.core_store.specs.declared.value.StoreFunc.TheVariants.{Inside, Outside}
 use Rattle.core_store.specs.State.{State}
 use Rattle.core_eval.specs.Words.{words, values_in}
-use Rattle.core_eval.specs.Config.{Reply, Outcome, Done, Trapped, Asks, Spent, TooDeep, Out, Next, Over, bare, spaces_of}
-use Rattle.core_eval.specs.Eval.{Enter, arguments, function_type, deep, go, exec, finish, eval, entered, enter_within, call_end, entered_store}
-use Rattle.core_eval.proofs.Steps.{go_enter}
-use Rattle.core_slots.specs.Stacked.{Stacked, with_operands, opened}
-use Rattle.core_interp.specs.declared.control.Control.{Control}
-use Rattle.core_interp.specs.declared.control.Control.TheVariants.{Entry}
+use Rattle.core_eval.specs.Config.{Reply, Outcome, Done, Asks, Spent, TooDeep}
+use Rattle.core_eval.specs.Eval.{arguments, function_type, deep, finish}
+use Rattle.core_slots.specs.Stacked.{Stacked, with_operands}
 use Rattle.core_interp.specs.declared.control.Flow.TheVariants.{Ended, Failed, Asking, Exhausted, Deep}
 use Rattle.core_interp.specs.declared.running.Running.{Running}
 use Rattle.core_interp.specs.declared.machine.Stage.{Stage}
@@ -26,13 +20,11 @@ use Rattle.core_interp.specs.declared.machine.Stage.TheVariants.{Starts, Runs, A
 use Rattle.core_interp.specs.declared.machine.Machine.{Machine}
 use Rattle.core_interp.specs.declared.machine.Pause.{Pause}
 use Rattle.core_interp.specs.declared.machine.Pause.TheVariants as pauses
-use Rattle.core_interp.specs.Scene.{Scene, scene_of, code_of, code_at, instance_of, spaces_at, results_at, IsInside}
-use Rattle.core_interp.specs.Rest.{config_of, goes_with, goes_at}
-use Rattle.core_interp.specs.Valid.{frame_at, Fine, IsFine, IsReady, params_of}
-use Rattle.core_interp.specs.Run.{progress, goes, calls, ReadyAt, Ready, answered, AsksFor, RunLeads, ahead, ended}
-use Rattle.core_interp.specs.Session.{IsAwaited, Asked, results_due, goes_staged, goes_on, IsFirst, IsStaged, CanRun, Extends, IsAnswer, answered_slots, resumed, PauseLeads, granted, Follows, Says, IsCallable, params_at, asking, AsksBy, Dues}
-use Rattle.core_interp.proofs.Changes.{lt_true, lt_false}
-use Rattle.core_interp.proofs.Given.{pushed}
+use Rattle.core_interp.specs.Scene.{Scene, scene_of, results_at}
+use Rattle.core_interp.specs.Rest.{goes_at}
+use Rattle.core_interp.specs.Valid.{params_of}
+use Rattle.core_interp.specs.Run.{progress, goes, ReadyAt, Ready, answered, RunLeads, ahead}
+use Rattle.core_interp.specs.Session.{Asked, results_due, goes_staged, goes_on, IsStaged, CanRun, Extends, answered_slots, resumed, PauseLeads, granted, IsCallable, asking, AsksBy, Dues}
 use Rattle.core_interp.proofs.Extending.{function_more, functions_longer, ready_at_more, goes_at_more}
 
 -- ---- start

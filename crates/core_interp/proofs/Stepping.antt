@@ -1,6 +1,6 @@
 -- The instructions that go on, branch or return, over the parts of a run.
-use Rattle.std.proofs.Common.{◌≡◌, ℕ, zero, suc, ℤ, ◌+◌, ◌-◌, ◌<◌, ◌≤◌, List, [], ◌∷◌, ◌++◌, length, take, drop, Some, None, Option, Bool, true, false, refl, sym, ap, ◌∙◌, subst, arith}
-use Rattle.std.specs.Prelude.{reverse, slice_get}
+use Rattle.std.proofs.Common.{◌≡◌, ℕ, zero, suc, ℤ, ◌+◌, ◌-◌, ◌<◌, ◌≤◌, List, [], ◌∷◌, length, drop, Some, None, Option, refl, sym, ap, ◌∙◌, subst, arith}
+use Rattle.std.specs.Prelude.{slice_get}
 use Rattle.std.specs.Int.{w64, cast_unsigned}
 use Rattle.std.proofs.lemmas.List.{drop_all}
 use Rattle.std.proofs.Common.{get_or}
@@ -8,7 +8,6 @@ use Rattle.std.proofs.lemmas.Option.{slice_get-get_or}
 use Rattle.wasm_ast.specs.declared.instr.BranchTable.{BranchTable}
 use Rattle.wasm_ast.specs.Boxed.{Held}
 use Rattle.wasm_ast.specs.declared.instr.Op.{Op}
-use Rattle.wasm_ast.specs.declared.instr.Op.TheVariants.{Select}
 use Rattle.wasm_ast.specs.declared.instr.Instr.{Instr}
 use Rattle.wasm_ast.specs.declared.instr.Instr.TheVariants.{Plain, I64Const, SelectTyped, Unreachable, Block, Loop, If, Else, End, Br, BrIf, BrTable, Return, Call, CallIndirect}
 use Rattle.core_code.specs.declared.brackets.Jump.{Jump}
@@ -20,15 +19,14 @@ use Rattle.core_eval.specs.Config.{Reply, Config, Out, Next, Break, Back, Over, 
 use Rattle.core_eval.specs.Plain.{plain}
 use Rattle.core_eval.specs.Eval.{single, exec, go, advance, choose, target}
 use Rattle.core_slots.specs.Stacked.{Stacked, with_operands}
-use Rattle.core_interp.specs.declared.control.Control.{Control}
 use Rattle.core_interp.specs.declared.control.Flow.{Flow}
 use Rattle.core_interp.specs.declared.control.Flow.TheVariants.{On, Ended, Failed, Asking, Exhausted, Deep}
 use Rattle.core_interp.specs.declared.running.Running.{Running}
-use Rattle.core_interp.specs.Scene.{Scene, scene_of, code_at, spaces_at, IsInside}
-use Rattle.core_interp.specs.Rest.{after, conts, config_of, goes_with, goes_at}
-use Rattle.core_interp.specs.Valid.{Frame, frame_at, FineOne, Names, takes, gives, IsReady, Stands}
+use Rattle.core_interp.specs.Scene.{Scene, scene_of}
+use Rattle.core_interp.specs.Rest.{after, conts, config_of, goes_with}
+use Rattle.core_interp.specs.Valid.{Frame, frame_at, FineOne, Names, takes, gives, IsReady}
 use Rattle.core_interp.specs.Plains.{Does}
-use Rattle.core_interp.specs.Run.{progress, goes, own_parts, calls, ReadyAt, Ready, IsBefore, LeadsTo, Leads, RunLeads, ahead, steps, next_parts, Branches, branches, Returns, backs, IsCounted, Performs, HasTable, TakesLabel, Steps}
+use Rattle.core_interp.specs.Run.{progress, goes, own_parts, Ready, IsBefore, LeadsTo, Leads, RunLeads, ahead, steps, next_parts, Branches, branches, Returns, backs, IsCounted, Performs, HasTable, TakesLabel, Steps}
 use Rattle.core_interp.proofs.Moves.{parts_at, conts_later, stands_later, over_after, then_goes, then_traps, then_ready, fine_one}
 use Rattle.core_interp.proofs.Given.{code_in, spaces_in, frame_in, at_own, ready_own, steps_own, arrive}
 

@@ -1,15 +1,14 @@
 -- Values of words, and stores whose globals change.
-use Rattle.std.proofs.Common.{◌≡◌, ℕ, zero, suc, ◌<◌, List, length, length-set, refl, ap, sym, arith, Bool, true, false}
+use Rattle.std.proofs.Common.{◌≡◌, ℕ, zero, suc, length, length-set, refl, ap, sym, Bool, true, false}
 use Rattle.std.specs.Prelude.{nat_lt, slice_set, if◌then◌else◌}
 use borrow.Author.Tests.{ltb-true}
-use Rattle.core_store.specs.declared.value.CoreRef.{CoreRef}
 use Rattle.core_store.specs.declared.value.CoreRef.TheVariants.{Null, Func}
 use Rattle.core_store.specs.declared.value.CoreValue.{CoreValue}
 use Rattle.core_store.specs.declared.value.CoreValue.TheVariants.{I32, I64, Ref}
 use Rattle.core_store.specs.Table.{IsRef}
 use Rattle.core_store.specs.State.{State, IsStoreRef, IsStoreValue, IsSameType}
 use Rattle.core_eval.specs.Words.{ref_in, value_like}
-use Rattle.core_interp.specs.Scene.{Scene, scene_of}
+use Rattle.core_interp.specs.Scene.{scene_of}
 use Rattle.core_interp.specs.Plains.{Stays}
 
 chosen_names : (n f : ℕ) (b : Bool) → nat_lt f n ≡ b → IsRef n (if b then Func f else Null)

@@ -4,7 +4,7 @@ use Rattle.std.specs.Int.{w32, cast_unsigned}
 use Rattle.wasm_ast.specs.declared.instr.Op.{Op}
 use Rattle.core_store.specs.declared.value.CoreSpaces.{CoreSpaces}
 use Rattle.core_store.specs.State.{State}
-use Rattle.core_eval.specs.Config.{Reply, Config}
+use Rattle.core_eval.specs.Config.{Reply}
 use Rattle.core_eval.specs.Plain.{plain}
 use Rattle.core_slots.specs.Stacked.{Stacked, with_operands}
 use Rattle.virt_base.specs.declared.fault.Trap.{Trap}

@@ -1,6 +1,5 @@
 -- What a run says.
-use Rattle.std.specs.Prelude.{ℕ, suc, ◌≡◌, ◌+◌, ◌-◌, ◌*◌, ◌<◌, ◌≤◌, ◌^◌, List, [], ◌∷◌, ◌++◌, Option, Some, None, length, reverse, slice_get, drop, take}
-use Rattle.virt_base.specs.declared.core_type.CoreType.{CoreType}
+use Rattle.std.specs.Prelude.{ℕ, suc, ◌≡◌, ◌+◌, ◌<◌, ◌≤◌, ◌^◌, List, [], ◌∷◌, ◌++◌, Option, Some, None, length, reverse, slice_get, drop, take}
 use Rattle.wasm_ast.specs.declared.module.CoreFunc.{CoreFunc}
 use Rattle.wasm_ast.specs.declared.instr.Instr.{Instr}
 use Rattle.wasm_ast.specs.declared.instr.Instr.TheVariants.{Plain, SelectTyped, BrTable, End, Else}
@@ -8,23 +7,21 @@ use Rattle.wasm_ast.specs.declared.instr.Op.{Op}
 use Rattle.wasm_ast.specs.declared.instr.Op.TheVariants.{Select}
 use Rattle.wasm_ast.specs.declared.instr.BranchTable.{BranchTable}
 use Rattle.wasm_ast.specs.Boxed.{Held}
-use Rattle.core_code.specs.Tree.{Part, parts, Stop, first, later}
+use Rattle.core_code.specs.Tree.{Part, parts}
 use Rattle.core_store.specs.declared.value.CoreValue.{CoreValue}
-use Rattle.core_store.specs.declared.value.CoreSpaces.{CoreSpaces}
-use Rattle.core_store.specs.declared.value.StoreFunc.{StoreFunc}
 use Rattle.core_store.specs.declared.value.StoreFunc.TheVariants.{Outside}
 use Rattle.core_store.specs.State.{State}
 use Rattle.core_eval.specs.Words.{words}
-use Rattle.core_eval.specs.Config.{Reply, Config, Outcome, Done, Trapped, Asks, Spent, TooDeep, Out, Next, Over, bare}
-use Rattle.core_eval.specs.Eval.{Enter, target, arguments, deep, go, finish, eval, left_store, returned, function_type}
+use Rattle.core_eval.specs.Config.{Reply, Config, Trapped, Asks, Spent, Out, Next, Over, bare}
+use Rattle.core_eval.specs.Eval.{target, arguments, deep}
 use Rattle.core_slots.specs.Stacked.{Stacked, with_operands}
 use Rattle.core_interp.specs.declared.control.Control.{Control}
 use Rattle.core_interp.specs.declared.control.Control.TheVariants.{Label, Called, Entry}
 use Rattle.core_interp.specs.declared.control.Flow.{Flow}
 use Rattle.core_interp.specs.declared.control.Flow.TheVariants.{On, Ended, Failed, Asking, Exhausted, Deep}
 use Rattle.core_interp.specs.declared.running.Running.{Running}
-use Rattle.core_interp.specs.Scene.{Scene, scene_of, code_at, spaces_at, results_at, IsInside}
-use Rattle.core_interp.specs.Rest.{config_of, goes_at}
+use Rattle.core_interp.specs.Scene.{Scene, scene_of, code_at, spaces_at, IsInside}
+use Rattle.core_interp.specs.Rest.{goes_at}
 use Rattle.core_interp.specs.Valid.{frame_at, IsReady}
 use Rattle.core_interp.specs.Jumping.{IsJumping, jumps, IsReturning, returns_from, IsEntering, enters}
 

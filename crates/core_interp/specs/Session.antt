@@ -1,5 +1,5 @@
 -- A machine over its pauses.
-use Rattle.std.specs.Prelude.{ℕ, ◌≡◌, ◌+◌, ◌-◌, ◌<◌, ◌≤◌, List, [], ◌∷◌, ◌++◌, Option, Some, None, length, drop, reverse, replicate, slice_get}
+use Rattle.std.specs.Prelude.{ℕ, ◌≡◌, ◌+◌, ◌<◌, ◌≤◌, List, [], ◌∷◌, ◌++◌, Option, Some, None, length, drop, reverse, replicate, slice_get}
 use Rattle.virt_base.specs.declared.core_type.CoreType.{CoreType}
 use Rattle.core_store.specs.declared.value.CoreValue.{CoreValue}
 use Rattle.core_store.specs.declared.value.CoreSpaces.{CoreSpaces}
@@ -8,16 +8,15 @@ use Rattle.core_store.specs.declared.value.StoreFunc.TheVariants.{Inside, Outsid
 use Rattle.wasm_ast.specs.declared.module.CoreFunc.{CoreFunc}
 use Rattle.core_store.specs.State.{State}
 use Rattle.core_eval.specs.Words.{words, values_in}
-use Rattle.core_eval.specs.Config.{Reply, Outcome, Done, Trapped, Asks, Spent, TooDeep, Out, Next, bare}
+use Rattle.core_eval.specs.Config.{Reply, Outcome, Done, Trapped, Asks, Spent, TooDeep, bare}
 use Rattle.core_eval.specs.Eval.{Enter, arguments, function_type, deep, go, finish, eval}
 use Rattle.core_slots.specs.Stacked.{Stacked, with_operands}
-use Rattle.core_interp.specs.declared.running.Running.{Running}
 use Rattle.core_interp.specs.declared.machine.Stage.{Stage}
 use Rattle.core_interp.specs.declared.machine.Stage.TheVariants.{Starts, Runs, Answered, Due}
 use Rattle.core_interp.specs.declared.machine.Machine.{Machine}
 use Rattle.core_interp.specs.declared.machine.Pause.{Pause}
 use Rattle.core_interp.specs.declared.machine.Pause.TheVariants as pauses
-use Rattle.core_interp.specs.Scene.{Scene, scene_of, results_at}
+use Rattle.core_interp.specs.Scene.{scene_of, results_at}
 use Rattle.core_interp.specs.Rest.{config_of}
 use Rattle.core_interp.specs.Valid.{params_of}
 use Rattle.core_interp.specs.Run.{goes, Ready}

@@ -1,6 +1,5 @@
 -- Code whose operands are there: a number of operands before and after each instruction, and the items that it names.
 use Rattle.std.specs.Prelude.{ℕ, ◌≡◌, ◌+◌, ◌-◌, ◌<◌, ◌≤◌, ◌==◌, if◌then◌else◌, List, [], ◌∷◌, Option, Some, None, drop, length, slice_get}
-use Rattle.wasm_ast.specs.declared.module.CoreFunc.{CoreFunc}
 use Rattle.wasm_ast.specs.declared.numeric.Numeric.{Numeric}
 use Rattle.wasm_ast.specs.Numeric.{numeric}
 use Rattle.wasm_ast.specs.declared.instr.BlockType.{BlockType}

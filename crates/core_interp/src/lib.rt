@@ -19,3 +19,6 @@ mod variables;
 
 pub use core_slots::CoreValues;
 pub use machine::{Machine, Pause};
+
+#[cfg(test)]
+mod embedder_tests;

@@ -1,6 +1,5 @@
-use Rattle.std.proofs.Common.{◌≡◌, ◌≤◌, ◌-◌, ℕ, length, ◌∙◌, ap, sym, subst, refl, Some, Option}
+use Rattle.std.proofs.Common.{◌≤◌, ◌-◌, ℕ, length, ◌∙◌, ap, subst, Some, Option}
 use Rattle.core_store.specs.declared.value.StoreFunc.{StoreFunc}
-use Rattle.core_store.specs.declared.value.StoreFunc.TheVariants.{Outside}
 use Rattle.core_interp.specs.Session.{params_at}
 use Rattle.core_interp.proofs.Asking.{topmost}
 use Rattle.core_interp.proofs.Pauses.{asks_by, asking_is, values_same}

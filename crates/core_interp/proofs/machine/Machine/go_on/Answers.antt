@@ -1,6 +1,5 @@
 use Rattle.std.proofs.Common.{subst, refl}
 use Rattle.core_interp.specs.declared.control.Flow.{Flow}
-use Rattle.core_interp.specs.declared.control.Flow.TheVariants.{Asking, Exhausted}
 use Rattle.core_interp.specs.declared.machine.Machine.{Machine}
 use Rattle.core_interp.specs.Run.{RunLeads, ahead, goes}
 use Rattle.core_interp.proofs.Pauses.{runs_ready, asking_leads, exhausted_leads}

@@ -1,4 +1,4 @@
-use Rattle.std.proofs.Common.{arith, ◌∙◌, ap}
+use Rattle.std.proofs.Common.{arith}
 use Rattle.core_interp.proofs.Given.{back_call, back_can, back_entry, back_calls, back_some, held_some, back_no_label}
 use Rattle.core_interp.proofs.running.Running.back.Goals as goal
 

@@ -1,4 +1,4 @@
-use Rattle.std.proofs.Common.{arith, ◌∙◌, ap}
+use Rattle.std.proofs.Common.{arith}
 use Rattle.core_interp.proofs.Given.{loop_can, loop_leads}
 use Rattle.core_interp.proofs.running.Running.begin_loop.Goals as goal
 

@@ -1,4 +1,4 @@
-use Rattle.std.proofs.Common.{arith, ◌∙◌, ap}
+use Rattle.std.proofs.Common.{arith}
 use Rattle.core_interp.proofs.Given.{block_can, block_leads, within}
 use Rattle.wasm_ast.specs.declared.instr.Instr.TheVariants.{Block}
 use Rattle.core_interp.proofs.running.Running.block.Goals as goal

@@ -1,5 +1,4 @@
-use Rattle.std.proofs.Common.{◌≡◌, arith, ◌∙◌, sym, ap}
-use Rattle.core_eval.specs.Words.{i32_in}
+use Rattle.std.proofs.Common.{◌∙◌, ap}
 use Rattle.core_eval.specs.Eval.{target}
 use Rattle.wasm_ast.specs.declared.instr.Instr.TheVariants.{BrTable}
 use Rattle.core_interp.proofs.Entering.{leads_from}

@@ -1,4 +1,4 @@
-use Rattle.std.proofs.Common.{◌≡◌, ◌<◌, ◌∙◌, ap, sym, arith, length}
+use Rattle.std.proofs.Common.{◌≡◌, ◌<◌, arith, length}
 use Rattle.core_interp.proofs.Given.{cut_at, label_within, label_calls, branch_label, branch_call, branch_call_can, branch_entry, branch_label_fits, held_some}
 use Rattle.core_interp.proofs.running.Running.branch.Goals as goal
 

@@ -1,12 +1,7 @@
-use Rattle.std.proofs.Common.{◌≡◌, ◌<◌, arith, ◌∙◌, ap, sym, refl, subst, length, ℕ, Result, Ok, Err, Bool, true, false}
-use Rattle.virt_base.specs.declared.fault.Trap.{Trap}
-use Rattle.wasm_ast.specs.declared.module.CoreFunc.{CoreFunc}
-use Rattle.core_store.specs.declared.value.CoreRef.{CoreRef}
+use Rattle.std.proofs.Common.{◌<◌, arith, ◌∙◌, ap, sym, refl, subst, length, Ok, true, false}
 use Rattle.core_store.specs.declared.value.CoreSpaces.{CoreSpaces}
 use Rattle.core_store.specs.Table.{got}
 use Rattle.core_store.specs.State.{table_at}
-use Rattle.core_eval.specs.Config.{type_at}
-use Rattle.core_eval.specs.Eval.{same_func, type_of}
 use Rattle.core_interp.specs.declared.running.Running.{Running}
 use Rattle.core_interp.proofs.Entering.{indirect_can, indirect_enters_at, indirect_leads, indirect_null, indirect_past, indirect_other, leads_from, same_here}
 use Rattle.core_interp.proofs.running.Running.call_indirect.Goals as goal

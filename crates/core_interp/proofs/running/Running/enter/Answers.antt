@@ -1,7 +1,7 @@
-use Rattle.std.proofs.Common.{ℕ, List, [], ◌∷◌, ◌++◌, length, ◌∙◌, ap, Some, refl, ◌+◌}
+use Rattle.std.proofs.Common.{ℕ, [], ◌∷◌, ◌++◌, length, ◌∙◌, ap, Some, refl, ◌+◌}
 use Rattle.core_slots.specs.Stacked.{opened}
 use Rattle.core_interp.specs.declared.control.Control.TheVariants.{Called}
-use Rattle.core_interp.proofs.Entering.{enter_inside, enter_deep, enter_outside, enter_fits, enter_within}
+use Rattle.core_interp.proofs.Entering.{enter_inside, enter_deep, enter_outside, enter_within}
 use Rattle.core_interp.proofs.running.Running.enter.Goals as goal
 
 pub function-requires : goal.function-requires

@@ -1,5 +1,4 @@
-use Rattle.std.proofs.Common.{arith}
-use Rattle.core_interp.proofs.Given.{leave_label, leave_call, leave_call_can, leave_entry, some_call, some_entry, held_some}
+use Rattle.core_interp.proofs.Given.{leave_label, leave_call, leave_entry}
 use Rattle.core_interp.proofs.running.Running.leave.Goals as goal
 
 pub returns-in-Some-Label-clause-leads : goal.returns-in-Some-Label-clause-leads
