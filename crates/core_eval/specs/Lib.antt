@@ -4,3 +4,5 @@ pub mod Effects
 pub mod Plain
 pub mod Eval
 pub mod Laws
+pub mod Scene
+pub mod Fine

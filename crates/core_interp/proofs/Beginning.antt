@@ -21,9 +21,10 @@ use Rattle.core_interp.specs.declared.machine.Stage.TheVariants.{Starts, Runs, A
 use Rattle.core_interp.specs.declared.machine.Machine.{Machine}
 use Rattle.core_interp.specs.declared.machine.Pause.{Pause}
 use Rattle.core_interp.specs.declared.machine.Pause.TheVariants as pauses
-use Rattle.core_interp.specs.Scene.{Scene, scene_of, code_of, instance_of, results_at, IsInside}
+use Rattle.core_eval.specs.Scene.{Scene, scene_of, code_of, instance_of, results_at, IsInside}
 use Rattle.core_interp.specs.Rest.{config_of, goes_with, goes_at}
-use Rattle.core_interp.specs.Valid.{frame_at, Fine, IsFine, IsReady, params_of}
+use Rattle.core_eval.specs.Fine.{frame_at, Fine, IsFine, params_of}
+use Rattle.core_interp.specs.Valid.{IsReady}
 use Rattle.core_interp.specs.Run.{progress, calls, ReadyAt}
 use Rattle.core_interp.specs.Session.{results_due, goes_on, IsFirst, CanRun, resumed, PauseLeads, granted, Follows, Says, asking, AsksBy, Dues}
 use Rattle.core_interp.proofs.Changes.{lt_true, lt_false}

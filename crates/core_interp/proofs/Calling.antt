@@ -24,9 +24,10 @@ use Rattle.core_eval.proofs.Steps.{go_enter}
 use Rattle.core_slots.specs.Stacked.{Stacked, with_operands, opened}
 use Rattle.core_interp.specs.declared.control.Control.{Control}
 use Rattle.core_interp.specs.declared.control.Control.TheVariants.{Called}
-use Rattle.core_interp.specs.Scene.{Scene, scene_of, code_at, spaces_at, results_at, IsInside}
+use Rattle.core_eval.specs.Scene.{Scene, scene_of, code_at, spaces_at, results_at, IsInside}
 use Rattle.core_interp.specs.Rest.{AfterCall, after, conts, config_of, goes_with}
-use Rattle.core_interp.specs.Valid.{Frame, Place, frame_at, Fine, IsFine, arities, Stands, IsReady, params_of, results_of}
+use Rattle.core_eval.specs.Fine.{Frame, Place, frame_at, Fine, IsFine, params_of, results_of}
+use Rattle.core_interp.specs.Valid.{arities, Stands, IsReady}
 use Rattle.core_interp.specs.Jumping.{IsEntering, enters}
 use Rattle.core_interp.specs.Run.{answered}
 use Rattle.core_interp.proofs.Changes.{lt_true, lt_false}

@@ -24,9 +24,10 @@ use Rattle.core_interp.specs.declared.control.Control.TheVariants.{Called}
 use Rattle.core_interp.specs.declared.control.Flow.{Flow}
 use Rattle.core_interp.specs.declared.control.Flow.TheVariants.{On, Ended, Failed, Asking, Exhausted, Deep}
 use Rattle.core_interp.specs.declared.running.Running.{Running}
-use Rattle.core_interp.specs.Scene.{scene_of, code_of, code_at, instance_of, spaces_at, IsInside}
+use Rattle.core_eval.specs.Scene.{scene_of, code_of, code_at, instance_of, spaces_at, IsInside}
 use Rattle.core_interp.specs.Rest.{after, conts, config_of, goes_with, goes_at}
-use Rattle.core_interp.specs.Valid.{Place, frame_at, IsFine, IsReady}
+use Rattle.core_eval.specs.Fine.{Place, frame_at, IsFine}
+use Rattle.core_interp.specs.Valid.{IsReady}
 use Rattle.core_interp.specs.Jumping.{IsEntering, enters}
 use Rattle.core_interp.specs.Run.{progress, calls, ReadyAt, IsBefore, LeadsTo, AsksFor, Leads, steps, next_parts, Enters, entry, answered}
 use Rattle.core_interp.proofs.Calling.{inside_goes, inside_ready, deep_goes, outside_asks, outside_goes, outside_ready, enters_fits, call_goes, call_entering, call_there, indirect_goes, indirect_enters, indirect_traps, indirect_entering, indirect_below, indirect_needs, other_type}

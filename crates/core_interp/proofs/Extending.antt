@@ -17,9 +17,10 @@ use Rattle.core_eval.specs.Eval.{function_type, exec, go}
 use Rattle.core_slots.specs.Stacked.{Held, Stacked}
 use Rattle.core_interp.specs.declared.control.Control.{Control}
 use Rattle.core_interp.specs.declared.control.Control.TheVariants.{Label, Called, Entry}
-use Rattle.core_interp.specs.Scene.{Scene, scene_of, code_of, code_at, instance_of, spaces_at, IsInside}
+use Rattle.core_eval.specs.Scene.{Scene, scene_of, code_of, code_at, instance_of, spaces_at, IsInside}
 use Rattle.core_interp.specs.Rest.{Cont, AfterLabel, AfterCall, after, conts, config_of, goes_at}
-use Rattle.core_interp.specs.Valid.{Frame, frame_at, Place, Names, FineOne, Fine, arities, Stands, IsReady}
+use Rattle.core_eval.specs.Fine.{Frame, frame_at, Place, Names, FineOne, Fine}
+use Rattle.core_interp.specs.Valid.{arities, Stands, IsReady}
 use Rattle.core_interp.specs.Run.{ReadyAt}
 use Rattle.core_interp.specs.Session.{Extends}
 

@@ -18,9 +18,10 @@ use Rattle.core_slots.specs.Stacked.{Held, Stacked, with_operands, closed}
 use Rattle.core_interp.specs.declared.control.Control.{Control}
 use Rattle.core_interp.specs.declared.control.Control.TheVariants.{Label, Called, Entry}
 use Rattle.core_interp.specs.declared.running.Running.{Running}
-use Rattle.core_interp.specs.Scene.{Scene, scene_of, code_at, spaces_at}
+use Rattle.core_eval.specs.Scene.{Scene, scene_of, code_at, spaces_at}
 use Rattle.core_interp.specs.Rest.{goes_with, goes_at}
-use Rattle.core_interp.specs.Valid.{Frame, frame_at, IsReady, IsBlock}
+use Rattle.core_eval.specs.Fine.{Frame, frame_at, IsBlock}
+use Rattle.core_interp.specs.Valid.{IsReady}
 use Rattle.core_interp.specs.Jumping.{IsJumping, jumps, IsReturning, returns_from, beyond}
 use Rattle.core_interp.specs.Run.{progress, goes, own_parts, calls, ReadyAt, Ready, IsBefore, LeadsTo, ended, steps, next_parts, Branches, branches, Returns, backs}
 use Rattle.core_interp.proofs.Moves.{parts_at}

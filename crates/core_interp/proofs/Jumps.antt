@@ -11,9 +11,10 @@ use Rattle.core_eval.specs.Eval.{exec, go, left_store}
 use Rattle.core_slots.specs.Stacked.{Held, Stacked, with_operands, closed}
 use Rattle.core_interp.specs.declared.control.Control.{Control}
 use Rattle.core_interp.specs.declared.control.Control.TheVariants.{Label, Called, Entry}
-use Rattle.core_interp.specs.Scene.{Scene, code_at, spaces_at, IsInside}
+use Rattle.core_eval.specs.Scene.{Scene, code_at, spaces_at, IsInside}
 use Rattle.core_interp.specs.Rest.{after, conts, config_of, goes_with}
-use Rattle.core_interp.specs.Valid.{Frame, frame_at, Reaches, Fine, arities, Stands, IsReady}
+use Rattle.core_eval.specs.Fine.{Frame, frame_at, Reaches, Fine}
+use Rattle.core_interp.specs.Valid.{arities, Stands, IsReady}
 use Rattle.core_interp.specs.Jumping.{IsJumping, jumps, IsReturning, returns_from, beyond}
 use Rattle.core_interp.specs.Run.{ended}
 use Rattle.core_interp.proofs.Moves.{conts_later, stands_later}

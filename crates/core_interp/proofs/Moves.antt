@@ -13,9 +13,10 @@ use Rattle.core_eval.specs.Eval.{block_end, step_then, loop_end, Turn, single, e
 use Rattle.core_slots.specs.Stacked.{Held, Stacked}
 use Rattle.core_interp.specs.declared.control.Control.{Control}
 use Rattle.core_interp.specs.declared.control.Control.TheVariants.{Label, Called, Entry}
-use Rattle.core_interp.specs.Scene.{Scene, code_at}
+use Rattle.core_eval.specs.Scene.{Scene, code_at}
 use Rattle.core_interp.specs.Rest.{AfterLabel, label_end, after, conts, config_of, goes_with}
-use Rattle.core_interp.specs.Valid.{Frame, frame_at, FineOne, Fine, arities, Stands, IsReady}
+use Rattle.core_eval.specs.Fine.{Frame, frame_at, FineOne, Fine}
+use Rattle.core_interp.specs.Valid.{arities, Stands, IsReady}
 
 pub parts_at : (code : List Instr) (at : ℕ) (i : Instr) → slice_get code at ≡ Some i → parts (drop at code) ≡ placed i (parts (drop (at + 1) code))
 parts_at code at i h =

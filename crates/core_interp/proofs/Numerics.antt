@@ -14,7 +14,7 @@ use Rattle.core_eval.specs.Config.{Reply}
 use Rattle.core_eval.specs.Plain.{calculate, with_ok, operand_in}
 use Rattle.core_slots.specs.Stacked.{Stacked, with_operands}
 use Rattle.core_interp.specs.Rest.{config_of}
-use Rattle.core_interp.specs.Valid.{numeric_takes}
+use Rattle.core_eval.specs.Fine.{numeric_takes}
 use Rattle.core_interp.specs.Plains.{Stays, Did, Puts}
 use Rattle.core_interp.proofs.Changes.{if_true, if_false}
 

@@ -13,9 +13,10 @@ use Rattle.core_eval.proofs.Steps.{go_turn}
 use Rattle.core_slots.specs.Stacked.{Stacked, with_operands}
 use Rattle.core_interp.specs.declared.control.Control.{Control}
 use Rattle.core_interp.specs.declared.control.Control.TheVariants.{Label}
-use Rattle.core_interp.specs.Scene.{Scene}
+use Rattle.core_eval.specs.Scene.{Scene}
 use Rattle.core_interp.specs.Rest.{label_end, after, conts, config_of, goes_with}
-use Rattle.core_interp.specs.Valid.{Frame, Fine, arities, Stands, IsReady, IsBlock}
+use Rattle.core_eval.specs.Fine.{Frame, Fine, IsBlock}
+use Rattle.core_interp.specs.Valid.{arities, Stands, IsReady}
 use Rattle.core_interp.proofs.Moves.{conts_later, stands_later, block_after, loop_after}
 
 -- a block begins: `to` is the place behind its end

@@ -20,9 +20,9 @@ use Rattle.core_interp.specs.declared.machine.Stage.TheVariants.{Starts, Runs, A
 use Rattle.core_interp.specs.declared.machine.Machine.{Machine}
 use Rattle.core_interp.specs.declared.machine.Pause.{Pause}
 use Rattle.core_interp.specs.declared.machine.Pause.TheVariants as pauses
-use Rattle.core_interp.specs.Scene.{Scene, scene_of, results_at}
+use Rattle.core_eval.specs.Scene.{Scene, scene_of, results_at}
 use Rattle.core_interp.specs.Rest.{goes_at}
-use Rattle.core_interp.specs.Valid.{params_of}
+use Rattle.core_eval.specs.Fine.{params_of}
 use Rattle.core_interp.specs.Run.{progress, goes, ReadyAt, Ready, answered, RunLeads, ahead}
 use Rattle.core_interp.specs.Session.{Asked, results_due, goes_staged, goes_on, IsStaged, CanRun, Extends, answered_slots, resumed, PauseLeads, granted, IsCallable, asking, AsksBy, Dues}
 use Rattle.core_interp.proofs.Extending.{function_more, functions_longer, ready_at_more, goes_at_more}

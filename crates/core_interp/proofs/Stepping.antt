@@ -22,9 +22,10 @@ use Rattle.core_slots.specs.Stacked.{Stacked, with_operands}
 use Rattle.core_interp.specs.declared.control.Flow.{Flow}
 use Rattle.core_interp.specs.declared.control.Flow.TheVariants.{On, Ended, Failed, Asking, Exhausted, Deep}
 use Rattle.core_interp.specs.declared.running.Running.{Running}
-use Rattle.core_interp.specs.Scene.{Scene, scene_of}
+use Rattle.core_eval.specs.Scene.{Scene, scene_of}
 use Rattle.core_interp.specs.Rest.{after, conts, config_of, goes_with}
-use Rattle.core_interp.specs.Valid.{Frame, frame_at, FineOne, Names, takes, gives, IsReady}
+use Rattle.core_eval.specs.Fine.{Frame, frame_at, FineOne, Names, takes, gives}
+use Rattle.core_interp.specs.Valid.{IsReady}
 use Rattle.core_interp.specs.Plains.{Does}
 use Rattle.core_interp.specs.Run.{progress, goes, own_parts, Ready, IsBefore, LeadsTo, Leads, RunLeads, ahead, steps, next_parts, Branches, branches, Returns, backs, IsCounted, Performs, HasTable, TakesLabel, Steps}
 use Rattle.core_interp.proofs.Moves.{parts_at, conts_later, stands_later, over_after, then_goes, then_traps, then_ready, fine_one}

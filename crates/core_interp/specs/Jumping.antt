@@ -10,9 +10,10 @@ use Rattle.core_store.specs.declared.value.StoreFunc.{StoreFunc}
 use Rattle.core_slots.specs.Stacked.{Stacked}
 use Rattle.core_interp.specs.declared.control.Control.{Control}
 use Rattle.core_interp.specs.declared.control.Control.TheVariants.{Label, Called, Entry}
-use Rattle.core_interp.specs.Scene.{Scene}
+use Rattle.core_eval.specs.Scene.{Scene}
 use Rattle.core_interp.specs.Rest.{after, conts, config_of}
-use Rattle.core_interp.specs.Valid.{Frame, Reaches, arities, Fine, Stands, params_of, results_of}
+use Rattle.core_eval.specs.Fine.{Frame, Reaches, Fine, params_of, results_of}
+use Rattle.core_interp.specs.Valid.{arities, Stands}
 
 -- a branch to label k can be made
 pub record IsJumping (w : Scene) (fr : Frame) (code : List Instr) (ps : List Part) (a : Stacked) (cs : List Control) (k : ℕ) : Type 0 where

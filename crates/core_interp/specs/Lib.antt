@@ -1,4 +1,3 @@
-pub mod Scene
 pub mod Groups
 pub mod Rest
 pub mod Valid

@@ -8,9 +8,9 @@ use Rattle.core_eval.specs.Config.{Reply}
 use Rattle.core_eval.specs.Plain.{plain}
 use Rattle.core_slots.specs.Stacked.{Stacked, with_operands}
 use Rattle.virt_base.specs.declared.fault.Trap.{Trap}
-use Rattle.core_interp.specs.Scene.{scene_of}
+use Rattle.core_eval.specs.Scene.{scene_of}
 use Rattle.core_interp.specs.Rest.{config_of}
-use Rattle.core_interp.specs.Valid.{takes, gives}
+use Rattle.core_eval.specs.Fine.{takes, gives}
 
 -- a store changed, but for what no instruction changes
 pub record Stays (s t : State) : Type 0 where

@@ -9,7 +9,7 @@ use Rattle.core_eval.specs.Eval.{call_end, exec, go}
 use Rattle.core_slots.specs.Stacked.{Held, Stacked}
 use Rattle.core_interp.specs.declared.control.Control.{Control}
 use Rattle.core_interp.specs.declared.control.Control.TheVariants.{Label, Called, Entry}
-use Rattle.core_interp.specs.Scene.{Scene, code_at, spaces_at}
+use Rattle.core_eval.specs.Scene.{Scene, code_at, spaces_at}
 
 -- what comes after a piece: for each block, loop and call in progress, the innermost first. A branch to a label goes on with `target`
 pub data Cont : Type 0 where

@@ -20,9 +20,10 @@ use Rattle.core_interp.specs.declared.control.Control.TheVariants.{Label, Called
 use Rattle.core_interp.specs.declared.control.Flow.{Flow}
 use Rattle.core_interp.specs.declared.control.Flow.TheVariants.{On, Ended, Failed, Asking, Exhausted, Deep}
 use Rattle.core_interp.specs.declared.running.Running.{Running}
-use Rattle.core_interp.specs.Scene.{Scene, scene_of, code_at, spaces_at, IsInside}
+use Rattle.core_eval.specs.Scene.{Scene, scene_of, code_at, spaces_at, IsInside}
 use Rattle.core_interp.specs.Rest.{goes_at}
-use Rattle.core_interp.specs.Valid.{frame_at, IsReady}
+use Rattle.core_eval.specs.Fine.{frame_at}
+use Rattle.core_interp.specs.Valid.{IsReady}
 use Rattle.core_interp.specs.Jumping.{IsJumping, jumps, IsReturning, returns_from, IsEntering, enters}
 
 abbrev pub progress : Running → List Control

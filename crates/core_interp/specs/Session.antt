@@ -16,9 +16,9 @@ use Rattle.core_interp.specs.declared.machine.Stage.TheVariants.{Starts, Runs, A
 use Rattle.core_interp.specs.declared.machine.Machine.{Machine}
 use Rattle.core_interp.specs.declared.machine.Pause.{Pause}
 use Rattle.core_interp.specs.declared.machine.Pause.TheVariants as pauses
-use Rattle.core_interp.specs.Scene.{scene_of, results_at}
+use Rattle.core_eval.specs.Scene.{scene_of, results_at}
 use Rattle.core_interp.specs.Rest.{config_of}
-use Rattle.core_interp.specs.Valid.{params_of}
+use Rattle.core_eval.specs.Fine.{params_of}
 use Rattle.core_interp.specs.Run.{goes, Ready}
 
 -- the types of the results that are due

@@ -1,8 +1,8 @@
 //! Calls.
 
 ghost use Rattle.std.specs.Prelude.{◌≡◌, ◌+◌, ◌≤◌, IfOk, length};
-ghost use Rattle.core_interp.specs.Scene.{scene_of};
-ghost use Rattle.core_interp.specs.Valid.{IsFine};
+ghost use Rattle.core_eval.specs.Scene.{scene_of};
+ghost use Rattle.core_eval.specs.Fine.{IsFine};
 ghost use Rattle.core_interp.specs.Run.{IsBefore, Leads, Enters, entry, steps};
 ghost use Rattle.core_eval.specs.Eval.{same_type as are_same, same_types as all_same, same_func as is_same, type_of as type_of_function};
 

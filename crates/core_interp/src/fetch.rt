@@ -4,8 +4,8 @@ ghost use Rattle.std.specs.Prelude.{◌≡◌, ◌<◌, ◌+◌, ◌^◌, Some, 
 ghost use Rattle.core_code.specs.Jumps.{JumpsFrom};
 ghost use Rattle.wasm_ast.specs.declared.instr.Instr.{Instr};
 ghost use Rattle.core_eval.specs.Config.{block_params as params_of_block, block_results as results_of_block, type_at as type_in};
-ghost use Rattle.core_interp.specs.Scene.{scene_of, code_at, instance_of, spaces_at as spaces_in, IsInside};
-ghost use Rattle.core_interp.specs.Valid.{Place, IsBlock};
+ghost use Rattle.core_eval.specs.Scene.{scene_of, code_at, instance_of, spaces_at as spaces_in, IsInside};
+ghost use Rattle.core_eval.specs.Fine.{Place, IsBlock};
 
 use core_code::{Code, Jump};
 use core_store::{CoreSpaces, Store, StoreFunc, function, spaces};

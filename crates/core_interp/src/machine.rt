@@ -6,8 +6,8 @@ ghost use Rattle.core_store.specs.declared.value.CoreValue.{CoreValue};
 ghost use Rattle.core_eval.specs.Words.{values_in};
 ghost use Rattle.core_eval.specs.Config.{Reply};
 ghost use Rattle.core_slots.specs.Stacked.{with_operands};
-ghost use Rattle.core_interp.specs.Scene.{scene_of};
-ghost use Rattle.core_interp.specs.Valid.{IsFine};
+ghost use Rattle.core_eval.specs.Scene.{scene_of};
+ghost use Rattle.core_eval.specs.Fine.{IsFine};
 ghost use Rattle.core_interp.specs.Session.{goes_on, results_due, CanRun, IsCallable, IsOutside, params_at, AsksBy, Dues, PauseLeads, granted, Follows, Says, IsAwaited, resumed};
 
 use crate::calls::type_of;

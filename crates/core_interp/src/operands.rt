@@ -6,9 +6,9 @@ ghost use Rattle.core_store.specs.declared.value.CoreSpaces.{CoreSpaces};
 ghost use Rattle.core_store.specs.State.{State};
 ghost use Rattle.core_eval.specs.Plain.{operand_in};
 ghost use Rattle.core_eval.specs.Words.{i32_in};
-ghost use Rattle.core_interp.specs.Scene.{scene_of, spaces_at, IsInside};
+ghost use Rattle.core_eval.specs.Scene.{scene_of, spaces_at, IsInside};
 ghost use Rattle.core_interp.specs.Groups.{IsOnOperands};
-ghost use Rattle.core_interp.specs.Valid.{takes, Names};
+ghost use Rattle.core_eval.specs.Fine.{takes, Names};
 ghost use Rattle.core_interp.specs.Plains.{Did, Puts};
 
 use crate::fetch::function_place;

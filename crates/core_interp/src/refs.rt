@@ -3,9 +3,9 @@
 ghost use Rattle.std.specs.Prelude.{◌≡◌, ◌≤◌, ◌<◌, IfOk, length, slice_get};
 ghost use Rattle.core_store.specs.State.{IsStoreRef, table_at, elements_at};
 ghost use Rattle.core_eval.specs.Effects.{fill_refs, move_refs};
-ghost use Rattle.core_interp.specs.Scene.{scene_of, spaces_at, IsInside};
+ghost use Rattle.core_eval.specs.Scene.{scene_of, spaces_at, IsInside};
 ghost use Rattle.core_interp.specs.Groups.{IsOnRefs};
-ghost use Rattle.core_interp.specs.Valid.{takes, Names};
+ghost use Rattle.core_eval.specs.Fine.{takes, Names};
 ghost use Rattle.core_interp.specs.Plains.{Did, Made};
 
 use crate::fetch::{element_place, table_place};

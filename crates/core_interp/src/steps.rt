@@ -3,8 +3,8 @@
 ghost use Rattle.std.specs.Prelude.{◌≡◌, ◌+◌, ◌*◌, ◌<◌, ◌≤◌, Some, IfOk, length, slice_get};
 ghost use Rattle.core_eval.specs.Eval.{target as target_of};
 ghost use Rattle.wasm_ast.specs.declared.instr.Instr.{Instr};
-ghost use Rattle.core_interp.specs.Scene.{scene_of, code_at, IsInside};
-ghost use Rattle.core_interp.specs.Valid.{IsFine};
+ghost use Rattle.core_eval.specs.Scene.{scene_of, code_at, IsInside};
+ghost use Rattle.core_eval.specs.Fine.{IsFine};
 ghost use Rattle.core_interp.specs.Run.{IsBefore, IsTable, HasTable, TakesLabel, Leads, Performs, steps, Steps, Ready, goes, ahead, RunLeads, Falls, Stops};
 
 use crate::control::Flow;

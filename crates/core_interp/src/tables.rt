@@ -4,9 +4,9 @@ ghost use Rattle.std.specs.Prelude.{◌≡◌, ◌≤◌, ◌<◌, IfOk, length,
 ghost use Rattle.core_store.specs.State.{IsStoreRef};
 ghost use Rattle.core_eval.specs.Words.{ref_in};
 ghost use Rattle.core_eval.specs.Effects.{set_ref, grown_table_size, grow_table};
-ghost use Rattle.core_interp.specs.Scene.{scene_of, spaces_at, IsInside};
+ghost use Rattle.core_eval.specs.Scene.{scene_of, spaces_at, IsInside};
 ghost use Rattle.core_interp.specs.Groups.{IsOnTable};
-ghost use Rattle.core_interp.specs.Valid.{takes, Names};
+ghost use Rattle.core_eval.specs.Fine.{takes, Names};
 ghost use Rattle.core_interp.specs.Plains.{Did, Made, Stays};
 
 use crate::fetch::table_place;

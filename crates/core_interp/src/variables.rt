@@ -1,9 +1,9 @@
 //! Instructions on locals and globals.
 
 ghost use Rattle.std.specs.Prelude.{◌≡◌, ◌≤◌, IfOk, length, slice_get};
-ghost use Rattle.core_interp.specs.Scene.{scene_of, spaces_at, IsInside};
+ghost use Rattle.core_eval.specs.Scene.{scene_of, spaces_at, IsInside};
 ghost use Rattle.core_interp.specs.Groups.{IsOnVariable};
-ghost use Rattle.core_interp.specs.Valid.{takes, Names};
+ghost use Rattle.core_eval.specs.Fine.{takes, Names};
 ghost use Rattle.core_interp.specs.Plains.{Did};
 
 use crate::fetch::global_place;

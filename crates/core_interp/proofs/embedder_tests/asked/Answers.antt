@@ -8,8 +8,8 @@ use Rattle.core_store.specs.State.{State}
 use Rattle.core_eval.specs.Config.{Reply}
 use Rattle.core_interp.specs.declared.machine.Machine.{Machine}
 use Rattle.core_interp.specs.declared.machine.Pause.{Pause}
-use Rattle.core_interp.specs.Scene.{Scene, scene_of}
-use Rattle.core_interp.specs.Valid.{FineFunction, IsFine}
+use Rattle.core_eval.specs.Scene.{Scene, scene_of}
+use Rattle.core_eval.specs.Fine.{FineFunction, IsFine}
 use Rattle.core_interp.specs.Session.{IsCallable, CanRun, Extends, IsAnswer, IsAwaited, Asked, PauseLeads, granted, goes_on}
 use Rattle.core_interp.proofs.embedder_tests.asked.Goals as goal
 

@@ -3,7 +3,7 @@ use Rattle.core_slots.specs.Stacked.{opened}
 use Rattle.core_interp.specs.declared.control.Control.TheVariants.{Entry}
 use Rattle.core_interp.specs.declared.machine.Stage.TheVariants.{Runs, Answered}
 use Rattle.core_interp.specs.declared.machine.Machine.{Machine}
-use Rattle.core_interp.specs.Scene.{scene_of}
+use Rattle.core_eval.specs.Scene.{scene_of}
 use Rattle.core_interp.proofs.Pauses.{pause_from}
 use Rattle.core_interp.proofs.Beginning.{first_of, begun_goes, begun_can, first_asks}
 use Rattle.core_interp.proofs.machine.Machine.begin.Goals as goal

@@ -1,6 +1,6 @@
 use Rattle.std.proofs.Common.{subst}
 use Rattle.core_interp.specs.Plains.{Did}
-use Rattle.core_interp.specs.Scene.{scene_of, spaces_at}
+use Rattle.core_eval.specs.Scene.{scene_of, spaces_at}
 use Rattle.core_interp.proofs.Stepping.{plain_leads, plain_trapped, plain_needs}
 use Rattle.core_interp.proofs.running.Running.plain.Goals as goal
 
