@@ -18,7 +18,7 @@ use Rattle.core_store.specs.State.{table_at}
 use Rattle.core_eval.specs.Words.{i32_in}
 use Rattle.core_eval.specs.Config.{Config, Reply, Out, Next, Break, Back, Over, then_do, with_stack, type_at, block_params, block_results}
 use Rattle.core_eval.specs.Plain.{plain}
-use Rattle.core_eval.specs.Eval.{type_of, function_type, block_end, step_then, loop_end, call_end, More, Turn, Enter, advance, pop, choose, target, same_func, enter_if, call_ref, call_place, indirect, single, exec, replied, enter_within, begun, entered, more, go}
+use Rattle.core_eval.specs.Eval.{function_type, block_end, step_then, loop_end, call_end, More, Turn, Enter, advance, pop, choose, target, same_func, enter_if, call_ref, call_place, indirect, single, exec, replied, enter_within, begun, entered, more, go}
 
 -- no more than n steps are left
 abbrev Within : ℕ → Out → Type 0

@@ -1,5 +1,5 @@
 -- Where an evaluation stands, and how it ends.
-use Rattle.std.specs.Prelude.{ℕ, ◌+◌, ◌-◌, List, [], ◌∷◌, ◌++◌, Option, Some, None, unwrap_or, slice_get, length, take, drop}
+use Rattle.std.specs.Prelude.{ℕ, ◌-◌, List, [], ◌++◌, unwrap_or, slice_get, length, take, drop}
 use Rattle.wasm_ast.specs.declared.module.CoreFunc.{CoreFunc}
 use Rattle.wasm_ast.specs.declared.instr.BlockType.{BlockType}
 use Rattle.wasm_ast.specs.declared.instr.BlockType.TheVariants.{Empty, Value, Index}

@@ -1,6 +1,6 @@
 -- Core evaluation, by recursion on the structured syntax (WebAssembly Core 2.0, sections 4.4.8 to 4.4.10). Each instruction takes a step, but for `else`
 -- and `end`. The steps are those of the modules' own instructions: what happens in a call of the embedder is counted by the one who answers it.
-use Rattle.std.specs.Prelude.{ℕ, zero, suc, ◌+◌, ◌-◌, ◌==◌, nat_lt, ◌&&◌, if◌then◌else◌, Bool, true, false, List, [], ◌∷◌, ◌++◌, length, take, drop, reverse, replicate, slice_get, slice_index_or, Option, Some, None, Result, Ok, Err}
+use Rattle.std.specs.Prelude.{ℕ, zero, suc, ◌+◌, ◌-◌, nat_lt, ◌&&◌, Bool, true, false, List, [], ◌∷◌, ◌++◌, length, take, drop, reverse, replicate, slice_get, slice_index_or, Option, Some, None, Result, Ok, Err}
 use Rattle.std.specs.Int.{w64, cast_unsigned}
 use Rattle.virt_base.specs.declared.fault.Trap.{Trap}
 use Rattle.virt_base.specs.declared.core_type.CoreType.{CoreType}

@@ -1,9 +1,12 @@
--- The depth to which turns and calls may be nested does not matter.
-use Rattle.std.specs.Prelude.{ℕ, ◌≡◌, ◌-◌, length, slice_get}
+-- The depth to which turns and calls may be nested does not matter, and fine code stays fine in a store that grows.
+use Rattle.std.specs.Prelude.{ℕ, ◌≡◌, ◌+◌, ◌-◌, Some, length, slice_get}
 use Rattle.wasm_ast.specs.declared.instr.BlockType.{BlockType}
 use Rattle.core_code.specs.Tree.{Seq}
+use Rattle.core_store.specs.declared.value.StoreFunc.{StoreFunc}
 use Rattle.core_eval.specs.Config.{Config, block_params}
 use Rattle.core_eval.specs.Eval.{Turn, Enter, exec, loop_end, entered, go}
+use Rattle.core_eval.specs.Scene.{Scene, Grows}
+use Rattle.core_eval.specs.Fine.{FineFunction, IsFine}
 
 -- a turn of a loop is its body, and then what its end says
 abbrev pub TurnsAreBodies : Type 0
@@ -14,3 +17,9 @@ TurnsAreBodies =
 -- a call is the body of its function, or the answer of the embedder
 abbrev pub CallsAreBodies : Type 0
 CallsAreBodies = (f n : ℕ) (c : Config) → go (Enter f) n c ≡ entered go (slice_get c.store.functions f) n c
+
+-- a fine store stays fine where each function that was added is fine
+abbrev pub FineStoresGrow : Type 0
+FineStoresGrow =
+    (w v : Scene) (grows : Grows w v) → IsFine w → ((i : ℕ) (g : StoreFunc) → slice_get grows.new_functions i ≡ Some g → FineFunction v (length w.functions + i) g) →
+    IsFine v

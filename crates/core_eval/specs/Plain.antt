@@ -1,6 +1,6 @@
 -- What the instructions do that go on to the next (WebAssembly Core 2.0, sections 4.4.1 to 4.4.8): the configuration behind them, or none where they trap.
-use Rattle.std.specs.Prelude.{ℕ, zero, suc, ℤ, ◌+◌, ◌%◌, ◌==◌, if◌then◌else◌, List, [], ◌∷◌, length, take, drop, slice_get, slice_set, slice_index_or, Option, Some, None, Result, Ok, Err}
-use Rattle.std.specs.Int.{w32, w64, cast_unsigned}
+use Rattle.std.specs.Prelude.{ℕ, suc, ◌+◌, ◌%◌, ◌==◌, if◌then◌else◌, List, [], ◌∷◌, length, slice_get, slice_set, Option, Some, None, Result, Ok, Err}
+use Rattle.std.specs.Int.{w32, cast_unsigned}
 use Rattle.virt_base.specs.declared.fault.Trap.{Trap}
 use Rattle.virt_base.specs.declared.core_type.CoreType.{CoreType}
 use Rattle.virt_base.specs.declared.core_type.CoreType.TheVariants.{I32, I64, Funcref, Externref}
@@ -16,7 +16,6 @@ use Rattle.core_integer.specs.Integer.{integer, converted}
 use Rattle.core_memory.specs.Replaced.{repeated}
 use Rattle.core_memory.specs.Number.{bytes_of}
 use Rattle.core_memory.specs.Linear.{loaded, size}
-use Rattle.core_store.specs.declared.value.CoreRef.{CoreRef}
 use Rattle.core_store.specs.Table.{got}
 use Rattle.core_store.specs.State.{State, memory_at, table_at, segment_at, elements_at}
 use Rattle.core_eval.specs.Words.{word_of_ref, word_of, i32_in, ref_in, value_like, word_of_bool}

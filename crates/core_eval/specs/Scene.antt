@@ -1,5 +1,5 @@
 -- What of a store no instruction changes: its functions and instances, and how many other items there are.
-use Rattle.std.specs.Prelude.{ℕ, ◌<◌, List, [], Option, Some, None, length, slice_get}
+use Rattle.std.specs.Prelude.{ℕ, ◌≡◌, ◌<◌, ◌≤◌, List, [], ◌++◌, Option, Some, None, length, slice_get}
 use Rattle.virt_base.specs.declared.core_type.CoreType.{CoreType}
 use Rattle.wasm_ast.specs.declared.instr.Instr.{Instr}
 use Rattle.core_store.specs.declared.value.CoreSpaces.{CoreSpaces}
@@ -54,3 +54,15 @@ abbrev pub IsInside : Scene → Option StoreFunc → Type 0
 IsInside w None = ⊥
 IsInside w (Some (Inside ty instance locals body)) = instance < (length w.instances)
 IsInside w (Some (Outside ty number)) = ⊥
+
+-- functions and instances were appended, and no other item was taken away
+pub record Grows (w v : Scene) : Type 0 where
+  pub new_functions : List StoreFunc
+  pub functions : v.functions ≡ w.functions ++ new_functions
+  pub new_instances : List CoreSpaces
+  pub instances : v.instances ≡ w.instances ++ new_instances
+  pub globals : w.globals ≤ v.globals
+  pub tables : w.tables ≤ v.tables
+  pub memories : w.memories ≤ v.memories
+  pub segments : w.segments ≤ v.segments
+  pub elements : w.elements ≤ v.elements

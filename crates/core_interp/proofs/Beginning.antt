@@ -29,7 +29,8 @@ use Rattle.core_interp.specs.Run.{progress, calls, ReadyAt}
 use Rattle.core_interp.specs.Session.{results_due, goes_on, IsFirst, CanRun, resumed, PauseLeads, granted, Follows, Says, asking, AsksBy, Dues}
 use Rattle.core_interp.proofs.Changes.{lt_true, lt_false}
 use Rattle.core_interp.proofs.Given.{pushed}
-use Rattle.core_interp.proofs.Extending.{functions_longer}
+use Rattle.core_eval.proofs.Growing.{functions_longer}
+use Rattle.core_interp.proofs.Extending.{grows}
 use Rattle.core_interp.proofs.Pauses.{goes_at_stage, staged_at, at_stage, due_leads, asked_same, asks_only, due_more, asked_for}
 
 pub first_of : (m : Machine) (s : State) → m.stage ≡ Starts → CanRun m s → IsFirst m s
@@ -158,7 +159,7 @@ first_asks m mid k s a number ty p e em en same can there by = cases p by (asks_
                 ∙ ap (λ ts. Done (values_in (length r.store.functions) ts (reverse (reverse (words r.results) ++ drop (length ty.params) m.running.slots.operands))) r.store) (ap (results_at (scene_of s)) (sym en) ∙ sym (due_more mid s r.store ans.extends lt))
                 ∙ ap (λ xs. Done (values_in (length r.store.functions) (results_due mid r.store) (reverse xs)) r.store) (sym (left r.results ans.count))
                 ∙ sym (goes_at_stage (resumed (asking ty mid) r.results) r.store Answered rs (a + n) em),
-            at_stage (resumed (asking ty mid) r.results) r.store Answered em (let longer = functions_longer s r.store ans.extends in let l = lt in omega arith) tt,
+            at_stage (resumed (asking ty mid) r.results) r.store Answered em (let longer = functions_longer _ _ (grows s r.store ans.extends) in let l = lt in omega arith) tt,
           ),
           asked_for m.entry j ty mid s (subst (λ i. slice_get s.functions m.entry ≡ Some (Outside ty i)) (sym q.0) there),
         ) in

@@ -25,7 +25,8 @@ use Rattle.core_interp.specs.Rest.{goes_at}
 use Rattle.core_eval.specs.Fine.{params_of}
 use Rattle.core_interp.specs.Run.{progress, goes, ReadyAt, Ready, answered, RunLeads, ahead}
 use Rattle.core_interp.specs.Session.{Asked, results_due, goes_staged, goes_on, IsStaged, CanRun, Extends, answered_slots, resumed, PauseLeads, granted, IsCallable, asking, AsksBy, Dues}
-use Rattle.core_interp.proofs.Extending.{function_more, functions_longer, ready_at_more, goes_at_more}
+use Rattle.core_eval.proofs.Growing.{function_more, functions_longer}
+use Rattle.core_interp.proofs.Extending.{grows, ready_at_more, goes_at_more}
 
 -- ---- start
 
@@ -126,7 +127,7 @@ due_leads X b pauses.Spent m s e lt f h = (
   h,
   λ rs. f rs 0 ∙ deep_zero (b + 0) (omega arith),
   λ rs n. f rs n ∙ (let q : b + n ≡ n = omega arith in ap deep q) ∙ sym (goes_at_stage m s Due rs n e),
-  λ t x. at_stage m t Due e (let longer = functions_longer s t x in omega arith) tt,
+  λ t x. at_stage m t Due e (let longer = functions_longer _ _ (grows s t x) in omega arith) tt,
 )
 due_leads X b pauses.TooDeep m s e lt f h = (h, λ rs n. f rs n ∙ deep_suc (b + n) (omega arith))
 
@@ -182,7 +183,7 @@ exhausted_leads m m' s t a b e e' en q can lead =
       lead.0,
       λ rs. runs_goes m s a 0 rs e ∙ ap (finish (results_due m s)) (lead.1 rs),
       λ rs n. runs_goes m s a n rs e ∙ ap (finish (results_due m s)) (lead.2 rs n) ∙ ap (λ ts. finish ts (goes m'.running t rs n)) (same_due m s t q ∙ ap (results_at (scene_of t)) (sym en)) ∙ sym (goes_at_stage m' t Runs rs n e'),
-      λ u x. at_stage m' u Runs e' (let longer = functions_longer t u x in omega arith) (ready_more m'.running t u x lead.3),
+      λ u x. at_stage m' u Runs e' (let longer = functions_longer _ _ (grows t u x) in omega arith) (ready_more m'.running t u x lead.3),
     )
 
 -- what the machine asked is what the run asked
@@ -199,7 +200,7 @@ asks_only (Some (Outside ty number)) s old new pauses.Spent h = absurd h
 asks_only (Some (Outside ty number)) s old new pauses.TooDeep h = absurd h
 
 pub due_more : (m : Machine) (s t : State) → Extends s t → m.entry < length s.functions → results_due m t ≡ results_due m s
-due_more m s t x lt = let g = there s.functions m.entry lt in ap (λ (o : Option StoreFunc). (function_type o).results) (function_more s t m.entry g.0 x g.1 ∙ sym g.1)
+due_more m s t x lt = let g = there s.functions m.entry lt in ap (λ (o : Option StoreFunc). (function_type o).results) (function_more _ _ (grows s t x) m.entry g.0 g.1 ∙ sym g.1)
   where
     there : (fs : List StoreFunc) (i : ℕ) → i < length fs → (g : StoreFunc) × (slice_get fs i ≡ Some g)
     there [] i lt = absurd (omega arith)
@@ -241,7 +242,7 @@ asking_leads m mid m' s t a b f p e em en q can lead by = cases p by (asks_only 
                     ∙ ap (λ z. goes_at (scene_of r.store) mid.running.function mid.running.at z (progress mid.running) r.store rs (b + n)) (sym slots))
                     ∙ ap (λ ts. finish ts (goes (resumed (asking x.ty mid) r.results).running r.store rs (b + n))) (due ∙ sym (due_more mid t r.store ans.extends lt))
                     ∙ sym (goes_at_stage (resumed (asking x.ty mid) r.results) r.store Runs rs (b + n) em),
-                at_stage (resumed (asking x.ty mid) r.results) r.store Runs em (let longer = functions_longer t r.store ans.extends in let l = lt in omega arith)
+                at_stage (resumed (asking x.ty mid) r.results) r.store Runs em (let longer = functions_longer _ _ (grows t r.store ans.extends) in let l = lt in omega arith)
                     (record { at = subst (λ z. ReadyAt (scene_of r.store) mid.running.function mid.running.at z (progress mid.running)) (sym slots) ready; counted = omega arith }),
               ),
           asked_for f k x.ty mid t (subst (λ j. slice_get t.functions f ≡ Some (Outside x.ty j)) (sym same.0) x.callee_is),
