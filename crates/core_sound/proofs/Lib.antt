@@ -1,0 +1,4 @@
+mod TreeLemmas
+mod NeedLemmas
+mod ShapeLemmas
+mod FineLemmas
