@@ -1,0 +1,4 @@
+pub mod Within
+pub mod Texts
+pub mod Tables
+pub mod Documents
