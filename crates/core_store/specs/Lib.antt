@@ -1,3 +1,4 @@
 pub mod Table
 pub mod State
 pub mod View
+pub mod Locals

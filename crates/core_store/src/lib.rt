@@ -2,8 +2,10 @@
 #![tactic(auto)]
 
 mod globals;
+mod locals;
 mod makers;
 mod memories;
+mod shared;
 mod state;
 mod table;
 mod tables;
@@ -13,10 +15,12 @@ pub use core_code::{Code, Jump};
 pub use core_integer::integer;
 pub use core_memory::StoreFault;
 pub use globals::{global_get, global_set};
+pub use locals::Locals;
 pub use makers::{
     add_elements, add_function, add_global, add_instance, add_memory, add_segment, add_table,
 };
 pub use memories::{copy, drop_segment, fill, grow, init, load, size, store_at};
+pub use shared::Shared;
 pub use state::{Store, function, functions, instances, spaces};
 pub use tables::{
     drop_element, table_copy, table_fill, table_get, table_grow, table_init, table_set, table_size,

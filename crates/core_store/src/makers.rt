@@ -3,6 +3,7 @@ ghost use Rattle.core_memory.specs.Linear.{fresh};
 ghost use Rattle.core_store.specs.Table.{nulls, AreRefs};
 ghost use Rattle.core_store.specs.State.{Adds, Places, IsStoreValue};
 
+use crate::shared::Shared;
 use crate::state::Store;
 use crate::table::Table;
 use crate::value::{CoreRefs, CoreSpaces, CoreValue, StoreFunc};
@@ -93,10 +94,11 @@ pub fn add_elements(_alloc: Global, store: &mut Store, elements: CoreRefs) -> Re
 }
 
 /// Adds a core instance.
-pub fn add_instance(_alloc: Global, store: &mut Store, spaces: CoreSpaces) -> Result<u32, NoMemory>
+pub fn add_instance(alloc: Global, store: &mut Store, spaces: CoreSpaces) -> Result<u32, NoMemory>
     ensures { Adds store.old store.new (length store.old.instances) (record store.old { instances = store.old.instances ++ spaces ∷ [] }) result }
 {
     let at = next_place(store.instances.len())?;
+    let spaces = Shared::new(alloc, spaces)?;
     store.instances.push(spaces)?;
     Ok(at)
 }

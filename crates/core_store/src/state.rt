@@ -1,5 +1,6 @@
 ghost use Rattle.std.specs.Prelude.{◌≡◌, ◌+◌, ◌-◌, ◌≤◌, ◌<◌, Some, length, slice_get};
 
+use crate::shared::Shared;
 use crate::table::Table;
 use crate::value::{CoreRefs, CoreSpaces, CoreValue, StoreFunc, TooDeep};
 use core_memory::Memory;
@@ -20,7 +21,7 @@ pub struct Store {
     pub(crate) globals: Vec<CoreValue>,
     pub(crate) segments: Vec<Bytes>,
     pub(crate) elements: Vec<CoreRefs>,
-    pub(crate) instances: Vec<CoreSpaces>,
+    pub(crate) instances: Vec<Shared<CoreSpaces>>,
     pub(crate) nesting: u32,
 }
 
@@ -122,8 +123,8 @@ pub fn function(store: &Store, at: u32) -> &StoreFunc
     &store.functions[at as usize]
 }
 
-/// The index spaces of the instance at a place.
-pub fn spaces(store: &Store, instance: u32) -> &CoreSpaces
+/// The index spaces of the instance at a place, which the store shares.
+pub fn spaces(store: &Store, instance: u32) -> &Shared<CoreSpaces>
     requires { instance < length store.now.instances }
     ensures { slice_get store.now.instances instance ≡ Some result.now }
 {

@@ -1,13 +1,13 @@
 use crate::{
-    CoreRef, CoreRefs, CoreSpaces, CoreValue, Store, StoreFault, StoreFunc, TooDeep, add_elements,
-    add_function, add_global, add_instance, add_memory, add_segment, add_table, copy, drop_element,
-    drop_segment, fill, function, functions, global_get, global_set, grow, init, instances, load,
-    size, spaces, store_at, table_copy, table_fill, table_get, table_grow, table_init, table_set,
-    table_size,
+    CoreRef, CoreRefs, CoreSpaces, CoreValue, Locals, Shared, Store, StoreFault, StoreFunc,
+    TooDeep, add_elements, add_function, add_global, add_instance, add_memory, add_segment,
+    add_table, copy, drop_element, drop_segment, fill, function, functions, global_get, global_set,
+    grow, init, instances, load, size, spaces, store_at, table_copy, table_fill, table_get,
+    table_grow, table_init, table_set, table_size,
 };
 use std::test::Fail;
-use virt_base::{CoreTypes, Items, Trap};
-use wasm_ast::{CoreFunc, Indexes};
+use virt_base::{CoreType, CoreTypes, Items, NoMemory, Trap};
+use wasm_ast::{CoreFunc, Indexes, LocalRun};
 
 #[test]
 fn fills_at_the_end_of_a_memory(rt: HostRuntime) -> Result<(), Fail> {
@@ -84,20 +84,21 @@ fn a_table_grows_up_to_its_most(rt: HostRuntime) -> Result<(), Fail> {
     Ok(())
 }
 
-fn make_function(rt: &HostRuntime) -> StoreFunc {
+fn make_function(rt: &HostRuntime) -> Result<StoreFunc, NoMemory> {
     let alloc = rt.alloc();
     let ty = CoreFunc {
         params: CoreTypes::empty(alloc),
         results: CoreTypes::empty(alloc),
     };
-    StoreFunc::Outside { ty, number: 7 }
+    let ty = Shared::new(alloc, ty)?;
+    Ok(StoreFunc::Outside { ty, number: 7 })
 }
 
 #[test]
 fn references_in_a_table(rt: HostRuntime) -> Result<(), Fail> {
     let alloc = rt.alloc();
     let mut store = Store::new(alloc);
-    assert_eq!(rt; add_function(alloc, &mut store, make_function(&rt))?, 0);
+    assert_eq!(rt; add_function(alloc, &mut store, make_function(&rt)?)?, 0);
     assert_eq!(rt; functions(&store), 1);
     assert_eq!(rt;
         matches!(function(&store, 0), StoreFunc::Outside { ty: _, number: 7 }),
@@ -156,7 +157,7 @@ fn globals_and_instances(rt: HostRuntime) -> Result<(), Fail> {
     };
     assert_eq!(rt; add_instance(alloc, &mut store, none)?, 0);
     assert_eq!(rt; instances(&store), 1);
-    assert_eq!(rt; spaces(&store, 0).functions.len(), 0);
+    assert_eq!(rt; spaces(&store, 0).get().functions.len(), 0);
     Ok(())
 }
 
@@ -169,4 +170,36 @@ fn nesting_up_to_its_most(rt: HostRuntime) {
     assert_eq!(rt; store.enter(), Err(TooDeep));
     store.leave();
     assert_eq!(rt; store.nesting(), 65535);
+}
+
+#[test]
+fn locals_in_runs(rt: HostRuntime) -> Result<(), Fail> {
+    let runs = [
+        LocalRun {
+            count: 50_000,
+            ty: CoreType::I32,
+        },
+        LocalRun {
+            count: 0,
+            ty: CoreType::I64,
+        },
+        LocalRun {
+            count: 3,
+            ty: CoreType::Funcref,
+        },
+    ];
+    let locals = Locals::new(rt.alloc(), &runs)?;
+    assert_eq!(rt; locals.len(), 50_003);
+    assert_eq!(rt; locals.is_empty(), false);
+    Ok(())
+}
+
+#[test]
+fn a_value_of_two_owners(rt: HostRuntime) -> Result<(), Fail> {
+    let alloc = rt.alloc();
+    let first = Shared::new(alloc, Indexes::empty(alloc))?;
+    let second = first.share()?;
+    drop(first);
+    assert_eq!(rt; second.get().len(), 0);
+    Ok(())
 }

@@ -1,5 +1,7 @@
+use crate::locals::Locals;
+use crate::shared::Shared;
 use core_code::Code;
-use virt_base::{CoreTypes, Items};
+use virt_base::Items;
 use wasm_ast::{CoreFunc, Indexes};
 
 /// A reference: null, or a function by its place in the store.
@@ -20,19 +22,19 @@ pub enum CoreValue {
     Ref(CoreRef),
 }
 
-/// A function of the store.
+/// A function of the store. Its type is shared with its instance, and its code with a machine that runs it.
 #[derive(Debug, Drop)]
 pub enum StoreFunc {
     /// A function of a module, with the place of its instance, and its locals behind the parameters.
     Inside {
-        ty: CoreFunc,
+        ty: Shared<CoreFunc>,
         instance: u32,
-        locals: CoreTypes,
-        body: Code,
+        locals: Locals,
+        body: Shared<Code>,
     },
     /// A function of the embedder, by the embedder's number.
     Outside {
-        ty: CoreFunc,
+        ty: Shared<CoreFunc>,
         number: u32,
     },
 }
@@ -40,7 +42,7 @@ pub enum StoreFunc {
 /// The index spaces of an instance: its function types, and the places of its items in the store.
 #[derive(Debug, Drop)]
 pub struct CoreSpaces {
-    pub types: Items<CoreFunc>,
+    pub types: Items<Shared<CoreFunc>>,
     pub functions: Indexes,
     pub tables: Indexes,
     pub memories: Indexes,
