@@ -14,10 +14,10 @@ ghost use Rattle.core_instance.specs.Constants.{constant, refs_of};
 ghost use Rattle.core_instance.specs.Instantiation.{IsClosed, AreNames, functions_from, bytes_of};
 
 use crate::constants::Names;
-use crate::copies::{copy_func, copy_instrs, no_func, spread};
+use crate::copies::{SharedFuncs, copy_instrs, no_func, spread};
 use crate::segments::bytes_of;
 use core_store::{
-    Code, CoreValue, Store, StoreFunc, add_elements, add_function, add_global, add_memory,
+    Code, CoreValue, Shared, Store, StoreFunc, add_elements, add_function, add_global, add_memory,
     add_segment, add_table, global_get,
 };
 use std::alloc::Global as Heap;
@@ -42,15 +42,21 @@ pub fn imported_values(
 }
 
 /// The type of the function whose body stands at this place of the code section.
-fn func_type(alloc: Heap, module: &Module, index: usize) -> Result<CoreFunc, NoMemory>
+fn func_type(
+    alloc: Heap,
+    module: &Module,
+    types: &SharedFuncs,
+    index: usize,
+) -> Result<Shared<CoreFunc>, NoMemory>
+    requires { types.now ≡ module.now.types }
     ensures { IfOk result (λ ty. ty ≡ body_type module.now index) }
 {
     match module.functions.as_slice().get(index) {
-        Some(ty) => match module.types.as_slice().get(*ty as usize) {
-            Some(func) => copy_func(alloc, func),
-            None => Ok(no_func(alloc)),
+        Some(ty) => match types.as_slice().get(*ty as usize) {
+            Some(func) => func.share(),
+            None => Shared::new(alloc, no_func(alloc)),
         },
-        None => Ok(no_func(alloc)),
+        None => Shared::new(alloc, no_func(alloc)),
     }
 }
 
@@ -58,22 +64,24 @@ fn func_type(alloc: Heap, module: &Module, index: usize) -> Result<CoreFunc, NoM
 fn inside(
     alloc: Heap,
     module: &Module,
+    types: &SharedFuncs,
     index: usize,
     instance: u32,
     body: &Body,
 ) -> Result<StoreFunc, NoMemory>
-    requires { IsClosed body.now }
+    requires closed { IsClosed body.now }
+    requires types { types.now ≡ module.now.types }
     ensures { IfOk result (λ function. function ≡ Inside (body_type module.now index) instance (spread body.now.locals) body.now.code) }
 {
-    let ty = func_type(alloc, module, index)?;
+    let ty = func_type(alloc, module, types, index)?;
     let locals = spread(alloc, body.locals.as_slice())?;
-    let code = copy_instrs(alloc, &body.code)?;
-    match Code::new(alloc, code)? {
-        Some(body) => Ok(StoreFunc::Inside {
+    let instrs = copy_instrs(alloc, &body.code)?;
+    match Code::new(alloc, instrs)? {
+        Some(code) => Ok(StoreFunc::Inside {
             ty,
             instance,
             locals,
-            body,
+            body: Shared::new(alloc, code)?,
         }),
         None => unreachable!(),
     }
@@ -86,13 +94,15 @@ pub fn add_functions(
     places: &mut Indexes,
     instance: u32,
     module: &Module,
+    types: &SharedFuncs,
 ) -> Result<(), NoMemory>
-    requires { All IsClosed module.now.code }
+    requires closed { All IsClosed module.now.code }
+    requires types { types.now ≡ module.now.types }
     ensures store { OnOk result (store.new ≡ record store.old { functions = store.old.functions ++ functions_from module.now instance 0 module.now.code }) }
     ensures places { OnOk result (places.new ≡ places.old ++ range_with_len (length store.old.functions) (length module.now.code)) }
 {
     for (index, body) in module.code.as_slice().iter().enumerate() {
-        let function = inside(alloc, module, index, instance, body)?;
+        let function = inside(alloc, module, types, index, instance, body)?;
         let at = add_function(alloc, store, function)?;
         places.push(at)?;
     }

@@ -4,9 +4,13 @@ ghost use Rattle.std.specs.Prelude.{◌≡◌, [], IfOk};
 ghost use Rattle.core_body.specs.Context.{arrow};
 ghost use Rattle.core_body.specs.Locals.{spread};
 
+use core_store::{Locals, Shared};
 use std::alloc::Global;
 use virt_base::{CoreTypes, Items, NoMemory};
 use wasm_ast::{Boxed, BranchTable, CoreFunc, Indexes, Instr, Instrs, LocalRun};
+
+/// Function types in order, which an instance shares with its functions.
+pub type SharedFuncs = Items<Shared<CoreFunc>>;
 
 fn copy_types(alloc: Global, types: &CoreTypes) -> Result<CoreTypes, NoMemory>
     ensures { IfOk result (λ copy. copy ≡ types.now) }
@@ -21,16 +25,11 @@ fn copy_indexes(alloc: Global, indexes: &Indexes) -> Result<Indexes, NoMemory>
 }
 
 /// The types of a body's locals.
-#[tactic(auto, using(crate::proofs::RunLemmas::spread_more))]
-pub fn spread(alloc: Global, runs: &[LocalRun]) -> Result<CoreTypes, NoMemory>
-    ensures { IfOk result (λ types. types ≡ spread runs.now) }
+#[tactic(auto, using(crate::proofs::RunLemmas::spread_is_each))]
+pub fn spread(alloc: Global, runs: &[LocalRun]) -> Result<Locals, NoMemory>
+    ensures { IfOk result (λ locals. locals ≡ spread runs.now) }
 {
-    let mut list = Vec::new(alloc);
-    for run in runs {
-        let len = list.len() + run.count as usize;
-        list.resize(len, run.ty)?;
-    }
-    Ok(Items::new(list))
+    Locals::new(alloc, runs)
 }
 
 /// The type that takes and gives nothing, which stands for one that is not there.
@@ -44,12 +43,24 @@ pub fn no_func(alloc: Global) -> CoreFunc
 }
 
 /// A copy of a function type.
-pub fn copy_func(alloc: Global, func: &CoreFunc) -> Result<CoreFunc, NoMemory>
+fn copy_func(alloc: Global, func: &CoreFunc) -> Result<CoreFunc, NoMemory>
     ensures { IfOk result (λ copy. copy ≡ func.now) }
 {
     let params = copy_types(alloc, &func.params)?;
     let results = copy_types(alloc, &func.results)?;
     Ok(CoreFunc { params, results })
+}
+
+/// Copies of function types, each to be shared.
+pub fn share_funcs(alloc: Global, types: &Items<CoreFunc>) -> Result<SharedFuncs, NoMemory>
+    ensures { IfOk result (λ funcs. funcs ≡ types.now) }
+{
+    let mut list = Vec::with_capacity(alloc, types.len())?;
+    for func in types.as_slice() {
+        let copy = copy_func(alloc, func)?;
+        list.push(Shared::new(alloc, copy)?)?;
+    }
+    Ok(Items::new(list))
 }
 
 fn copy_instr(alloc: Global, instr: &Instr) -> Result<Instr, NoMemory>

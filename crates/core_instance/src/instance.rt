@@ -9,6 +9,7 @@ use crate::allocate::{
     imported_values,
 };
 use crate::constants::Names;
+use crate::copies::share_funcs;
 use crate::external::{CoreInstance, Externs};
 use crate::places::{copy_places, exports_of, imported_places, spaces_with, start_of};
 use crate::segments::{apply_elements, apply_segments};
@@ -37,6 +38,7 @@ fn allocate(
     ensures places { IfOk result (λ made. made.places ≡ places_of store.old module.now imports.now) }
     ensures names { IfOk result (λ made. made.names ≡ names_of store.old module.now imports.now) }
 {
+    let types = share_funcs(alloc, &module.types)?;
     let mut places = imported_places(alloc, imports.as_slice())?;
     let globals = imported_values(alloc, store, places.globals.as_slice())?;
     add_functions(
@@ -45,6 +47,7 @@ fn allocate(
         &mut places.functions,
         instances(store),
         module,
+        &types,
     )?;
     let functions = copy_places(alloc, &places.functions)?;
     let names = Names { globals, functions };
@@ -75,7 +78,7 @@ fn allocate(
         &names,
         module.elements.as_slice(),
     )?;
-    let spaces = spaces_with(alloc, module.types.as_slice(), &places)?;
+    let spaces = spaces_with(alloc, types, &places)?;
     add_instance(alloc, store, spaces)?;
     Ok(Allocated { places, names })
 }

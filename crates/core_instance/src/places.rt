@@ -4,12 +4,12 @@ ghost use Rattle.std.specs.Prelude.{◌≡◌, ◌++◌, [], map, IfOk, OnOk};
 ghost use Rattle.std.specs.Option.{option_map};
 ghost use Rattle.core_instance.specs.Spaces.{functions_of, tables_of, memories_of, globals_of, place_at, extern_of, named_extern, imported_places};
 
-use crate::copies::copy_func;
+use crate::copies::SharedFuncs;
 use crate::external::{Extern, NamedExtern, NamedExterns};
 use core_store::CoreSpaces;
 use std::alloc::Global;
 use virt_base::{Items, NoMemory};
-use wasm_ast::{CoreFunc, Export, ExportItem, Indexes};
+use wasm_ast::{Export, ExportItem, Indexes};
 
 fn push_function(list: &mut Indexes, item: Extern) -> Result<(), NoMemory>
     ensures { OnOk result (list.new ≡ list.old ++ functions_of item) }
@@ -79,26 +79,16 @@ pub fn copy_places(alloc: Global, places: &Indexes) -> Result<Indexes, NoMemory>
     Ok(Items::new(Vec::from_slice(alloc, places.as_slice())?))
 }
 
-fn copy_funcs(alloc: Global, types: &[CoreFunc]) -> Result<Items<CoreFunc>, NoMemory>
-    ensures { IfOk result (λ copy. copy ≡ types.now) }
-{
-    let mut list = Vec::with_capacity(alloc, types.len())?;
-    for func in types {
-        list.push(copy_func(alloc, func)?)?;
-    }
-    Ok(Items::new(list))
-}
-
 /// The index spaces of an instance with these function types and places.
 pub fn spaces_with(
     alloc: Global,
-    types: &[CoreFunc],
+    types: SharedFuncs,
     places: &CoreSpaces,
 ) -> Result<CoreSpaces, NoMemory>
-    ensures { IfOk result (λ spaces. spaces ≡ record places.now { types = types.now }) }
+    ensures { IfOk result (λ spaces. spaces ≡ record places.now { types = types }) }
 {
     Ok(CoreSpaces {
-        types: copy_funcs(alloc, types)?,
+        types,
         functions: copy_places(alloc, &places.functions)?,
         tables: copy_places(alloc, &places.tables)?,
         memories: copy_places(alloc, &places.memories)?,

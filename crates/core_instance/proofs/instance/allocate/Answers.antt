@@ -75,7 +75,7 @@ returns-clause-store c =
     let segments-there = ap (λ (t : State). length t.segments) hg ∙ (ap (λ (t : State). length t.segments) hm ∙ (ap (λ (t : State). length t.segments) ht ∙ ap (λ (t : State). length t.segments) hf)) in
     let elements-there = ap (λ (t : State). length t.elements) hs ∙ (ap (λ (t : State). length t.elements) hg ∙ (ap (λ (t : State). length t.elements) hm ∙ (ap (λ (t : State). length t.elements) ht ∙ ap (λ (t : State). length t.elements) hf))) in
     let spaces-is = spaces_are v m.types _ _ _ _ _ _
-    (ap (λ (x : CoreSpaces). x.types) c.in_ok-spaces.ensures ∙ c.as_slice-8.ensures)
+    (ap (λ (x : CoreSpaces). x.types) c.in_ok-spaces.ensures ∙ c.in_ok-types.ensures)
     (ap (λ (x : CoreSpaces). x.functions) c.in_ok-spaces.ensures ∙ (c.in_ok-add_functions.ensures.places ∙ ap (λ (xs : List ℕ). xs ++ range_with_len (length s.functions) (length m.code)) (ap (λ (x : CoreSpaces). x.functions) first ∙ ap (λ (is : List Extern). flat_map functions_of is) imports)))
     (ap (λ (x : CoreSpaces). x.tables) c.in_ok-spaces.ensures ∙ place_list _ _ (flat_map tables_of c.args.imports.now) _ (length s.tables) _ m.tables c.in_ok-add_tables.ensures.places (ap (λ (x : CoreSpaces). x.tables) first ∙ ap (λ (is : List Extern). flat_map tables_of is) imports) (ap (λ (t : State). length t.tables) hf) c.as_slice-3.ensures)
     (ap (λ (x : CoreSpaces). x.memories) c.in_ok-spaces.ensures ∙ place_list _ _ (flat_map memories_of c.args.imports.now) _ (length s.memories) _ m.memories c.in_ok-add_memories.ensures.places (ap (λ (x : CoreSpaces). x.memories) first ∙ ap (λ (is : List Extern). flat_map memories_of is) imports) memories-there c.as_slice-4.ensures)
