@@ -44,7 +44,7 @@ of_module w None h = absurd h
 of_module w (Some (Inside ty i locals body)) h = record { ty = ty; place = i; locals = locals; body = body; is = refl; there = h }
 of_module w (Some (Outside ty number)) h = absurd h
 
-get_within : (xs : List CoreSpaces) (i : ℕ) → i < length xs → (x : CoreSpaces) × (slice_get xs i ≡ Some x)
+pub get_within : {X : Type 0} (xs : List X) (i : ℕ) → i < length xs → (x : X) × (slice_get xs i ≡ Some x)
 get_within [] i lt = absurd (omega arith)
 get_within (x ∷ xs) zero lt = (x, refl)
 get_within (x ∷ xs) (suc i) lt = get_within xs i (omega arith)

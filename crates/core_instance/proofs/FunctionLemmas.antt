@@ -1,6 +1,7 @@
 -- The functions of a module's bodies, one after the other.
-use Rattle.std.proofs.Common.{◌≡◌, ℕ, suc, ◌+◌, ◌<◌, List, [], ◌∷◌, ◌++◌, length, take, get_or, refl, sym, ap, append_assoc, ◌∙◌, arith}
+use Rattle.std.proofs.Common.{◌≡◌, ℕ, zero, suc, Some, ◌+◌, ◌<◌, List, [], ◌∷◌, ◌++◌, length, take, get_or, refl, sym, ap, append_assoc, ◌∙◌, arith}
 use Rattle.std.proofs.lemmas.List.{length-append, length-take-le, take_more}
+use Rattle.std.specs.Prelude.{slice_get}
 use Rattle.wasm_ast.specs.declared.module.Body.{Body}
 use Rattle.wasm_ast.specs.declared.module.Module.{Module}
 use Rattle.core_store.specs.declared.value.StoreFunc.{StoreFunc}
@@ -10,7 +11,7 @@ use Rattle.core_body.specs.Locals.{spread}
 use Rattle.core_validate.specs.Items.{body_type}
 use Rattle.core_instance.specs.Instantiation.{functions_from}
 
-abbrev function_at : Module → ℕ → ℕ → Body → StoreFunc
+abbrev pub function_at : Module → ℕ → ℕ → Body → StoreFunc
 function_at m instance at b = Inside (body_type m at) instance (spread b.locals) b.code
 
 functions_next : (m : Module) (instance at : ℕ) (bs : List Body) (b : Body) → functions_from m instance at (bs ++ b ∷ []) ≡ functions_from m instance at bs ++ function_at m instance (at + length bs) b ∷ []
@@ -19,7 +20,7 @@ functions_next m instance at (x ∷ bs) b =
     let far : (at + 1) + length bs ≡ at + length (x ∷ bs) = omega arith in
     ap (λ (fs : List StoreFunc). function_at m instance at x ∷ fs) (functions_next m instance (at + 1) bs b ∙ ap (λ (k : ℕ). functions_from m instance (at + 1) bs ++ function_at m instance k b ∷ []) far)
 
-length-functions_from : (m : Module) (instance at : ℕ) (bs : List Body) → length (functions_from m instance at bs) ≡ length bs
+pub length-functions_from : (m : Module) (instance at : ℕ) (bs : List Body) → length (functions_from m instance at bs) ≡ length bs
 length-functions_from m instance at [] = refl
 length-functions_from m instance at (b ∷ bs) = ap suc (length-functions_from m instance (at + 1) bs)
 
@@ -43,3 +44,12 @@ functions_more m instance i s t u b f less is made e h =
     ∙ (sym (functions_next m instance 0 (take i m.code) b) ∙ ap (functions_from m instance 0) (sym one)) in
     h ∙ (ap (λ (x : State). record x { functions = x.functions ++ f ∷ [] }) e
     ∙ ap (λ (fs : List StoreFunc). record s { functions = fs }) (append_assoc s.functions before (f ∷ []) ∙ ap (λ (fs : List StoreFunc). s.functions ++ fs) next))
+
+-- the function of a body
+pub function_from : (m : Module) (instance at : ℕ) (bs : List Body) (i k : ℕ) (b : Body) → slice_get bs i ≡ Some b → k ≡ at + i → slice_get (functions_from m instance at bs) i ≡ Some (function_at m instance k b)
+function_from m instance at [] i k b e h = absurd (cc)
+function_from m instance at (x ∷ bs) zero k b e h =
+    let same : x ≡ b = cc in
+    let here : at ≡ k = omega (arith, h) in
+    ap Some (ap (λ (y : Body). function_at m instance at y) same ∙ ap (λ n. function_at m instance n b) here)
+function_from m instance at (x ∷ bs) (suc i) k b e h = function_from m instance (at + 1) bs i k b e (omega (arith, h))

@@ -9,3 +9,8 @@ pub mod AllocateLemmas
 pub mod LoopLemmas
 pub mod WholeLemmas
 pub mod RunLemmas
+pub mod SceneLemmas
+pub mod MatchLemmas
+pub mod SuitLemmas
+pub mod FineLemmas
+pub mod CountLemmas

@@ -87,6 +87,12 @@ memories_there s imports count h =
     (All-flat (λ at. at < length s.memories + count) memories_of imports (All-kept (IsThere s) _ imports (memory_there s (length s.memories + count) (omega arith)) h))
     (All-range (length s.memories) count (length s.memories + count) (omega arith))
 
+pub all_globals_there : (s : State) (imports : List Extern) (count : ℕ) → All (IsThere s) imports → All (λ at. at < length s.globals + count) (flat_map globals_of imports ++ range_with_len (length s.globals) count)
+all_globals_there s imports count h =
+    All-append (λ at. at < length s.globals + count) (flat_map globals_of imports) (range_with_len (length s.globals) count)
+    (All-kept (λ at. at < length s.globals) (λ at. at < length s.globals + count) (flat_map globals_of imports) (λ x less. omega (arith, less)) (globals_there s imports h))
+    (All-range (length s.globals) count (length s.globals + count) (omega arith))
+
 -- ---- values
 
 value_kept : (few most : ℕ) → few ≤ most → (v : CoreValue) → IsStoreValue few v → IsStoreValue most v

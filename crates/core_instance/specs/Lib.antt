@@ -1,3 +1,4 @@
 pub mod Spaces
 pub mod Constants
 pub mod Instantiation
+pub mod Matching

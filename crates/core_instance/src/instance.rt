@@ -3,6 +3,7 @@ ghost use Rattle.std.specs.List.{All};
 ghost use Rattle.core_validate.specs.Validity.{IsValidModule};
 ghost use Rattle.core_instance.specs.Spaces.{IsThere, places_of};
 ghost use Rattle.core_instance.specs.Instantiation.{Answers, IsClosed, allocated, names_of};
+ghost use Rattle.core_instance.specs.Matching.{StaysFine};
 
 use crate::allocate::{
     add_functions, add_globals, add_memories, add_references, add_segments, add_tables,
@@ -96,7 +97,8 @@ pub fn instantiate(
 ) -> Result<CoreInstance, StoreFault>
     requires valid { IsValidModule module.now }
     requires imports { All (IsThere store.old) imports.now }
-    ensures { Answers store.old module.now imports.now store.new result }
+    ensures answers { Answers store.old module.now imports.now store.new result }
+    ensures fine { StaysFine store.old module.now imports.now store.new result }
 {
     let number = instances(store);
     let Allocated { places, names } = allocate(alloc, store, module, imports)?;

@@ -6,11 +6,13 @@ mod constants;
 mod copies;
 mod external;
 mod instance;
+mod laws;
 mod places;
 mod segments;
 
 pub use external::{CoreInstance, Extern, Externs, NamedExtern, NamedExterns};
 pub use instance::instantiate;
+pub use laws::spelled_modules_have_counts;
 
 #[cfg(test)]
 mod tests;

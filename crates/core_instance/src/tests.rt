@@ -3,6 +3,7 @@
 
 use crate::external::{CoreInstance, Extern};
 use crate::instance::instantiate;
+use crate::laws::spelled_modules_have_counts;
 use core_read::read_module;
 use core_store::{Store, StoreFault};
 use core_validate::validate;
@@ -82,4 +83,9 @@ fn segments_trap_past_the_end(rt: HostRuntime) -> Result<(), Fail> {
         assert_eq!(rt; traps(rt.alloc(), digits)?, wanted, "{digits}");
     }
     Ok(())
+}
+
+#[test]
+fn laws() {
+    spelled_modules_have_counts();
 }

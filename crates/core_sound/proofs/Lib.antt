@@ -1,4 +1,4 @@
 mod TreeLemmas
 mod NeedLemmas
 mod ShapeLemmas
-mod FineLemmas
+pub mod FineLemmas

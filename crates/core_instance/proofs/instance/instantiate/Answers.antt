@@ -5,6 +5,7 @@ use Rattle.core_store.specs.declared.value.CoreSpaces.{CoreSpaces}
 use Rattle.core_store.specs.State.{State}
 use Rattle.core_instance.specs.Spaces.{named_extern, place_at, places_of}
 use Rattle.core_instance.specs.Instantiation.{apply_segments}
+use Rattle.core_instance.proofs.FineLemmas.{stays_fine, done_fine}
 use Rattle.core_instance.proofs.ValidLemmas.{valid_closes}
 use Rattle.core_instance.proofs.WholeLemmas.{elements_keep, tables_in_store, memories_in_store, segments_in_store, segment_places, elements_due, segments_due, whole, stopped, answers_err, answers_as, instance_is}
 use Rattle.core_instance.proofs.instance.instantiate.Goals as goal
@@ -16,8 +17,8 @@ pub apply_elements-requires-clause-tables : goal.apply_elements-requires-clause-
 apply_elements-requires-clause-tables c =
     tables_in_store c.args.store.now c.args.«module».now c.args.imports.now c.in_ok-places.field-0.places c.allocate.new.store c.requires.imports c.in_ok-places.ensures.places c.in_ok-places.ensures.store
 
-pub returns-in_err-apply_elements : goal.returns-in_err-apply_elements
-returns-in_err-apply_elements c =
+pub returns-in_err-apply_elements-clause-answers : goal.returns-in_err-apply_elements-clause-answers
+returns-in_err-apply_elements-clause-answers c =
     let s = c.args.store.now in
     let m = c.args.«module».now in
     let imports = c.args.imports.now in
@@ -39,8 +40,8 @@ apply_segments-requires-clause-memories c =
     let kept = (elements_keep c.in_ok-places.field-0.places c.in_ok-places.field-0.names c.allocate.new.store c.apply_elements.new.store (length c.allocate.new.store.elements - length c.as_slice-2.result.now) c.as_slice-2.result.now c.in_ok-apply_elements.ensures).1 ∙ ap (λ (x : State). x.memories) c.in_ok-places.ensures.store in
     memories_in_store c.args.store.now c.args.«module».now c.args.imports.now c.in_ok-places.field-0.places c.apply_elements.new.store c.requires.imports c.in_ok-places.ensures.places kept
 
-pub returns-in_err-apply_segments : goal.returns-in_err-apply_segments
-returns-in_err-apply_segments c =
+pub returns-in_err-apply_segments-clause-answers : goal.returns-in_err-apply_segments-clause-answers
+returns-in_err-apply_segments-clause-answers c =
     let s = c.args.store.now in
     let m = c.args.«module».now in
     let imports = c.args.imports.now in
@@ -49,8 +50,8 @@ returns-in_err-apply_segments c =
     answers_as s m imports (apply_segments c.in_ok-places.field-0.places c.in_ok-places.field-0.names c.apply_elements.new.store (length c.apply_elements.new.store.segments - length c.as_slice-3.result.now) c.as_slice-3.result.now) c.apply_segments.new.store c.from_residual-in_err-apply_segments.result c.in_err-apply_segments.field-0.0 (search (rules, c.from_residual-in_err-apply_segments.ensures)) c.in_err-apply_segments.ensures
     (λ e. whole s m imports c.apply_elements.new.store (Err c.apply_segments.new.store) first (segments_due s m imports c.in_ok-places.field-0.places c.in_ok-places.field-0.names c.apply_elements.new.store c.as_slice-3.result.now (Err c.apply_segments.new.store) c.in_ok-places.ensures.places c.in_ok-places.ensures.names kept c.as_slice-3.ensures e))
 
-pub returns : goal.returns
-returns c =
+pub returns-clause-answers : goal.returns-clause-answers
+returns-clause-answers c =
     let s = c.args.store.now in
     let m = c.args.«module».now in
     let imports = c.args.imports.now in
@@ -60,3 +61,12 @@ returns c =
     let exports = c.in_ok-exports.ensures ∙ (ap (λ (v : CoreSpaces). map (named_extern v) c.as_slice.result.now) c.in_ok-places.ensures.places ∙ ap (λ (es : List Export). map (named_extern (places_of s m imports)) es) c.as_slice.ensures) in
     let start = c.start_of-start.ensures ∙ ap (λ (v : CoreSpaces). option_map (λ n. place_at v.functions n) m.start) c.in_ok-places.ensures.places in
     (whole s m imports c.apply_elements.new.store (Ok c.apply_segments.new.store) first last, instance_is c.instances-number.result _ c.in_ok-exports.exports _ c.start_of-start.result _ c.instances-number.ensures exports start)
+
+pub returns-in_err-apply_elements-clause-fine : goal.returns-in_err-apply_elements-clause-fine
+returns-in_err-apply_elements-clause-fine c = stays_fine _ _ _ _ _ c.requires.valid c.requires.imports (returns-in_err-apply_elements-clause-answers c)
+
+pub returns-in_err-apply_segments-clause-fine : goal.returns-in_err-apply_segments-clause-fine
+returns-in_err-apply_segments-clause-fine c = stays_fine _ _ _ _ _ c.requires.valid c.requires.imports (returns-in_err-apply_segments-clause-answers c)
+
+pub returns-clause-fine : goal.returns-clause-fine
+returns-clause-fine c = done_fine c.args.store.now c.args.«module».now c.args.imports.now c.apply_segments.new.store c.requires.valid c.requires.imports (returns-clause-answers c).0
