@@ -6,6 +6,8 @@ mod names;
 mod networks;
 mod parts;
 mod paths;
+#[cfg(test)]
+mod tests;
 
 pub use hex::hex_bytes;
 pub use names::is_path;

@@ -11,6 +11,8 @@ mod net;
 mod policy;
 mod reader;
 mod stdio;
+#[cfg(test)]
+mod tests;
 mod top;
 mod tree;
 mod values;
