@@ -6,7 +6,7 @@ use virt_base::NoMemory;
 use wasm_ast::{Alias, CoreSort, OuterSort, Sort};
 use wasm_format::{Names, U32, Writer, put_byte};
 
-/// AliasWriter of sort 00: what a core instance exports, and outer core modules.
+/// Aliases of sort 00: what a core instance exports, and outer core modules.
 #[derive(Clone, Copy)]
 struct CoreAliasWriter;
 
@@ -45,7 +45,7 @@ impl Writer for CoreAliasWriter {
     }
 }
 
-/// AliasWriter.
+/// Aliases.
 #[derive(Clone, Copy)]
 pub struct AliasWriter;
 

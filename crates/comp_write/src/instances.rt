@@ -60,7 +60,7 @@ impl Writer for InlineExportWriter {
     }
 }
 
-/// InstanceWriter.
+/// Instances.
 #[derive(Clone, Copy)]
 pub struct InstanceWriter;
 

@@ -6,7 +6,6 @@ mod constant;
 #[cfg(test)]
 mod constant_tests;
 mod engine;
-mod item_writers;
 mod line;
 mod output;
 mod plan;

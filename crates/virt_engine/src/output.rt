@@ -3,7 +3,7 @@ ghost use Rattle.wasm_format.specs.Format.{sized, vec};
 ghost use Rattle.virt_engine.specs.Constant.{section};
 ghost use Rattle.virt_engine.specs.Output.{preamble, front_of, back_bytes, one_instance, one_alias, one_export};
 
-use crate::item_writers::{Aliases, ComponentExports, Instances};
+use comp_write::{AliasWriter, ExportWriter, InstanceWriter};
 use std::alloc::Global;
 use virt_base::{Items, NoMemory, Text, write_u32};
 use wasm_ast::{Alias, ComponentExport, Instance, Sort};
@@ -101,9 +101,15 @@ fn back(alloc: Global) -> Result<Vec<u8>, NoMemory>
     ensures { IfOk result (λ bytes. bytes.items ≡ back_bytes) }
 {
     let mut out = Vec::new(alloc);
-    put_section(alloc, &mut out, INSTANCES, Instances, &instances(alloc)?)?;
-    put_section(alloc, &mut out, ALIASES, Aliases, &aliases(alloc)?)?;
-    put_section(alloc, &mut out, EXPORTS, ComponentExports, &exports(alloc)?)?;
+    put_section(
+        alloc,
+        &mut out,
+        INSTANCES,
+        InstanceWriter,
+        &instances(alloc)?,
+    )?;
+    put_section(alloc, &mut out, ALIASES, AliasWriter, &aliases(alloc)?)?;
+    put_section(alloc, &mut out, EXPORTS, ExportWriter, &exports(alloc)?)?;
     Ok(out)
 }
 
