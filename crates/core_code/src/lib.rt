@@ -3,6 +3,8 @@
 
 mod brackets;
 mod code;
+#[cfg(test)]
+mod tests;
 
 pub use brackets::Jump;
 pub use code::Code;
