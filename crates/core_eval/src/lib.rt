@@ -3,16 +3,17 @@
 
 mod laws;
 
-pub use laws::{calls_are_bodies, fine_stores_grow, turns_are_bodies};
+pub use laws::{calls_are_bodies, fine_stores_grow, stores_begin_fine, turns_are_bodies};
 
 #[cfg(test)]
 mod tests {
-    use super::{calls_are_bodies, fine_stores_grow, turns_are_bodies};
+    use super::{calls_are_bodies, fine_stores_grow, stores_begin_fine, turns_are_bodies};
 
     #[test]
     fn laws() {
         turns_are_bodies();
         calls_are_bodies();
         fine_stores_grow();
+        stores_begin_fine();
     }
 }
