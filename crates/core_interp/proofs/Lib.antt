@@ -14,3 +14,4 @@ pub mod Extending
 pub mod Asking
 pub mod Pauses
 pub mod Beginning
+pub mod AtHand

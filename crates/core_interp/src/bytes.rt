@@ -1,10 +1,10 @@
 //! Instructions on many bytes of a memory, and on data segments.
 
-ghost use Rattle.std.specs.Prelude.{◌≡◌, ◌≤◌, ◌<◌, IfOk, length, slice_get};
+ghost use Rattle.std.specs.Prelude.{◌≡◌, ◌≤◌, ◌<◌, IfOk, length};
 ghost use Rattle.core_memory.specs.Replaced.{repeated};
 ghost use Rattle.core_store.specs.State.{memory_at, segment_at};
 ghost use Rattle.core_eval.specs.Effects.{put_bytes, move_bytes};
-ghost use Rattle.core_eval.specs.Scene.{scene_of, spaces_at, IsInside};
+ghost use Rattle.core_eval.specs.Scene.{scene_of};
 ghost use Rattle.core_interp.specs.Groups.{IsOnBytes};
 ghost use Rattle.core_eval.specs.Fine.{takes, Names};
 ghost use Rattle.core_interp.specs.Plains.{Did, Made};
@@ -12,7 +12,7 @@ ghost use Rattle.core_interp.specs.Plains.{Did, Made};
 use crate::fetch::{memory_place, segment_place};
 use crate::operands::low;
 use core_slots::Slots;
-use core_store::{Store, StoreFault, copy, drop_segment, fill, init};
+use core_store::{CoreSpaces, Store, StoreFault, copy, drop_segment, fill, init};
 use virt_base::NoMemory;
 use wasm_ast::Op;
 
@@ -77,36 +77,40 @@ fn init_bytes(
 
 /// Does an instruction on many bytes, or answers that it traps.
 #[tactic(auto, using(crate::proofs::Changes::stays_segments))]
-pub fn on_bytes(slots: &mut Slots, store: &mut Store, place: u32, op: Op) -> Result<bool, NoMemory>
+pub fn on_bytes(
+    slots: &mut Slots,
+    store: &mut Store,
+    spaces: &CoreSpaces,
+    op: Op,
+) -> Result<bool, NoMemory>
     requires group { IsOnBytes op }
     requires operands { takes op ≤ length slots.old.operands }
-    requires names { Names (scene_of store.old) (spaces_at (scene_of store.old) place) (length slots.old.locals) op }
-    requires inside { IsInside (scene_of store.old) (slice_get store.old.functions place) }
-    ensures did { IfOk result (λ went. Did op (spaces_at (scene_of store.old) place) slots.old store.old slots.new store.new went) }
+    requires names { Names (scene_of store.old) spaces.now (length slots.old.locals) op }
+    ensures did { IfOk result (λ went. Did op spaces.now slots.old store.old slots.new store.new went) }
 {
     match op {
         Op::MemoryInit(index) => {
-            let memory = memory_place(store, place);
-            let segment = segment_place(store, place, index);
+            let memory = memory_place(store, spaces);
+            let segment = segment_place(store, spaces, index);
             let len = low(slots.pop());
             let from = low(slots.pop());
             let to = low(slots.pop());
             init_bytes(store, memory, to, segment, from, len)
         }
         Op::DataDrop(index) => {
-            let segment = segment_place(store, place, index);
+            let segment = segment_place(store, spaces, index);
             drop_segment(store, segment);
             Ok(true)
         }
         Op::MemoryCopy => {
-            let memory = memory_place(store, place);
+            let memory = memory_place(store, spaces);
             let len = low(slots.pop());
             let from = low(slots.pop());
             let to = low(slots.pop());
             copy_bytes(store, memory, to, from, len)
         }
         Op::MemoryFill => {
-            let memory = memory_place(store, place);
+            let memory = memory_place(store, spaces);
             let len = low(slots.pop());
             let value = (slots.pop() % 256) as u8;
             let at = low(slots.pop());

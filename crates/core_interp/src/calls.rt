@@ -1,16 +1,16 @@
 //! Calls.
 
 ghost use Rattle.std.specs.Prelude.{◌≡◌, ◌+◌, ◌≤◌, IfOk, length};
-ghost use Rattle.core_eval.specs.Scene.{scene_of};
+ghost use Rattle.core_eval.specs.Scene.{scene_of, spaces_at};
 ghost use Rattle.core_eval.specs.Fine.{IsFine};
 ghost use Rattle.core_interp.specs.Run.{IsBefore, Leads, Enters, entry, steps};
 ghost use Rattle.core_eval.specs.Eval.{same_type as are_same, same_types as all_same, same_func as is_same, type_of as type_of_function};
 
 use crate::control::{Control, Flow};
-use crate::fetch::{function_place, spaces_at, table_place, type_at};
+use crate::fetch::{function_place, table_place, type_at};
 use crate::operands::low;
 use crate::running::Running;
-use core_store::{CoreRef, Store, StoreFunc, function, table_get};
+use core_store::{CoreRef, CoreSpaces, Store, StoreFunc, function, table_get};
 use virt_base::{CoreType, NoMemory};
 use wasm_ast::{CoreFunc, Instr};
 
@@ -30,6 +30,7 @@ impl Running {
                 locals,
                 body: _,
             } => {
+                let ty = ty.get();
                 let params = ty.params.len();
                 let results = ty.results.len();
                 let count = locals.len();
@@ -57,14 +58,20 @@ impl Running {
     }
 
     /// A call of the function at an index.
-    pub fn call(&mut self, store: &mut Store, index: u32) -> Result<Flow, NoMemory>
+    pub fn call(
+        &mut self,
+        spaces: &CoreSpaces,
+        store: &mut Store,
+        index: u32,
+    ) -> Result<Flow, NoMemory>
         requires before { IsBefore (Instr.Call index) self.old store.old }
+        requires spaces { spaces.now ≡ spaces_at (scene_of store.old) self.old.function }
         requires fine { IsFine (scene_of store.old) }
         ensures leads { IfOk result (λ flow. Leads (steps self.old store.old) flow self.new store.new) }
         ensures scene { IfOk result (λ _. scene_of store.old ≡ scene_of store.new) }
         ensures grows { IfOk result (λ _. length self.new.controls.items ≤ length self.old.controls.items + 1) }
     {
-        let callee = function_place(store, self.function, index);
+        let callee = function_place(store, spaces, index);
         let flow = self.enter(store, callee)?;
         Ok(flow)
     }
@@ -72,21 +79,23 @@ impl Running {
     /// A call of a function that a table holds, which traps past the table's end, at a null and at another type.
     pub fn call_indirect(
         &mut self,
+        spaces: &CoreSpaces,
         store: &mut Store,
         ty: u32,
         table: u32,
     ) -> Result<Flow, NoMemory>
         requires before { IsBefore (Instr.CallIndirect ty table) self.old store.old }
+        requires spaces { spaces.now ≡ spaces_at (scene_of store.old) self.old.function }
         requires fine { IsFine (scene_of store.old) }
         ensures leads { IfOk result (λ flow. Leads (steps self.old store.old) flow self.new store.new) }
         ensures scene { IfOk result (λ _. scene_of store.old ≡ scene_of store.new) }
         ensures grows { IfOk result (λ _. length self.new.controls.items ≤ length self.old.controls.items + 1) }
     {
-        let table = table_place(store, self.function, table);
+        let table = table_place(store, spaces, table);
         let at = low(self.slots.pop());
         match table_get(store, table, at) {
             Ok(CoreRef::Func(callee)) => {
-                let due = type_at(spaces_at(store, self.function), ty);
+                let due = type_at(spaces, ty);
                 if !same_func(due, type_of(function(store, callee))) {
                     return Ok(Flow::Failed);
                 }
@@ -109,8 +118,8 @@ pub fn type_of(function: &StoreFunc) -> &CoreFunc
             instance: _,
             locals: _,
             body: _,
-        } => ty,
-        StoreFunc::Outside { ty, number: _ } => ty,
+        } => ty.get(),
+        StoreFunc::Outside { ty, number: _ } => ty.get(),
     }
 }
 

@@ -5,7 +5,7 @@ ghost use Rattle.wasm_ast.specs.declared.module.CoreFunc.{CoreFunc};
 ghost use Rattle.core_store.specs.declared.value.StoreFunc.TheVariants.{Outside};
 
 use crate::{CoreValues, Machine, Pause};
-use core_store::{CoreValue, Store, StoreFunc, add_function};
+use core_store::{CoreValue, Shared, Store, StoreFunc, add_function};
 use std::alloc::Global;
 use std::test::Fail;
 use virt_base::{CoreType, Items, NoMemory};
@@ -19,7 +19,7 @@ fn embedders(alloc: Global) -> Result<Store, NoMemory>
     let results = Items::new(vec![in alloc; CoreType::I32]?);
     let mut store = Store::new(alloc);
     let function = StoreFunc::Outside {
-        ty: CoreFunc { params, results },
+        ty: Shared::new(alloc, CoreFunc { params, results })?,
         number: 9,
     };
     let _ = add_function(alloc, &mut store, function)?;

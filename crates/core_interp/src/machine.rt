@@ -144,6 +144,7 @@ impl Machine {
                 locals,
                 body: _,
             } => {
+                let ty = ty.get();
                 let params = ty.params.len();
                 let results = ty.results.len();
                 let count = locals.len();
@@ -228,6 +229,7 @@ impl Machine {
     {
         match function(store, callee) {
             StoreFunc::Outside { ty, number } => {
+                let ty = ty.get();
                 let operands = self.running.slots.operands();
                 let from = operands.len() - ty.params.len();
                 let args = values(

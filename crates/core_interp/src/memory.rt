@@ -1,11 +1,11 @@
 //! Loads and stores, and the size of a memory.
 
-ghost use Rattle.std.specs.Prelude.{◌≡◌, ◌≤◌, ◌<◌, ◌^◌, IfOk, length, slice_get};
+ghost use Rattle.std.specs.Prelude.{◌≡◌, ◌≤◌, ◌<◌, ◌^◌, IfOk, length};
 ghost use Rattle.core_memory.specs.Number.{IsWidth, bytes_of};
 ghost use Rattle.core_eval.specs.Plain.{load_bytes, store_bytes, extended as extended_by};
 ghost use Rattle.core_integer.specs.Integer.{converted as converted_by};
 ghost use Rattle.core_eval.specs.Effects.{put_bytes, grown_size, grow_memory};
-ghost use Rattle.core_eval.specs.Scene.{scene_of, spaces_at, IsInside};
+ghost use Rattle.core_eval.specs.Scene.{scene_of};
 ghost use Rattle.core_interp.specs.Groups.{IsOnMemory};
 ghost use Rattle.core_eval.specs.Fine.{takes, Names};
 ghost use Rattle.core_interp.specs.Plains.{Did, Made, Stays, word_of_answer};
@@ -14,7 +14,7 @@ use crate::fetch::memory_place;
 use crate::operands::low;
 use core_integer::integer;
 use core_slots::Slots;
-use core_store::{Store, StoreFault, grow, load, size, store_at};
+use core_store::{CoreSpaces, Store, StoreFault, grow, load, size, store_at};
 use std::alloc::Global;
 use virt_base::NoMemory;
 use wasm_ast::{LoadOp, Op, StoreOp};
@@ -124,18 +124,17 @@ pub fn on_memory(
     alloc: Global,
     slots: &mut Slots,
     store: &mut Store,
-    place: u32,
+    spaces: &CoreSpaces,
     op: Op,
 ) -> Result<bool, NoMemory>
     requires group { IsOnMemory op }
     requires operands { takes op ≤ length slots.old.operands }
-    requires names { Names (scene_of store.old) (spaces_at (scene_of store.old) place) (length slots.old.locals) op }
-    requires inside { IsInside (scene_of store.old) (slice_get store.old.functions place) }
-    ensures did { IfOk result (λ went. Did op (spaces_at (scene_of store.old) place) slots.old store.old slots.new store.new went) }
+    requires names { Names (scene_of store.old) spaces.now (length slots.old.locals) op }
+    ensures did { IfOk result (λ went. Did op spaces.now slots.old store.old slots.new store.new went) }
 {
     match op {
         Op::Load(op, at) => {
-            let memory = memory_place(store, place);
+            let memory = memory_place(store, spaces);
             let base = low(slots.pop());
             match load(
                 store,
@@ -151,7 +150,7 @@ pub fn on_memory(
             }
         }
         Op::Store(op, at) => {
-            let memory = memory_place(store, place);
+            let memory = memory_place(store, spaces);
             let value = slots.pop();
             let base = low(slots.pop());
             put(
@@ -163,12 +162,12 @@ pub fn on_memory(
             )
         }
         Op::MemorySize => {
-            let memory = memory_place(store, place);
+            let memory = memory_place(store, spaces);
             slots.push(size(store, memory) as u64)?;
             Ok(true)
         }
         Op::MemoryGrow => {
-            let memory = memory_place(store, place);
+            let memory = memory_place(store, spaces);
             let pages = low(slots.pop());
             let answer = grow_by(alloc, store, memory, pages)?;
             slots.push(answer)?;

@@ -1,12 +1,12 @@
 //! Instructions on operands alone.
 
-ghost use Rattle.std.specs.Prelude.{◌≡◌, ◌≤◌, IfOk, length, slice_get};
+ghost use Rattle.std.specs.Prelude.{◌≡◌, ◌≤◌, IfOk, length};
 ghost use Rattle.core_integer.specs.Integer.{IsOperand};
 ghost use Rattle.core_store.specs.declared.value.CoreSpaces.{CoreSpaces};
 ghost use Rattle.core_store.specs.State.{State};
 ghost use Rattle.core_eval.specs.Plain.{operand_in};
 ghost use Rattle.core_eval.specs.Words.{i32_in};
-ghost use Rattle.core_eval.specs.Scene.{scene_of, spaces_at, IsInside};
+ghost use Rattle.core_eval.specs.Scene.{scene_of};
 ghost use Rattle.core_interp.specs.Groups.{IsOnOperands};
 ghost use Rattle.core_eval.specs.Fine.{takes, Names};
 ghost use Rattle.core_interp.specs.Plains.{Did, Puts};
@@ -14,7 +14,7 @@ ghost use Rattle.core_interp.specs.Plains.{Did, Puts};
 use crate::fetch::function_place;
 use core_integer::integer;
 use core_slots::Slots;
-use core_store::Store;
+use core_store::{CoreSpaces, Store};
 use virt_base::{CoreType, NoMemory, Trap};
 use wasm_ast::{NumericOp, Op, numeric_of};
 
@@ -80,14 +80,13 @@ fn put(slots: &mut Slots, outcome: Result<u64, Trap>) -> Result<bool, NoMemory>
 pub fn on_operands(
     slots: &mut Slots,
     store: &mut Store,
-    place: u32,
+    spaces: &CoreSpaces,
     op: Op,
 ) -> Result<bool, NoMemory>
     requires group { IsOnOperands op }
     requires operands { takes op ≤ length slots.old.operands }
-    requires names { Names (scene_of store.old) (spaces_at (scene_of store.old) place) (length slots.old.locals) op }
-    requires inside { IsInside (scene_of store.old) (slice_get store.old.functions place) }
-    ensures did { IfOk result (λ went. Did op (spaces_at (scene_of store.old) place) slots.old store.old slots.new store.new went) }
+    requires names { Names (scene_of store.old) spaces.now (length slots.old.locals) op }
+    ensures did { IfOk result (λ went. Did op spaces.now slots.old store.old slots.new store.new went) }
 {
     match op {
         Op::Nop => Ok(true),
@@ -117,7 +116,7 @@ pub fn on_operands(
             Ok(true)
         }
         Op::RefFunc(index) => {
-            let at = function_place(store, place, index);
+            let at = function_place(store, spaces, index);
             slots.push(at as u64 + 1)?;
             Ok(true)
         }

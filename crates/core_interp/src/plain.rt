@@ -1,7 +1,7 @@
 //! The instructions that go on to the next.
 
-ghost use Rattle.std.specs.Prelude.{◌≡◌, ◌≤◌, IfOk, length, slice_get};
-ghost use Rattle.core_eval.specs.Scene.{scene_of, spaces_at, IsInside};
+ghost use Rattle.std.specs.Prelude.{◌≡◌, ◌≤◌, IfOk, length};
+ghost use Rattle.core_eval.specs.Scene.{scene_of};
 ghost use Rattle.core_eval.specs.Fine.{takes, Names};
 ghost use Rattle.core_interp.specs.Plains.{Did};
 
@@ -12,7 +12,7 @@ use crate::refs::on_refs;
 use crate::tables::on_table;
 use crate::variables::on_variable;
 use core_slots::Slots;
-use core_store::Store;
+use core_store::{CoreSpaces, Store};
 use std::alloc::Global;
 use virt_base::NoMemory;
 use wasm_ast::Op;
@@ -23,17 +23,16 @@ pub fn operate(
     alloc: Global,
     slots: &mut Slots,
     store: &mut Store,
-    place: u32,
+    spaces: &CoreSpaces,
     op: Op,
 ) -> Result<bool, NoMemory>
     requires operands { takes op ≤ length slots.old.operands }
-    requires names { Names (scene_of store.old) (spaces_at (scene_of store.old) place) (length slots.old.locals) op }
-    requires inside { IsInside (scene_of store.old) (slice_get store.old.functions place) }
-    ensures did { IfOk result (λ went. Did op (spaces_at (scene_of store.old) place) slots.old store.old slots.new store.new went) }
+    requires names { Names (scene_of store.old) spaces.now (length slots.old.locals) op }
+    ensures did { IfOk result (λ went. Did op spaces.now slots.old store.old slots.new store.new went) }
 {
     match op {
         Op::LocalGet(_) | Op::LocalSet(_) | Op::LocalTee(_) | Op::GlobalGet(_) | Op::GlobalSet(_) =>
-            on_variable(slots, store, place, op),
+            on_variable(slots, store, spaces, op),
         Op::Nop
         | Op::Drop
         | Op::Select
@@ -41,15 +40,15 @@ pub fn operate(
         | Op::Numeric(_)
         | Op::RefNull(_)
         | Op::RefIsNull
-        | Op::RefFunc(_) => on_operands(slots, store, place, op),
+        | Op::RefFunc(_) => on_operands(slots, store, spaces, op),
         Op::Load(_, _) | Op::Store(_, _) | Op::MemorySize | Op::MemoryGrow => {
-            on_memory(alloc, slots, store, place, op)
+            on_memory(alloc, slots, store, spaces, op)
         }
         Op::MemoryInit(_) | Op::DataDrop(_) | Op::MemoryCopy | Op::MemoryFill => {
-            on_bytes(slots, store, place, op)
+            on_bytes(slots, store, spaces, op)
         }
         Op::TableGet(_) | Op::TableSet(_) | Op::TableGrow(_) | Op::TableSize(_) => {
-            on_table(alloc, slots, store, place, op)
+            on_table(alloc, slots, store, spaces, op)
         }
         Op::TableInit {
             segment: _,
@@ -57,6 +56,6 @@ pub fn operate(
         }
         | Op::ElemDrop(_)
         | Op::TableCopy { to: _, from: _ }
-        | Op::TableFill(_) => on_refs(slots, store, place, op),
+        | Op::TableFill(_) => on_refs(slots, store, spaces, op),
     }
 }

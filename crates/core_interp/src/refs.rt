@@ -1,9 +1,9 @@
 //! Instructions on many references of a table, and on element segments.
 
-ghost use Rattle.std.specs.Prelude.{◌≡◌, ◌≤◌, ◌<◌, IfOk, length, slice_get};
+ghost use Rattle.std.specs.Prelude.{◌≡◌, ◌≤◌, ◌<◌, IfOk, length};
 ghost use Rattle.core_store.specs.State.{IsStoreRef, table_at, elements_at};
 ghost use Rattle.core_eval.specs.Effects.{fill_refs, move_refs};
-ghost use Rattle.core_eval.specs.Scene.{scene_of, spaces_at, IsInside};
+ghost use Rattle.core_eval.specs.Scene.{scene_of};
 ghost use Rattle.core_interp.specs.Groups.{IsOnRefs};
 ghost use Rattle.core_eval.specs.Fine.{takes, Names};
 ghost use Rattle.core_interp.specs.Plains.{Did, Made};
@@ -12,7 +12,7 @@ use crate::fetch::{element_place, table_place};
 use crate::operands::low;
 use crate::tables::ref_of;
 use core_slots::Slots;
-use core_store::{CoreRef, Store, drop_element, table_copy, table_fill, table_init};
+use core_store::{CoreRef, CoreSpaces, Store, drop_element, table_copy, table_fill, table_init};
 use virt_base::NoMemory;
 use wasm_ast::Op;
 
@@ -48,37 +48,41 @@ fn init(store: &mut Store, table: u32, to: u32, segment: u32, from: u32, len: u3
 
 /// Does an instruction on many references, or answers that it traps.
 #[tactic(auto, using(crate::proofs::Changes::stays_elements))]
-pub fn on_refs(slots: &mut Slots, store: &mut Store, place: u32, op: Op) -> Result<bool, NoMemory>
+pub fn on_refs(
+    slots: &mut Slots,
+    store: &mut Store,
+    spaces: &CoreSpaces,
+    op: Op,
+) -> Result<bool, NoMemory>
     requires group { IsOnRefs op }
     requires operands { takes op ≤ length slots.old.operands }
-    requires names { Names (scene_of store.old) (spaces_at (scene_of store.old) place) (length slots.old.locals) op }
-    requires inside { IsInside (scene_of store.old) (slice_get store.old.functions place) }
-    ensures did { IfOk result (λ went. Did op (spaces_at (scene_of store.old) place) slots.old store.old slots.new store.new went) }
+    requires names { Names (scene_of store.old) spaces.now (length slots.old.locals) op }
+    ensures did { IfOk result (λ went. Did op spaces.now slots.old store.old slots.new store.new went) }
 {
     match op {
         Op::TableInit { segment, table } => {
-            let table = table_place(store, place, table);
-            let segment = element_place(store, place, segment);
+            let table = table_place(store, spaces, table);
+            let segment = element_place(store, spaces, segment);
             let len = low(slots.pop());
             let from = low(slots.pop());
             let to = low(slots.pop());
             Ok(init(store, table, to, segment, from, len))
         }
         Op::ElemDrop(index) => {
-            let segment = element_place(store, place, index);
+            let segment = element_place(store, spaces, index);
             drop_element(store, segment);
             Ok(true)
         }
         Op::TableCopy { to, from } => {
-            let to_table = table_place(store, place, to);
-            let from_table = table_place(store, place, from);
+            let to_table = table_place(store, spaces, to);
+            let from_table = table_place(store, spaces, from);
             let len = low(slots.pop());
             let from = low(slots.pop());
             let to = low(slots.pop());
             Ok(copy(store, to_table, to, from_table, from, len))
         }
         Op::TableFill(index) => {
-            let table = table_place(store, place, index);
+            let table = table_place(store, spaces, index);
             let len = low(slots.pop());
             let value = ref_of(store, slots.pop());
             let at = low(slots.pop());

@@ -3,16 +3,17 @@
 ghost use Rattle.std.specs.Prelude.{◌≡◌, ◌+◌, ◌*◌, ◌<◌, ◌≤◌, Some, IfOk, length, slice_get};
 ghost use Rattle.core_eval.specs.Eval.{target as target_of};
 ghost use Rattle.wasm_ast.specs.declared.instr.Instr.{Instr};
-ghost use Rattle.core_eval.specs.Scene.{scene_of, code_at, IsInside};
+ghost use Rattle.core_eval.specs.Scene.{scene_of, code_at, spaces_at};
 ghost use Rattle.core_eval.specs.Fine.{IsFine};
 ghost use Rattle.core_interp.specs.Run.{IsBefore, IsTable, HasTable, TakesLabel, Leads, Performs, steps, Steps, Ready, goes, ahead, RunLeads, Falls, Stops};
 
 use crate::control::Flow;
-use crate::fetch::{code_len, instr_at, jump_at};
+use crate::fetch::{instr_at, jump_at, scope_at};
 use crate::operands::low;
 use crate::plain::operate;
 use crate::running::Running;
-use core_store::Store;
+use core_code::Code;
+use core_store::{CoreSpaces, Store};
 use std::alloc::Global;
 use virt_base::NoMemory;
 use wasm_ast::{BranchTable, Instr, Op};
@@ -20,13 +21,20 @@ use wasm_ast::{BranchTable, Instr, Op};
 impl Running {
     // An instruction that does as one does that goes on to the next.
     #[inline]
-    fn plain(&mut self, alloc: Global, store: &mut Store, op: Op) -> Result<Flow, NoMemory>
-        requires { (i : Instr) × Performs i op × IsBefore i self.old store.old }
+    fn plain(
+        &mut self,
+        alloc: Global,
+        spaces: &CoreSpaces,
+        store: &mut Store,
+        op: Op,
+    ) -> Result<Flow, NoMemory>
+        requires before { (i : Instr) × Performs i op × IsBefore i self.old store.old }
+        requires spaces { spaces.now ≡ spaces_at (scene_of store.old) self.old.function }
         ensures leads { IfOk result (λ flow. Leads (steps self.old store.old) flow self.new store.new) }
         ensures scene { IfOk result (λ _. scene_of store.old ≡ scene_of store.new) }
         ensures grows { IfOk result (λ _. length self.new.controls.items ≤ length self.old.controls.items + 1) }
     {
-        let went = operate(alloc, &mut self.slots, store, self.function, op)?;
+        let went = operate(alloc, &mut self.slots, store, spaces, op)?;
         if went {
             self.at += 1;
             return Ok(Flow::On);
@@ -72,14 +80,15 @@ impl Running {
         flow
     }
 
-    fn br_table(&mut self, store: &mut Store) -> Flow
-        requires { IsTable self.old store.old }
+    fn br_table(&mut self, code: &Code, store: &mut Store) -> Flow
+        requires table { IsTable self.old store.old }
+        requires code { code.now ≡ code_at (scene_of store.old) self.old.function }
         ensures leads { Leads (steps self.old store.old) result self.new store.new }
         ensures scene { scene_of store.old ≡ scene_of store.new }
         ensures grows { length self.new.controls.items ≤ length self.old.controls.items + 1 }
     {
         let index = low(self.slots.pop());
-        let label = label_at(store, self.function, self.at, index);
+        let label = label_at(code, self.at, index);
         let flow = self.branch(store, label);
         flow
     }
@@ -96,35 +105,43 @@ impl Running {
 
     // An instruction that takes a step.
     #[inline]
-    fn step(&mut self, alloc: Global, store: &mut Store) -> Result<Flow, NoMemory>
+    fn step(
+        &mut self,
+        alloc: Global,
+        code: &Code,
+        spaces: &CoreSpaces,
+        store: &mut Store,
+    ) -> Result<Flow, NoMemory>
         requires steps { Steps self.old store.old }
+        requires code { code.now ≡ code_at (scene_of store.old) self.old.function }
+        requires spaces { spaces.now ≡ spaces_at (scene_of store.old) self.old.function }
         requires fine { IsFine (scene_of store.old) }
         ensures leads { IfOk result (λ flow. Leads (steps self.old store.old) flow self.new store.new) }
         ensures scene { IfOk result (λ _. scene_of store.old ≡ scene_of store.new) }
         ensures grows { IfOk result (λ _. length self.new.controls.items ≤ length self.old.controls.items + 1) }
     {
-        match instr_at(store, self.function, self.at) {
+        match instr_at(code, self.at) {
             Instr::Plain(op) => {
                 let op = *op;
-                self.plain(alloc, store, op)
+                self.plain(alloc, spaces, store, op)
             }
             Instr::I64Const(value) => {
                 let value = *value;
                 self.constant(store, value)
             }
-            Instr::SelectTyped(_) => self.plain(alloc, store, Op::Select),
+            Instr::SelectTyped(_) => self.plain(alloc, spaces, store, Op::Select),
             Instr::Unreachable => Ok(Flow::Failed),
             Instr::Block(ty) => {
                 let ty = *ty;
-                self.block(store, ty)
+                self.block(code, spaces, store, ty)
             }
             Instr::Loop(ty) => {
                 let ty = *ty;
-                self.begin_loop(store, ty)
+                self.begin_loop(spaces, store, ty)
             }
             Instr::If(ty) => {
                 let ty = *ty;
-                self.begin_if(store, ty)
+                self.begin_if(code, spaces, store, ty)
             }
             Instr::Br(label) => {
                 let label = *label;
@@ -134,16 +151,16 @@ impl Running {
                 let label = *label;
                 Ok(self.br_if(store, label))
             }
-            Instr::BrTable(_) => Ok(self.br_table(store)),
+            Instr::BrTable(_) => Ok(self.br_table(code, store)),
             Instr::Return => Ok(self.return_from(store)),
             Instr::Call(index) => {
                 let index = *index;
-                self.call(store, index)
+                self.call(spaces, store, index)
             }
             Instr::CallIndirect { ty, table } => {
                 let ty = *ty;
                 let table = *table;
-                self.call_indirect(store, ty, table)
+                self.call_indirect(spaces, store, ty, table)
             }
             Instr::Else => unreachable!(),
             Instr::End => unreachable!(),
@@ -155,10 +172,14 @@ impl Running {
     fn counted(
         &mut self,
         alloc: Global,
+        code: &Code,
+        spaces: &CoreSpaces,
         store: &mut Store,
         budget: &mut u64,
     ) -> Result<Flow, NoMemory>
         requires steps { Steps self.old store.old }
+        requires code { code.now ≡ code_at (scene_of store.old) self.old.function }
+        requires spaces { spaces.now ≡ spaces_at (scene_of store.old) self.old.function }
         requires fine { IsFine (scene_of store.old) }
         ensures leads { IfOk result (λ flow. RunLeads (ahead (goes self.old store.old) budget.old) budget.new flow self.new store.new) }
         ensures scene { IfOk result (λ _. scene_of store.old ≡ scene_of store.new) }
@@ -168,36 +189,76 @@ impl Running {
             return Ok(Flow::Exhausted);
         }
         *budget -= 1;
-        let flow = self.step(alloc, store)?;
+        let flow = self.step(alloc, code, spaces, store)?;
         Ok(flow)
     }
 
     // One instruction, or the end of a piece.
     #[inline]
-    fn one(&mut self, alloc: Global, store: &mut Store, budget: &mut u64) -> Result<Flow, NoMemory>
+    fn one(
+        &mut self,
+        alloc: Global,
+        code: &Code,
+        spaces: &CoreSpaces,
+        store: &mut Store,
+        budget: &mut u64,
+    ) -> Result<Flow, NoMemory>
         requires ready { Ready self.old store.old }
+        requires code { code.now ≡ code_at (scene_of store.old) self.old.function }
+        requires spaces { spaces.now ≡ spaces_at (scene_of store.old) self.old.function }
         requires fine { IsFine (scene_of store.old) }
         ensures leads { IfOk result (λ flow. RunLeads (ahead (goes self.old store.old) budget.old) budget.new flow self.new store.new) }
         ensures scene { IfOk result (λ _. scene_of store.old ≡ scene_of store.new) }
         ensures falls { IfOk result (λ flow. Falls flow (2 * budget.new + length self.new.controls.items) (2 * budget.old + length self.old.controls.items)) }
     {
-        if self.at >= code_len(store, self.function) {
+        if self.at >= code.len() {
             let next = self.at;
             let flow = self.leave(store, next);
             return Ok(flow);
         }
-        match instr_at(store, self.function, self.at) {
+        match instr_at(code, self.at) {
             Instr::End => {
                 let next = self.at + 1;
                 let flow = self.leave(store, next);
                 Ok(flow)
             }
             Instr::Else => {
-                let next = jump_at(store, self.function, self.at).behind;
+                let next = jump_at(code, self.at).behind;
                 let flow = self.leave(store, next);
                 Ok(flow)
             }
-            _ => self.counted(alloc, store, budget),
+            _ => self.counted(alloc, code, spaces, store, budget),
+        }
+    }
+
+    // Runs while the code of one function is at hand, which the caller holds.
+    fn run_in(
+        &mut self,
+        alloc: Global,
+        code: &Code,
+        spaces: &CoreSpaces,
+        store: &mut Store,
+        budget: &mut u64,
+    ) -> Result<Flow, NoMemory>
+        requires ready { Ready self.old store.old }
+        requires code { code.now ≡ code_at (scene_of store.old) self.old.function }
+        requires spaces { spaces.now ≡ spaces_at (scene_of store.old) self.old.function }
+        requires fine { IsFine (scene_of store.old) }
+        ensures leads { IfOk result (λ flow. RunLeads (ahead (goes self.old store.old) budget.old) budget.new flow self.new store.new) }
+        ensures scene { IfOk result (λ _. scene_of store.old ≡ scene_of store.new) }
+        ensures falls { IfOk result (λ flow. Falls flow (2 * budget.new + length self.new.controls.items) (2 * budget.old + length self.old.controls.items)) }
+    {
+        let function = self.function;
+        let mut left = *budget;
+        loop {
+            let flow = self.one(alloc, code, spaces, store, &mut left)?;
+            match flow {
+                Flow::On if self.function == function => {}
+                flow => {
+                    *budget = left;
+                    return Ok(flow);
+                }
+            }
         }
     }
 
@@ -214,27 +275,23 @@ impl Running {
         ensures scene { IfOk result (λ _. scene_of store.old ≡ scene_of store.new) }
         ensures stops { IfOk result Stops }
     {
-        let mut left = *budget;
         loop {
-            match self.one(alloc, store, &mut left)? {
+            let scope = scope_at(store, self.function)?;
+            match self.run_in(alloc, scope.code.get(), scope.spaces.get(), store, budget)? {
                 Flow::On => {}
-                flow => {
-                    *budget = left;
-                    return Ok(flow);
-                }
+                flow => return Ok(flow),
             }
         }
     }
 }
 
 // The label to which the br_table there leads.
-fn label_at(store: &Store, place: u32, at: usize, index: u32) -> u32
-    requires inside { IsInside (scene_of store.now) (slice_get store.now.functions place) }
-    requires within { at < length (code_at (scene_of store.now) place) }
-    requires table { HasTable (slice_get (code_at (scene_of store.now) place) at) }
-    ensures { TakesLabel (slice_get (code_at (scene_of store.now) place) at) index result }
+fn label_at(code: &Code, at: usize, index: u32) -> u32
+    requires within { at < length code.now }
+    requires table { HasTable (slice_get code.now at) }
+    ensures { TakesLabel (slice_get code.now at) index result }
 {
-    match instr_at(store, place, at) {
+    match instr_at(code, at) {
         Instr::BrTable(table) => target(table, index),
         _ => unreachable!(),
     }

@@ -1,10 +1,10 @@
 //! Instructions on one reference of a table, and on its size.
 
-ghost use Rattle.std.specs.Prelude.{◌≡◌, ◌≤◌, ◌<◌, IfOk, length, slice_get};
+ghost use Rattle.std.specs.Prelude.{◌≡◌, ◌≤◌, ◌<◌, IfOk, length};
 ghost use Rattle.core_store.specs.State.{IsStoreRef};
 ghost use Rattle.core_eval.specs.Words.{ref_in};
 ghost use Rattle.core_eval.specs.Effects.{set_ref, grown_table_size, grow_table};
-ghost use Rattle.core_eval.specs.Scene.{scene_of, spaces_at, IsInside};
+ghost use Rattle.core_eval.specs.Scene.{scene_of};
 ghost use Rattle.core_interp.specs.Groups.{IsOnTable};
 ghost use Rattle.core_eval.specs.Fine.{takes, Names};
 ghost use Rattle.core_interp.specs.Plains.{Did, Made, Stays};
@@ -13,7 +13,9 @@ use crate::fetch::table_place;
 use crate::memory::answer;
 use crate::operands::low;
 use core_slots::{Slots, reference, word_of_ref};
-use core_store::{CoreRef, Store, functions, table_get, table_grow, table_set, table_size};
+use core_store::{
+    CoreRef, CoreSpaces, Store, functions, table_get, table_grow, table_set, table_size,
+};
 use std::alloc::Global;
 use virt_base::NoMemory;
 use wasm_ast::Op;
@@ -61,18 +63,17 @@ pub fn on_table(
     alloc: Global,
     slots: &mut Slots,
     store: &mut Store,
-    place: u32,
+    spaces: &CoreSpaces,
     op: Op,
 ) -> Result<bool, NoMemory>
     requires group { IsOnTable op }
     requires operands { takes op ≤ length slots.old.operands }
-    requires names { Names (scene_of store.old) (spaces_at (scene_of store.old) place) (length slots.old.locals) op }
-    requires inside { IsInside (scene_of store.old) (slice_get store.old.functions place) }
-    ensures did { IfOk result (λ went. Did op (spaces_at (scene_of store.old) place) slots.old store.old slots.new store.new went) }
+    requires names { Names (scene_of store.old) spaces.now (length slots.old.locals) op }
+    ensures did { IfOk result (λ went. Did op spaces.now slots.old store.old slots.new store.new went) }
 {
     match op {
         Op::TableGet(index) => {
-            let table = table_place(store, place, index);
+            let table = table_place(store, spaces, index);
             let at = low(slots.pop());
             match table_get(store, table, at) {
                 Ok(value) => {
@@ -83,13 +84,13 @@ pub fn on_table(
             }
         }
         Op::TableSet(index) => {
-            let table = table_place(store, place, index);
+            let table = table_place(store, spaces, index);
             let value = ref_of(store, slots.pop());
             let at = low(slots.pop());
             Ok(set(store, table, at, value))
         }
         Op::TableGrow(index) => {
-            let table = table_place(store, place, index);
+            let table = table_place(store, spaces, index);
             let by = low(slots.pop());
             let value = ref_of(store, slots.pop());
             let answer = grow_by(alloc, store, table, by, value)?;
@@ -97,7 +98,7 @@ pub fn on_table(
             Ok(true)
         }
         Op::TableSize(index) => {
-            let table = table_place(store, place, index);
+            let table = table_place(store, spaces, index);
             slots.push(table_size(store, table) as u64)?;
             Ok(true)
         }

@@ -1,14 +1,14 @@
 //! Instructions on locals and globals.
 
-ghost use Rattle.std.specs.Prelude.{◌≡◌, ◌≤◌, IfOk, length, slice_get};
-ghost use Rattle.core_eval.specs.Scene.{scene_of, spaces_at, IsInside};
+ghost use Rattle.std.specs.Prelude.{◌≡◌, ◌≤◌, IfOk, length};
+ghost use Rattle.core_eval.specs.Scene.{scene_of};
 ghost use Rattle.core_interp.specs.Groups.{IsOnVariable};
 ghost use Rattle.core_eval.specs.Fine.{takes, Names};
 ghost use Rattle.core_interp.specs.Plains.{Did};
 
 use crate::fetch::global_place;
 use core_slots::{Slots, value_like, word};
-use core_store::{Store, functions, global_get, global_set};
+use core_store::{CoreSpaces, Store, functions, global_get, global_set};
 use virt_base::NoMemory;
 use wasm_ast::Op;
 
@@ -18,14 +18,13 @@ use wasm_ast::Op;
 pub fn on_variable(
     slots: &mut Slots,
     store: &mut Store,
-    place: u32,
+    spaces: &CoreSpaces,
     op: Op,
 ) -> Result<bool, NoMemory>
     requires group { IsOnVariable op }
     requires operands { takes op ≤ length slots.old.operands }
-    requires names { Names (scene_of store.old) (spaces_at (scene_of store.old) place) (length slots.old.locals) op }
-    requires inside { IsInside (scene_of store.old) (slice_get store.old.functions place) }
-    ensures did { IfOk result (λ went. Did op (spaces_at (scene_of store.old) place) slots.old store.old slots.new store.new went) }
+    requires names { Names (scene_of store.old) spaces.now (length slots.old.locals) op }
+    ensures did { IfOk result (λ went. Did op spaces.now slots.old store.old slots.new store.new went) }
 {
     match op {
         Op::LocalGet(index) => {
@@ -44,12 +43,12 @@ pub fn on_variable(
             Ok(true)
         }
         Op::GlobalGet(index) => {
-            let at = global_place(store, place, index);
+            let at = global_place(store, spaces, index);
             slots.push(word(global_get(store, at)))?;
             Ok(true)
         }
         Op::GlobalSet(index) => {
-            let at = global_place(store, place, index);
+            let at = global_place(store, spaces, index);
             let new = slots.pop();
             let value = value_like(functions(store), global_get(store, at), new);
             global_set(store, at, value);
