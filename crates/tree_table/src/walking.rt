@@ -2,7 +2,7 @@ ghost use Rattle.std.specs.Prelude.{◌≡◌, ◌≢◌, ℕ, ◌+◌, ◌-◌,
 ghost use Rattle.std.specs.Ordering.{nat_cmp};
 ghost use Rattle.std.specs.Cmp.Lexicographic.{slice_cmp};
 ghost use Rattle.std.specs.declared.cmp.Ordering.TheVariants.{Less};
-ghost use Rattle.tree_table.specs.Paths.{At, Fails, parts_of, resolve};
+ghost use Rattle.tree_table.specs.Paths.{At, Fails, is_empty, is_file, is_rooted, parts_of, resolve};
 ghost use Rattle.tree_table.specs.Faults.{code_of};
 ghost use Rattle.tree_table.specs.Turns.{TurnMeets};
 ghost use Rattle.tree_table.specs.Tables.{count_of, map_of, tree_of, path_of, longest_of};
@@ -134,6 +134,74 @@ fn is_last(rest: Option<&[u8]>, depth: usize) -> bool
     }
 }
 
+/// What the parts of a path lead to from a folder or a link.
+fn walk_parts<'a, N: NameRead, L: Ledger>(
+    names: &'a N,
+    node: u32,
+    path: &'a [u8],
+    follow: bool,
+    steps: &mut Steps<L>,
+) -> Result<u32, WalkFault>
+    requires node { node < N.nodes names.now }
+    requires folder { is_file (N.look names.now (N.tree names.now node) (N.path names.now node)) ≡ false }
+    requires some { is_empty path.now ≡ false }
+    requires below { is_rooted path.now ≡ false }
+    ensures found { IfOk result (λ at. (at < N.nodes names.now) × (N.tree names.now at ≡ N.tree names.now node) × (resolve (N.look names.now (N.tree names.now node)) (N.path names.now node) path.now follow ≡ At (N.path names.now at))) }
+    ensures fault { IfErr result (λ fault. resolve (N.look names.now (N.tree names.now node)) (N.path names.now node) path.now follow ≡ Fails (code_of fault)) }
+    ensures probes { (digits : ℕ) → N.nodes names.now < 2 ^ digits → steps.new ≤ steps.old + (length (parts_of path.now) + 40 * N.longest names.now) * digits }
+{
+    let mut waiting: [&'a [u8]; MOST_LINKS] = [path; MOST_LINKS];
+    let mut depth: usize = 0;
+    let mut links: usize = 0;
+    let mut current = node;
+    let mut text: &'a [u8] = path;
+    'parts: loop {
+        let (part, rest) = first_part(text);
+        match take_part(
+            names,
+            node,
+            current,
+            part,
+            is_last(rest, depth),
+            follow,
+            steps,
+        ) {
+            Turn::Stops(fault) => return Err(fault),
+            Turn::Ends(at) => return Ok(at),
+            Turn::Goes(next) => {
+                current = next;
+                match rest {
+                    Some(rest) => text = rest,
+                    None => {
+                        if depth == 0 {
+                            return Ok(current);
+                        }
+                        depth -= 1;
+                        text = waiting[depth];
+                    }
+                }
+            }
+            Turn::Follows(target) => {
+                if links == MOST_LINKS {
+                    return Err(WalkFault::Loop);
+                }
+                if begins_at_root(target) {
+                    return Err(WalkFault::NotPermitted);
+                }
+                links += 1;
+                match rest {
+                    Some(rest) => {
+                        waiting[depth] = rest;
+                        depth += 1;
+                    }
+                    None => {}
+                }
+                text = target;
+            }
+        }
+    }
+}
+
 /// What a path leads to from a node, or the number of the error code of `wasi:filesystem/types`. At most 40 links are
 /// followed; a link that the whole path names is followed only where `follow` is true. It takes no memory.
 pub fn walk_by<'a, N: NameRead, L: Ledger>(
@@ -157,55 +225,9 @@ pub fn walk_by<'a, N: NameRead, L: Ledger>(
     if begins_at_root(path) {
         return Err(WalkFault::NotPermitted.code());
     }
-    let mut waiting: [&'a [u8]; MOST_LINKS] = [path; MOST_LINKS];
-    let mut depth: usize = 0;
-    let mut links: usize = 0;
-    let mut current = node;
-    let mut text: &'a [u8] = path;
-    'parts: loop {
-        let (part, rest) = first_part(text);
-        match take_part(
-            names,
-            node,
-            current,
-            part,
-            is_last(rest, depth),
-            follow,
-            steps,
-        ) {
-            Turn::Stops(fault) => return Err(fault.code()),
-            Turn::Ends(at) => return Ok(at),
-            Turn::Goes(next) => {
-                current = next;
-                match rest {
-                    Some(rest) => text = rest,
-                    None => {
-                        if depth == 0 {
-                            return Ok(current);
-                        }
-                        depth -= 1;
-                        text = waiting[depth];
-                    }
-                }
-            }
-            Turn::Follows(target) => {
-                if links == MOST_LINKS {
-                    return Err(WalkFault::Loop.code());
-                }
-                if begins_at_root(target) {
-                    return Err(WalkFault::NotPermitted.code());
-                }
-                links += 1;
-                match rest {
-                    Some(rest) => {
-                        waiting[depth] = rest;
-                        depth += 1;
-                    }
-                    None => {}
-                }
-                text = target;
-            }
-        }
+    match walk_parts(names, node, path, follow, steps) {
+        Ok(at) => Ok(at),
+        Err(fault) => Err(fault.code()),
     }
 }
 

@@ -2,7 +2,7 @@ use Rattle.std.proofs.Common.{◌≡◌, ◌+◌, ◌-◌, ◌*◌, ◌<◌, [],
 use Rattle.tree_table.specs.Paths.{Fails, parts_of, resolve_parts, follow_link, resolve}
 use Rattle.tree_table.specs.Turns.{stacked}
 use Rattle.tree_table.proofs.WalkLemmas.{rest_parts, cut, stacked-pop, stacked-wait, pay, pay_link, owed-link, too_many, rooted, followed, turned}
-use Rattle.tree_table.proofs.walking.walk_by.Goals as goal
+use Rattle.tree_table.proofs.walking.walk_parts.Goals as goal
 
 pub returns-in-Stops-clause-fault : goal.returns-in-Stops-clause-fault
 returns-in-Stops-clause-fault g c =
@@ -25,7 +25,7 @@ returns-in-Stops-clause-fault g c =
     let answer = resolve look start c.args.path.now follow in
     let is = cut c.parts.text.now part rest later c.first_part.ensures.last c.first_part.ensures.more in
     let t = turned look start follow (40 - links) c.parts.text.now part rest c.parts.waiting c.parts.depth c.is_last.result below answer (omega arith) c.first_part.ensures.last c.first_part.ensures.more c.is_last.ensures.some c.is_last.ensures.none inv.leads.2 in
-    sym t.1 ∙ c.in-Stops.ensures.meets below inv.leads.1 after tail t.0 ∙ ap Fails (sym c.code-in-Stops.ensures)
+    sym t.1 ∙ c.in-Stops.ensures.meets below inv.leads.1 after tail t.0
 
 pub returns-in-Stops-clause-probes : goal.returns-in-Stops-clause-probes
 returns-in-Stops-clause-probes g c = λ digits few.
@@ -190,7 +190,7 @@ returns-then-links-eq-MOST_LINKS-clause-fault g c =
     let is = cut c.parts.text.now part rest later c.first_part.ensures.last c.first_part.ensures.more in
     let t = turned look start follow (40 - links) c.parts.text.now part rest c.parts.waiting c.parts.depth c.is_last.result below answer (omega arith) c.first_part.ensures.last c.first_part.ensures.more c.is_last.ensures.some c.is_last.ensures.none inv.leads.2 in
     let m = c.in-Follows.ensures.meets below inv.leads.1 in
-    sym t.1 ∙ m.1 after tail t.0 ∙ too_many look start follow links below c.in-Follows.target.now tail c.if-links-eq-MOST_LINKS.true ∙ ap Fails (sym c.code-then-links-eq-MOST_LINKS.ensures)
+    sym t.1 ∙ m.1 after tail t.0 ∙ too_many look start follow links below c.in-Follows.target.now tail c.if-links-eq-MOST_LINKS.true
 
 pub returns-then-links-eq-MOST_LINKS-clause-probes : goal.returns-then-links-eq-MOST_LINKS-clause-probes
 returns-then-links-eq-MOST_LINKS-clause-probes g c = λ digits few.
@@ -201,8 +201,8 @@ returns-then-links-eq-MOST_LINKS-clause-probes g c = λ digits few.
     let paid = pay c.first_part.result.0.now _ _ ((40 - c.parts.links) * g.N.NameRead.longest c.args.names.now) digits c.parts.steps c.take_part.new.steps _ is (inv.probes digits few) (c.in-Follows.ensures.probes digits few) in
     omega arith
 
-pub returns-then-begins_at_root-2-clause-fault : goal.returns-then-begins_at_root-2-clause-fault
-returns-then-begins_at_root-2-clause-fault g c =
+pub returns-then-begins_at_root-clause-fault : goal.returns-then-begins_at_root-clause-fault
+returns-then-begins_at_root-clause-fault g c =
     let look = g.N.NameRead.look c.args.names.now (g.N.NameRead.tree c.args.names.now c.args.node) in
     let path = g.N.NameRead.path c.args.names.now in
     let longest = g.N.NameRead.longest c.args.names.now in
@@ -223,10 +223,10 @@ returns-then-begins_at_root-2-clause-fault g c =
     let is = cut c.parts.text.now part rest later c.first_part.ensures.last c.first_part.ensures.more in
     let t = turned look start follow (40 - links) c.parts.text.now part rest c.parts.waiting c.parts.depth c.is_last.result below answer (omega arith) c.first_part.ensures.last c.first_part.ensures.more c.is_last.ensures.some c.is_last.ensures.none inv.leads.2 in
     let m = c.in-Follows.ensures.meets below inv.leads.1 in
-    sym t.1 ∙ m.1 after tail t.0 ∙ rooted look start follow links below c.in-Follows.target.now tail (omega (arith, c.if-links-eq-MOST_LINKS.false)) (sym c.begins_at_root-in-Follows.ensures ∙ c.if-begins_at_root-2.true) ∙ ap Fails (sym c.code-then-begins_at_root-2.ensures)
+    sym t.1 ∙ m.1 after tail t.0 ∙ rooted look start follow links below c.in-Follows.target.now tail (omega (arith, c.if-links-eq-MOST_LINKS.false)) (sym c.begins_at_root.ensures ∙ c.if-begins_at_root.true)
 
-pub returns-then-begins_at_root-2-clause-probes : goal.returns-then-begins_at_root-2-clause-probes
-returns-then-begins_at_root-2-clause-probes g c = λ digits few.
+pub returns-then-begins_at_root-clause-probes : goal.returns-then-begins_at_root-clause-probes
+returns-then-begins_at_root-clause-probes g c = λ digits few.
     let inv = c.parts.invariant in
     let later = stacked (take c.parts.depth c.parts.waiting) in
     let rest = c.first_part.result.1 in
@@ -298,7 +298,7 @@ parts-preserved-in-Some-rest g c =
         below,
         inv.leads.1,
         ap (λ xs. resolve_parts look start follow (follow_link look start follow (40 - (links + 1))) below xs) left_is
-            ∙ sym (followed look start follow links below c.in-Follows.target.now tail few (sym c.begins_at_root-in-Follows.ensures ∙ c.if-begins_at_root-2.false)) ∙ sym (m.1 after tail t.0) ∙ t.1,
+            ∙ sym (followed look start follow links below c.in-Follows.target.now tail few (sym c.begins_at_root.ensures ∙ c.if-begins_at_root.false)) ∙ sym (m.1 after tail t.0) ∙ t.1,
       );
       probes = λ digits fits.
           pay_link tail left (parts_of c.in-Follows.target.now) links longest digits c.take_part.new.steps _ left_is few m.0
@@ -369,7 +369,7 @@ parts-preserved g c =
         below,
         inv.leads.1,
         ap (λ xs. resolve_parts look start follow (follow_link look start follow (40 - (links + 1))) below xs) left_is
-            ∙ sym (followed look start follow links below c.in-Follows.target.now tail few (sym c.begins_at_root-in-Follows.ensures ∙ c.if-begins_at_root-2.false)) ∙ sym (m.1 after tail t.0) ∙ t.1,
+            ∙ sym (followed look start follow links below c.in-Follows.target.now tail few (sym c.begins_at_root.ensures ∙ c.if-begins_at_root.false)) ∙ sym (m.1 after tail t.0) ∙ t.1,
       );
       probes = λ digits fits.
           pay_link tail left (parts_of c.in-Follows.target.now) links longest digits c.take_part.new.steps _ left_is few m.0

@@ -1,7 +1,7 @@
 use Rattle.std.proofs.Common.{◌≡◌, ℕ, ◌+◌, ◌-◌, ◌*◌, ◌^◌, ◌<◌, ◌≤◌, List, ◌++◌, length, take}
 use Rattle.tree_table.specs.Paths.{parts_of, resolve_parts, follow_link, resolve}
 use Rattle.tree_table.specs.Turns.{stacked}
-use Rattle.tree_table.proofs.walking.walk_by.Given as goal
+use Rattle.tree_table.proofs.walking.walk_parts.Given as goal
 
 abbrev pub invariant-parts : goal.invariant-parts
 invariant-parts g l =
