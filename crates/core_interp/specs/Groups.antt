@@ -7,7 +7,6 @@ IsOnOperands op.Nop = Unit {0}
 IsOnOperands op.Drop = Unit {0}
 IsOnOperands op.Select = Unit {0}
 IsOnOperands (op.I32Const n) = Unit {0}
-IsOnOperands (op.Numeric code) = Unit {0}
 IsOnOperands (op.RefNull t) = Unit {0}
 IsOnOperands op.RefIsNull = Unit {0}
 IsOnOperands (op.RefFunc i) = Unit {0}

@@ -76,6 +76,7 @@ fn init_bytes(
 }
 
 /// Does an instruction on many bytes, or answers that it traps.
+#[inline(never)]
 #[tactic(auto, using(crate::proofs::Changes::stays_segments))]
 pub fn on_bytes(
     slots: &mut Slots,

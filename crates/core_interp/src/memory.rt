@@ -107,6 +107,7 @@ pub fn answer(size: i32) -> u64
 }
 
 // Grows a memory.
+#[inline(never)]
 #[tactic(auto, using(crate::proofs::Changes::memory_grows))]
 fn grow_by(alloc: Global, store: &mut Store, memory: u32, pages: u32) -> Result<u64, NoMemory>
     requires { memory < length store.old.memories }
@@ -119,7 +120,7 @@ fn grow_by(alloc: Global, store: &mut Store, memory: u32, pages: u32) -> Result<
 }
 
 /// Does a load or a store, or asks for or changes the size of a memory; or answers that it traps.
-#[inline]
+#[inline(always)]
 pub fn on_memory(
     alloc: Global,
     slots: &mut Slots,

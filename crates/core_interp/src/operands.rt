@@ -38,8 +38,8 @@ fn operand(ty: CoreType, word: u64) -> u64
     }
 }
 
-// A numeric instruction.
-#[inline]
+/// A numeric instruction.
+#[inline(always)]
 pub fn calculate(slots: &mut Slots, op: NumericOp) -> Result<bool, NoMemory>
     requires { takes (Op.Numeric op) ≤ length slots.old.operands }
     ensures { IfOk result (λ went. (spaces : CoreSpaces) (store : State) → Did (Op.Numeric op) spaces slots.old store slots.new store went) }
@@ -75,8 +75,8 @@ fn put(slots: &mut Slots, outcome: Result<u64, Trap>) -> Result<bool, NoMemory>
     }
 }
 
-/// Does an instruction on operands alone, or answers that it traps.
-#[inline]
+/// Does an instruction on operands alone, other than a numeric one.
+#[inline(always)]
 pub fn on_operands(
     slots: &mut Slots,
     store: &mut Store,
@@ -105,7 +105,6 @@ pub fn on_operands(
             slots.push(value.cast_unsigned() as u64)?;
             Ok(true)
         }
-        Op::Numeric(op) => calculate(slots, op),
         Op::RefNull(_) => {
             slots.push(0)?;
             Ok(true)

@@ -7,7 +7,7 @@ ghost use Rattle.core_interp.specs.Plains.{Did};
 
 use crate::bytes::on_bytes;
 use crate::memory::on_memory;
-use crate::operands::on_operands;
+use crate::operands::{calculate, on_operands};
 use crate::refs::on_refs;
 use crate::tables::on_table;
 use crate::variables::on_variable;
@@ -18,7 +18,7 @@ use virt_base::NoMemory;
 use wasm_ast::Op;
 
 /// Does an instruction that goes on to the next, or answers that it traps.
-#[inline]
+#[inline(always)]
 pub fn operate(
     alloc: Global,
     slots: &mut Slots,
@@ -31,19 +31,18 @@ pub fn operate(
     ensures did { IfOk result (λ went. Did op spaces.now slots.old store.old slots.new store.new went) }
 {
     match op {
-        Op::LocalGet(_) | Op::LocalSet(_) | Op::LocalTee(_) | Op::GlobalGet(_) | Op::GlobalSet(_) =>
-            on_variable(slots, store, spaces, op),
-        Op::Nop
-        | Op::Drop
-        | Op::Select
-        | Op::I32Const(_)
-        | Op::Numeric(_)
-        | Op::RefNull(_)
-        | Op::RefIsNull
-        | Op::RefFunc(_) => on_operands(slots, store, spaces, op),
-        Op::Load(_, _) | Op::Store(_, _) | Op::MemorySize | Op::MemoryGrow => {
-            on_memory(alloc, slots, store, spaces, op)
-        }
+        // Frequent instructions have arms of their own, where the match of their group is decided.
+        Op::Numeric(op) => calculate(slots, op),
+        Op::I32Const(_) => on_operands(slots, store, spaces, op),
+        Op::LocalGet(_) => on_variable(slots, store, spaces, op),
+        Op::LocalSet(_) => on_variable(slots, store, spaces, op),
+        Op::LocalTee(_) => on_variable(slots, store, spaces, op),
+        Op::Load(_, _) => on_memory(alloc, slots, store, spaces, op),
+        Op::Store(_, _) => on_memory(alloc, slots, store, spaces, op),
+        Op::GlobalGet(_) | Op::GlobalSet(_) => on_variable(slots, store, spaces, op),
+        Op::Nop | Op::Drop | Op::Select | Op::RefNull(_) | Op::RefIsNull | Op::RefFunc(_) =>
+            on_operands(slots, store, spaces, op),
+        Op::MemorySize | Op::MemoryGrow => on_memory(alloc, slots, store, spaces, op),
         Op::MemoryInit(_) | Op::DataDrop(_) | Op::MemoryCopy | Op::MemoryFill => {
             on_bytes(slots, store, spaces, op)
         }

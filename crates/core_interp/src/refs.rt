@@ -47,6 +47,7 @@ fn init(store: &mut Store, table: u32, to: u32, segment: u32, from: u32, len: u3
 }
 
 /// Does an instruction on many references, or answers that it traps.
+#[inline(never)]
 #[tactic(auto, using(crate::proofs::Changes::stays_elements))]
 pub fn on_refs(
     slots: &mut Slots,

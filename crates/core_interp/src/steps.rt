@@ -20,7 +20,7 @@ use wasm_ast::{BranchTable, Instr, Op};
 
 impl Running {
     // An instruction that does as one does that goes on to the next.
-    #[inline]
+    #[inline(always)]
     fn plain(
         &mut self,
         alloc: Global,
@@ -43,7 +43,7 @@ impl Running {
     }
 
     // A constant of 64 bits.
-    #[inline]
+    #[inline(always)]
     fn constant(&mut self, store: &Store, value: i64) -> Result<Flow, NoMemory>
         requires { IsBefore (Instr.I64Const value) self.old store.now }
         ensures leads { IfOk result (λ flow. Leads (steps self.old store.now) flow self.new store.now) }
@@ -64,7 +64,7 @@ impl Running {
         flow
     }
 
-    #[inline]
+    #[inline(always)]
     fn br_if(&mut self, store: &mut Store, label: u32) -> Flow
         requires { IsBefore (Instr.BrIf label) self.old store.old }
         ensures leads { Leads (steps self.old store.old) result self.new store.new }
@@ -104,7 +104,7 @@ impl Running {
     }
 
     // An instruction that takes a step.
-    #[inline]
+    #[inline(always)]
     fn step(
         &mut self,
         alloc: Global,
@@ -168,7 +168,7 @@ impl Running {
     }
 
     // An instruction that takes a step, if the budget has one.
-    #[inline]
+    #[inline(always)]
     fn counted(
         &mut self,
         alloc: Global,
@@ -194,7 +194,7 @@ impl Running {
     }
 
     // One instruction, or the end of a piece.
-    #[inline]
+    #[inline(always)]
     fn one(
         &mut self,
         alloc: Global,

@@ -59,6 +59,7 @@ fn grow_by(
 }
 
 /// Does an instruction on one reference of a table or on its size, or answers that it traps.
+#[inline(never)]
 pub fn on_table(
     alloc: Global,
     slots: &mut Slots,

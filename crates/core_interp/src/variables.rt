@@ -13,7 +13,7 @@ use virt_base::NoMemory;
 use wasm_ast::Op;
 
 /// Does an instruction on a local or a global. It never traps.
-#[inline]
+#[inline(always)]
 #[tactic(auto, using(crate::proofs::Values::like_names, crate::proofs::Values::like_same, crate::proofs::Values::stays_globals))]
 pub fn on_variable(
     slots: &mut Slots,
