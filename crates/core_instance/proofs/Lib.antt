@@ -11,6 +11,7 @@ pub mod WholeLemmas
 pub mod RunLemmas
 pub mod SceneLemmas
 pub mod MatchLemmas
+pub mod DecideLemmas
 pub mod SuitLemmas
 pub mod FineLemmas
 pub mod CountLemmas

@@ -4,12 +4,14 @@
 use crate::external::{CoreInstance, Extern};
 use crate::instance::instantiate;
 use crate::laws::spelled_modules_have_counts;
+use crate::matching::imports_match;
 use core_read::read_module;
-use core_store::{Store, StoreFault};
+use core_store::{Shared, Store, StoreFault, StoreFunc, add_function, add_table};
 use core_validate::validate;
 use std::alloc::Global;
 use std::test::Fail;
-use virt_base::Items;
+use virt_base::{CoreType, Items, NoMemory};
+use wasm_ast::CoreFunc;
 
 /// An instance of the module with these bytes in a new store, or why there is none. The module takes no imports.
 fn instance(alloc: Global, digits: &str) -> Result<Result<CoreInstance, StoreFault>, Fail> {
@@ -88,4 +90,58 @@ fn segments_trap_past_the_end(rt: HostRuntime) -> Result<(), Fail> {
 #[test]
 fn laws() {
     spelled_modules_have_counts();
+}
+
+/// A store with functions of two types, the embedder's, and a table.
+fn embedders(alloc: Global) -> Result<Store, NoMemory> {
+    let params = Items::new(vec![in alloc; CoreType::I64]?);
+    let results = Items::new(vec![in alloc; CoreType::I32]?);
+    let taking = Shared::new(alloc, CoreFunc { params, results })?;
+    let none = CoreFunc {
+        params: Items::empty(alloc),
+        results: Items::empty(alloc),
+    };
+    let bare = Shared::new(alloc, none)?;
+    let mut store = Store::new(alloc);
+    for (number, ty) in [taking, bare].into_iter().enumerate() {
+        let number = number as u32;
+        let _ = add_function(alloc, &mut store, StoreFunc::Outside { ty, number })?;
+    }
+    let _ = add_table(alloc, &mut store, 1, None)?;
+    Ok(store)
+}
+
+#[test]
+fn imports_of_each_kind_in_order(rt: HostRuntime) -> Result<(), Fail> {
+    let alloc = rt.alloc();
+    // a function from an i64 to an i32, and a table
+    let bytes = hex::decode(
+        alloc,
+        b"0061736d0100000001060160017e017f020f020168016600000168017401700001",
+    )?;
+    let Ok(module) = read_module(alloc, bytes.as_slice()) else {
+        return Err(Fail::from("the module is not read"));
+    };
+    let store = embedders(alloc)?;
+    let rows: [(&[Extern], bool); 7] = [
+        (&[Extern::Func(0), Extern::Table(0)], true),
+        (&[Extern::Func(1), Extern::Table(0)], false),
+        (&[Extern::Func(2), Extern::Table(0)], false),
+        (&[Extern::Table(0), Extern::Func(0)], false),
+        (&[Extern::Func(0), Extern::Global(0)], false),
+        (&[Extern::Func(0)], false),
+        (
+            &[Extern::Func(0), Extern::Table(0), Extern::Memory(0)],
+            false,
+        ),
+    ];
+    for (given, wanted) in rows {
+        let imports = Items::new(Vec::from_slice(alloc, given)?);
+        assert_eq!(rt;
+            imports_match(&store, &module, &imports),
+            wanted,
+            "{given:?}"
+        );
+    }
+    Ok(())
 }
