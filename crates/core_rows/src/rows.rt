@@ -3,7 +3,7 @@
 
 ghost use Rattle.std.specs.Prelude.{◌≤◌};
 
-use crate::running::call_first;
+use crate::running::{Answered, Question, Ran, call_asking, call_first};
 use core_interp::Pause;
 use core_store::CoreValue::{self, I32, I64};
 use std::alloc::Global;
@@ -229,4 +229,40 @@ fn tables(rt: HostRuntime) -> Result<(), Fail> {
     traps(&rt, alloc, FILL, &[I32(5), I32(0)], 4)?;
     answers(&rt, alloc, ENTRIES, &[I32(1048575)], 5, &[I32(1048577)])?;
     answers(&rt, alloc, ENTRIES, &[I32(1048576)], 5, &[I32(0)])
+}
+
+/// Calls its import with -2, and answers 5, or 6 where the import answers 0.
+const ASKING: &str =
+    "0061736d01000000010a0260017e017f6000017f02070101680166000003020101070501016600010a10010e00427e1000047f41050541060b0b";
+
+/// It asks the embedder's function 9 with -2.
+fn asks(rt: &impl Abort, question: &Question) {
+    assert_eq!(rt; question.number, 9);
+    assert_eq!(rt;
+        question.args.as_slice(),
+        [I64(18446744073709551614)].as_slice()
+    );
+    assert_eq!(rt; question.left, 0);
+}
+
+/// The call ended with this result, in as many steps as it had.
+fn ends(rt: &impl Abort, rest: &Ran, wanted: u32) -> Result<(), Fail> {
+    assert_eq!(rt; rest.left, 0);
+    match &rest.pause {
+        Pause::Done(values) => assert_eq!(rt; values.as_slice(), [I32(wanted)].as_slice()),
+        _ => return Err(Fail::from("no results")),
+    }
+    Ok(())
+}
+
+#[test]
+fn imported_functions(rt: HostRuntime) -> Result<(), Fail> {
+    let alloc = rt.alloc();
+    for (answer, wanted) in [(0, 6), (3, 5)] {
+        let results = Items::new(vec![in alloc; I32(answer)]?);
+        let Answered { question, rest } = call_asking(alloc, ASKING, &results, 2)?;
+        asks(&rt, &question);
+        ends(&rt, &rest, wanted)?;
+    }
+    Ok(())
 }

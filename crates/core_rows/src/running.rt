@@ -1,6 +1,6 @@
 //! A call of a module's function, from the module's bytes to the call's pauses.
 
-ghost use Rattle.std.specs.Prelude.{IsTrue, IfOk, slice_get};
+ghost use Rattle.std.specs.Prelude.{◌<◌, IsTrue, IfOk, length, slice_get};
 ghost use Rattle.std.specs.List.{All};
 ghost use Rattle.core_eval.specs.Scene.{scene_of};
 ghost use Rattle.core_eval.specs.Fine.{IsFine};
@@ -10,11 +10,12 @@ ghost use Rattle.core_interp.specs.Session.{IsCallable};
 use core_instance::{Extern, Externs, imports_match, instantiate};
 use core_interp::{CoreValues, Machine, Pause};
 use core_read::read_module;
-use core_store::{Store, StoreFunc, function, functions};
+use core_store::{Shared, Store, StoreFunc, add_function, function, functions};
 use core_validate::validate;
 use std::alloc::Global;
 use std::test::Fail;
-use virt_base::Items;
+use virt_base::{CoreType, Items, NoMemory};
+use wasm_ast::CoreFunc;
 
 /// Why a call paused, and what is left of its budget.
 #[derive(Drop)]
@@ -98,4 +99,82 @@ pub fn call_first(
     let mut store = Store::new(alloc);
     let at = first_function(alloc, &mut store, digits, &Items::empty(alloc))?;
     call(alloc, &mut store, at, args, budget)
+}
+
+/// What a call asked of the embedder, and the steps that were left.
+#[derive(Drop)]
+pub struct Question {
+    pub number: u32,
+    pub args: CoreValues,
+    pub left: u64,
+}
+
+/// A call that asked, and what came of it once it was answered.
+#[derive(Drop)]
+pub struct Answered {
+    pub question: Question,
+    pub rest: Ran,
+}
+
+/// A store with one function, the embedder's function 9, from an i64 to an i32.
+fn embedders(alloc: Global) -> Result<Store, NoMemory>
+    ensures there { IfOk result (λ s. 0 < length s.functions) }
+    ensures fine { IfOk result (λ s. IsFine (scene_of s)) }
+{
+    let params = Items::new(vec![in alloc; CoreType::I64]?);
+    let results = Items::new(vec![in alloc; CoreType::I32]?);
+    let ty = Shared::new(alloc, CoreFunc { params, results })?;
+    let mut store = Store::new(alloc);
+    let _ = add_function(alloc, &mut store, StoreFunc::Outside { ty, number: 9 })?;
+    Ok(store)
+}
+
+/// Calls a function without parameters, with so many steps before and after the embedder's answer.
+fn call_answered(
+    alloc: Global,
+    store: &mut Store,
+    at: u32,
+    results: &CoreValues,
+    budget: u64,
+) -> Result<Answered, Fail>
+    requires { IsFine (scene_of store.old) }
+{
+    let none = Items::empty(alloc);
+    if !is_callable(store, at, none.len()) {
+        return Err(Fail::from("no function without parameters"));
+    }
+    let mut left = budget;
+    let mut machine = Machine::start(alloc, at, &none)?;
+    let pause = machine.run(alloc, store, &mut left)?;
+    match pause {
+        Pause::AtHost(number, args) => {
+            if results.len() != machine.awaits {
+                return Err(Fail::from("another number of results is due"));
+            }
+            machine.resume(results);
+            let mut more = budget;
+            let end = machine.run(alloc, store, &mut more)?;
+            Ok(Answered {
+                question: Question { number, args, left },
+                rest: Ran {
+                    pause: end,
+                    left: more,
+                },
+            })
+        }
+        _ => Err(Fail::from("the embedder is not asked")),
+    }
+}
+
+/// Calls the function that is the first export of a module whose one import is the embedder's function.
+pub fn call_asking(
+    alloc: Global,
+    digits: &str,
+    results: &CoreValues,
+    budget: u64,
+) -> Result<Answered, Fail> {
+    let mut store = embedders(alloc)?;
+    let imports = Items::new(vec![in alloc; Extern::Func(0)]?);
+    let at = first_function(alloc, &mut store, digits, &imports)?;
+    call_answered(alloc, &mut store, at, results, budget)
 }
