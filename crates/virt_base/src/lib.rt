@@ -19,8 +19,6 @@ mod mem_sink;
 mod mem_tables;
 mod sink;
 mod steps;
-#[cfg(test)]
-mod tests;
 mod text;
 
 pub use byte::next_byte;

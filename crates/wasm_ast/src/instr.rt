@@ -117,15 +117,3 @@ pub enum Instr {
 
 /// Instructions in order. The `End` that closes an expression or a body is the last of them.
 pub type Instrs = Items<Instr>;
-
-#[cfg(test)]
-mod tests {
-    use super::{Instr, Op};
-    use std::mem::size_of;
-
-    #[test]
-    fn an_instruction_is_small(rt: HostRuntime) {
-        assert_eq!(rt; size_of::<Op>(), 12);
-        assert_eq!(rt; size_of::<Instr>(), 16);
-    }
-}

@@ -8,8 +8,6 @@ mod put;
 mod reader;
 mod sections;
 mod stop;
-#[cfg(test)]
-mod tests;
 mod until;
 mod writer;
 

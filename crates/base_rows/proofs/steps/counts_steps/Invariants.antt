@@ -1,4 +1,4 @@
-use Rattle.virt_base.proofs.tests.counts_steps.Given as goal
+use Rattle.base_rows.proofs.steps.counts_steps.Given as goal
 
 abbrev pub ghosts-two_steps : goal.ghosts-two_steps
 ghosts-two_steps a = record { name = a.blank.name; parts = a.blank.parts }

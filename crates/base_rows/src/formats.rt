@@ -1,13 +1,10 @@
-use crate::literal::{expect_bytes, expect_tag, next_is_tag};
-use crate::names::{ByteLists, Names};
-use crate::numbers::{S32, S33Index, S64, U32};
-use crate::put::{put_byte, put_bytes};
-use crate::reader::{CountedVecs, Reader, Sized, Vecs};
-use crate::stop::Stop;
-use crate::writer::Writer;
 use std::alloc::Global;
 use std::test::Fail;
 use virt_base::{Cursor, Items, NoMemory, Text, TextFault, copy_bytes};
+use wasm_format::{
+    ByteLists, CountedVecs, Names, Reader, S32, S33Index, S64, Sized, Stop, U32, Vecs, Writer,
+    expect_bytes, expect_tag, next_is_tag, put_byte, put_bytes,
+};
 
 #[test]
 fn literals(rt: HostRuntime) {
@@ -107,7 +104,7 @@ fn bytes_put(rt: HostRuntime) -> Result<(), Fail> {
 
 /// Each number is written as the examples of the DWARF standard have it.
 #[test]
-#[tactic(auto, unfolding(crate::specs::Format::u32_format))]
+#[tactic(auto, unfolding(wasm_format::specs::Format::u32_format))]
 fn unsigned_written(rt: HostRuntime) -> Result<(), Fail> {
     let alloc = rt.alloc();
     let mut out = Vec::new(alloc);
@@ -117,7 +114,7 @@ fn unsigned_written(rt: HostRuntime) -> Result<(), Fail> {
 }
 
 #[test]
-#[tactic(auto, unfolding(crate::specs::Numbers::s32_format))]
+#[tactic(auto, unfolding(wasm_format::specs::Numbers::s32_format))]
 fn s32_written(rt: HostRuntime) -> Result<(), Fail> {
     let alloc = rt.alloc();
     let mut out = Vec::new(alloc);
@@ -127,7 +124,7 @@ fn s32_written(rt: HostRuntime) -> Result<(), Fail> {
 }
 
 #[test]
-#[tactic(auto, unfolding(crate::specs::Numbers::s64_format))]
+#[tactic(auto, unfolding(wasm_format::specs::Numbers::s64_format))]
 fn s64_written(rt: HostRuntime) -> Result<(), Fail> {
     let alloc = rt.alloc();
     let mut out = Vec::new(alloc);
@@ -137,7 +134,7 @@ fn s64_written(rt: HostRuntime) -> Result<(), Fail> {
 }
 
 #[test]
-#[tactic(auto, unfolding(crate::specs::Numbers::s33_format, crate::specs::Numbers::s33_index))]
+#[tactic(auto, unfolding(wasm_format::specs::Numbers::s33_format, wasm_format::specs::Numbers::s33_index))]
 fn s33_index_written(rt: HostRuntime) -> Result<(), Fail> {
     let alloc = rt.alloc();
     let mut out = Vec::new(alloc);
@@ -147,7 +144,7 @@ fn s33_index_written(rt: HostRuntime) -> Result<(), Fail> {
 }
 
 /// What is written for a name of these bytes; nothing where they are no text.
-#[tactic(auto, unfolding(crate::specs::Format::name), using(crate::proofs::NameLaws::is_text))]
+#[tactic(auto, unfolding(wasm_format::specs::Format::name), using(wasm_format::proofs::NameLaws::is_text))]
 fn written_name(alloc: Global, bytes: &[u8; 2]) -> Result<Vec<u8>, NoMemory> {
     let mut out = Vec::new(alloc);
     match Text::new(alloc, bytes.as_slice()) {
@@ -166,7 +163,7 @@ fn name_written(rt: HostRuntime) -> Result<(), Fail> {
 }
 
 #[test]
-#[tactic(auto, unfolding(crate::specs::Format::u32_format))]
+#[tactic(auto, unfolding(wasm_format::specs::Format::u32_format))]
 fn list_written(rt: HostRuntime) -> Result<(), Fail> {
     let alloc = rt.alloc();
     let mut items = Items::empty(alloc);
@@ -179,7 +176,7 @@ fn list_written(rt: HostRuntime) -> Result<(), Fail> {
 }
 
 #[test]
-#[tactic(auto, unfolding(crate::specs::Format::u32_format))]
+#[tactic(auto, unfolding(wasm_format::specs::Format::u32_format))]
 fn counted_list_written(rt: HostRuntime) -> Result<(), Fail> {
     let alloc = rt.alloc();
     let mut items = Items::empty(alloc);
@@ -195,7 +192,7 @@ fn counted_list_written(rt: HostRuntime) -> Result<(), Fail> {
 }
 
 #[test]
-#[tactic(auto, unfolding(crate::specs::Format::u32_format))]
+#[tactic(auto, unfolding(wasm_format::specs::Format::u32_format))]
 fn sized_written(rt: HostRuntime) -> Result<(), Fail> {
     let alloc = rt.alloc();
     let mut out = Vec::new(alloc);

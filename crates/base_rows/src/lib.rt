@@ -1,0 +1,15 @@
+//! Rows for what every crate stands on: numbers, texts, the outside, formats and trees.
+#![tactic(auto)]
+
+#[cfg(test)]
+mod formats;
+#[cfg(test)]
+mod instructions;
+#[cfg(test)]
+mod numbers;
+#[cfg(test)]
+mod outside;
+#[cfg(test)]
+mod steps;
+#[cfg(test)]
+mod texts;
