@@ -8,7 +8,7 @@ use Rattle.wit_types.specs.declared.types.Cases.{Cases, out-Cases}
 use Rattle.wit_types.specs.declared.types.Types.{Types}
 use Rattle.wit_types.specs.declared.types.WitType.{WitType}
 use Rattle.wit_types.specs.declared.types.WitType.TheVariants.{Record, Tuple, Variant, Option as Optional, Result as Results}
-use Rattle.wit_types.specs.Plain.{Name, Width, OneByte, TwoBytes, FourBytes, EightBytes, VariantForm, AsEnum, Plain, Parts, BoolType, SignedType, UnsignedType, CharType, StringType, ListType, RecordType, VariantType, FlagsType, OwnType, BorrowType, End, More, Bare, bare, plain, payload_of, case_part, fields_of, types_of, cases_of}
+use Rattle.wit_types.specs.Plain.{Name, Width, OneByte, TwoBytes, FourBytes, EightBytes, AsEnum, Plain, Parts, BoolType, SignedType, UnsignedType, CharType, StringType, ListType, RecordType, VariantType, FlagsType, OwnType, BorrowType, End, More, Bare, bare, plain, payload_of, case_part, fields_of, types_of, cases_of}
 use Rattle.wit_types.specs.Layout.{bytes, alignment, greatest_alignment, discriminant_size, flags_size, count, align_to, variant_size, size, end_of, greatest_size}
 use Rattle.wit_types.specs.Limits.{parts, all_parts}
 use Rattle.wit_types.proofs.PlainLemmas.{plains, plain-Record, plain-Tuple, plain-Variant, plain-Option, plain-Result}

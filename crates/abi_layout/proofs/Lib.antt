@@ -1,2 +1,4 @@
 pub mod LayoutLemmas
 pub mod FlatLemmas
+pub mod HandleLaws
+pub mod TypeLaws

@@ -1,5 +1,5 @@
 -- Lists of at most 16 core types.
-use Rattle.std.specs.Prelude.{ℕ, nat_le, if◌then◌else◌, List, ◌++◌, length, take, Option, Some, None}
+use Rattle.std.specs.Prelude.{nat_le, if◌then◌else◌, List, ◌++◌, length, take, Option, Some, None}
 use Rattle.virt_base.specs.declared.core_type.CoreType.{CoreType}
 use Rattle.abi_layout.specs.declared.flat_types.Flat.{Flat}
 use Rattle.wit_types.specs.Layout.{join}

@@ -3,6 +3,7 @@
 
 mod flat_types;
 mod flattening;
+mod laws;
 mod limits;
 mod memory;
 #[cfg(test)]
@@ -10,5 +11,6 @@ mod tests;
 
 pub use flat_types::Flat;
 pub use flattening::flatten;
+pub use laws::{loaded_values_have_types, renumbered_values_keep};
 pub use limits::is_small;
 pub use memory::{Layout, align, layout_of, size};

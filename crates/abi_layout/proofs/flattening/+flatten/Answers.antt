@@ -1,4 +1,4 @@
-use Rattle.std.proofs.Common.{◌≡◌, ◌++◌, ap, sym, ◌∙◌, arith, drop}
+use Rattle.std.proofs.Common.{ap, sym, ◌∙◌}
 use Rattle.std.proofs.Math.ListN.{drop_of_length-le}
 use Rattle.abi_layout.specs.Flat.{types_of, add_within, join_within, within}
 use Rattle.wit_types.specs.Layout.{flat_fields, flat_cases}
