@@ -1,0 +1,5 @@
+pub mod Items
+pub mod Equality
+pub mod Subtyping
+pub mod Substitution
+pub mod Measures

@@ -1,0 +1,2 @@
+//! The types of what components import and export: their equality, subtyping and substitution.
+#![tactic(auto)]
