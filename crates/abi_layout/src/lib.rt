@@ -6,8 +6,6 @@ mod flattening;
 mod laws;
 mod limits;
 mod memory;
-#[cfg(test)]
-mod tests;
 
 pub use flat_types::Flat;
 pub use flattening::flatten;

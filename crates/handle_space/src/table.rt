@@ -292,6 +292,3 @@ impl HandleTable {
         self.free += 1;
     }
 }
-
-#[cfg(test)]
-mod tests;

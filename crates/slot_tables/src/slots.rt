@@ -126,6 +126,3 @@ impl<E> Slots<E> {
         self.free
     }
 }
-
-#[cfg(test)]
-mod tests;

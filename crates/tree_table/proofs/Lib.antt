@@ -9,4 +9,3 @@ pub mod LayLemmas
 pub mod LinkLemmas
 pub mod BuildLemmas
 pub mod SlotLemmas
-pub mod CheckLemmas

@@ -8,4 +8,3 @@ pub mod Tables
 pub mod Slots
 pub mod Orders
 pub mod Linked
-pub mod Checks

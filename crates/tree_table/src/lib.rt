@@ -15,6 +15,3 @@ pub use names::NameRead;
 pub use slot::NodeKind;
 pub use table::{Table, child, content, kind, name, place, root, target};
 pub use walking::{WalkFault, walk, walk_by};
-
-#[cfg(test)]
-mod tests;

@@ -1,8 +1,6 @@
 //! The types of the interface language (WIT), their values, and their layout by the Canonical ABI.
 #![tactic(auto)]
 
-#[cfg(test)]
-mod tests;
 mod type_copies;
 mod types;
 mod typing;

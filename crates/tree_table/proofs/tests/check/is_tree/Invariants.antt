@@ -1,9 +1,0 @@
-use Rattle.std.proofs.Common.{◌≡◌, ℕ, ◌<◌, ◌≤◌, Some, slice_get}
-use Rattle.tree_table.proofs.CheckLemmas.{FitAt, root_entry}
-use Rattle.tree_table.proofs.tests.check.is_tree.Given as goal
-
-abbrev pub invariant-loop-i : goal.invariant-loop-i
-invariant-loop-i l = record {
-  root : slice_get l.entries 0 ≡ Some root_entry;
-  fit : (k : ℕ) → 1 ≤ k → k < l.i → FitAt l.entries k;
-}

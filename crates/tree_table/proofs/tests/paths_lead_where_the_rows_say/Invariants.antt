@@ -1,4 +1,0 @@
-use Rattle.tree_table.proofs.tests.paths_lead_where_the_rows_say.Given as goal
-
-abbrev pub ghosts-walks : goal.ghosts-walks
-ghosts-walks g a = record { name = a.blank.name; parts = a.blank.parts }
