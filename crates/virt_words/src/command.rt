@@ -1,0 +1,54 @@
+use virt_base::{NoMemory, Text};
+
+/// The names that `virt` works on.
+#[derive(Debug, Drop)]
+pub struct VirtWords {
+    pub app: Text,
+    pub policy: Text,
+    pub out: Text,
+}
+
+/// What `run` works on, and how many steps it may take.
+#[derive(Debug, Drop)]
+pub struct RunWords {
+    pub component: Text,
+    pub script: Text,
+    pub policy: Option<Text>,
+    /// 1 to 10,000,000,000.
+    pub steps: u64,
+}
+
+/// How many functions the component of `gen` has, and where its output goes.
+#[derive(Debug, Drop)]
+pub struct GenWords {
+    /// 1 to 1,000.
+    pub functions: u64,
+    pub out: Text,
+}
+
+/// What the words of a command line ask for.
+#[derive(Debug, Drop)]
+pub enum Command {
+    Virt(VirtWords),
+    Run(RunWords),
+    Gen(GenWords),
+}
+
+/// Why words give no command.
+#[derive(Debug, Clone, Copy, PartialEq, Eq)]
+pub enum WordsFault {
+    /// The words are none of a command's.
+    Usage,
+    NoMemory,
+}
+
+impl From<NoMemory> for WordsFault {
+    ghost use Rattle.std.specs.Prelude.{◌≡◌};
+    ghost use Rattle.virt_words.specs.declared.command.WordsFault.TheVariants.{NoMemory};
+
+    ghost from_gives = { λ _ f. f ≡ NoMemory };
+
+    fn from(_: NoMemory) -> WordsFault {
+        WordsFault::NoMemory
+    }
+}
