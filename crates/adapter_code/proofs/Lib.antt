@@ -1,0 +1,5 @@
+pub mod Places
+pub mod Codes
+pub mod Running
+pub mod Words
+pub mod Enough

@@ -1,0 +1,9 @@
+pub mod Number
+pub mod Code
+pub mod Run
+pub mod WellFormed
+pub mod Shown
+pub mod Plain
+pub mod Keeps
+pub mod Enough
+pub mod Layout
