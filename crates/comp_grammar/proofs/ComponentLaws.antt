@@ -1,15 +1,15 @@
 -- The format of components is exact, by induction on how deep they stand in one another.
-use Rattle.std.proofs.Common.{◌≡◌, ℕ, zero, suc, ◌+◌, List, [], length, Result, Ok, Err, sym, ap, ◌∙◌}
+use Rattle.std.proofs.Common.{◌≡◌, ℕ, zero, suc, List, Result, Ok, Err}
 use Rattle.wasm_format.specs.declared.stop.Stop.{Stop}
 use Rattle.virt_base.specs.Place.{Place}
 use Rattle.wasm_format.specs.Format.{Format, sized, both, fixed}
-use Rattle.wasm_format.proofs.Laws.{IsExact, IsExactToEnd, exact_choose, exact_lacking, exact_tagged, exact_both, exact_image, exact_vec, exact_sized, exact_fixed, spanned_to_end, to_end, both_to_end, image_to_end, ok_is}
+use Rattle.wasm_format.proofs.Laws.{IsExact, IsExactToEnd, exact_choose, exact_lacking, exact_tagged, exact_both, exact_image, exact_vec, exact_sized, exact_fixed, spanned_to_end, to_end, both_to_end, image_to_end}
 use Rattle.wasm_format.proofs.SectionLaws.{AreExact, exact_to_the_end}
 use Rattle.wasm_ast.proofs.ModuleLaws.{note_to_end, exact_core_module}
 use Rattle.wasm_ast.proofs.ComponentGrammar.{exact_instance, exact_alias, exact_component_export}
 use Rattle.wasm_ast.specs.Modules.{note, core_module}
 use Rattle.comp_grammar.specs.Trees.{Tree, End, Nested}
-use Rattle.comp_grammar.specs.Components.{nested_in, beside, span_of, custom, placed_module, placed, nested_section, low_section, high_section, section, sections, parts_of, preamble, all_sections, too_nested, component_over, component, most_deep, SpellsComponent}
+use Rattle.comp_grammar.specs.Components.{nested_in, beside, span_of, custom, placed_module, placed, nested_section, low_section, high_section, section, sections, parts_of, preamble, all_sections, too_nested, component_over, component}
 use Rattle.comp_grammar.proofs.CoreInstanceLaws.{exact_core_instance}
 use Rattle.comp_grammar.proofs.ItemLaws.{exact_canon, exact_component_import}
 use Rattle.comp_grammar.proofs.TypeSectionLaws.{exact_type_items}
@@ -70,10 +70,3 @@ pub exact_component : (depth : ℕ) → IsExactToEnd (component depth)
 unfolding component
 exact_component zero = exact_too_nested
 exact_component (suc depth) = exact_component_over (component depth) (exact_component depth)
-
--- no bytes spell two components
-pub spelled_once : (t u : Tree) (text : List ℕ) → SpellsComponent t text → SpellsComponent u text → t ≡ u
-spelled_once t u text s r =
-    let end : Place = record { at = 0 + length text; rest = [] } in
-    let e = ok_is (t, end) (u, end) (sym ((exact_component most_deep).again t text 0 s) ∙ (exact_component most_deep).again u text 0 r) in
-    ap (λ (x : Tree × Place). x.0) e

@@ -4,3 +4,5 @@ pub mod TypeLaws
 pub mod ItemLaws
 pub mod TypeSectionLaws
 pub mod ComponentLaws
+pub mod BuiltLaws
+pub mod DepthLaws

@@ -155,10 +155,10 @@ unfoldable pub component : ℕ → Format Tree
 component zero = too_nested
 component (suc depth) = component_over (component depth)
 
--- how deep components may stand in one another
-abbrev pub most_deep : ℕ
-most_deep = 100
+-- The bytes, which stand at this offset, are a spelling of the component, however deep components stand in one another.
+abbrev pub SpellsAt : ℕ → Tree → List ℕ → Type 0
+SpellsAt at t text = (depth : ℕ) × (component depth).Spells at t text
 
 -- The bytes are a spelling of the component.
 abbrev pub SpellsComponent : Tree → List ℕ → Type 0
-SpellsComponent t text = (component most_deep).Spells 0 t text
+SpellsComponent t text = SpellsAt 0 t text

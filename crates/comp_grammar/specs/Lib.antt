@@ -4,3 +4,4 @@ pub mod Types
 pub mod Items
 pub mod TypeSections
 pub mod Components
+pub mod Depths

@@ -10,9 +10,10 @@ use Rattle.wasm_format.proofs.Laws.{exact_fixed}
 use Rattle.wasm_format.specs.Sections.{SectionsSpell, built, SpellsTo, Run, run, Ran}
 use Rattle.wasm_format.proofs.SectionLaws.{AreExact, run_ok, run_good, run_longest, run_all}
 use Rattle.comp_grammar.specs.Trees.{Tree, End}
-use Rattle.comp_grammar.specs.Components.{preamble, section, sections, all_sections, component, SpellsComponent}
-use Rattle.comp_grammar.proofs.ComponentLaws.{exact_sections, exact_component, spelled_once}
-use Rattle.comp_read.specs.Answers.{inside, StopsAt, MeetsTag, ReachesTooDeep, IsLongest, IsNoComponent, IsTheComponent}
+use Rattle.comp_grammar.specs.Components.{preamble, section, sections, all_sections, component}
+use Rattle.comp_grammar.proofs.ComponentLaws.{exact_sections, exact_component}
+use Rattle.comp_grammar.proofs.DepthLaws.{within, at_its_depth, spelled_once}
+use Rattle.comp_read.specs.Answers.{inside, StopsAt, MeetsTag, ReachesTooDeep, most_deep, SpellsReadable, IsLongest, IsNoComponent, IsTheComponent}
 use Rattle.comp_read.proofs.StopLaws.{IsOfSection, run_stopped, run_stop}
 
 abbrev pub whole_run : List ℕ → Run Tree
@@ -21,11 +22,21 @@ whole_run body = run (sections inside) (length body) End 0 8 body
 exact_inside : AreExact (sections inside)
 exact_inside = exact_sections inside (exact_component 99)
 
+-- a spelling in which at most so many components stand in one another
+abbrev pub Shallow : Tree → List ℕ → Type 0
+Shallow t text = (component most_deep).Spells 0 t text
+
+shallow : (t : Tree) (text : List ℕ) → SpellsReadable t text → Shallow t text
+shallow t text s = at_its_depth 0 t text most_deep s.1 s.0
+
+readable : (t : Tree) (text : List ℕ) → Shallow t text → SpellsReadable t text
+readable t text s = ((most_deep, s), within most_deep 0 t text s)
+
 -- a spelling of a component, in its parts
 abbrev pub Spelled : Tree → List ℕ → Type 0
 Spelled t text = (body : List ℕ) × (text ≡ preamble ++ body) × SpellsTo (sections inside) End 8 t body
 
-pub in_parts : (t : Tree) (text : List ℕ) → SpellsComponent t text → Spelled t text
+pub in_parts : (t : Tree) (text : List ℕ) → Shallow t text → Spelled t text
 unfolding component all_sections
 in_parts t text s =
     let pair = s.2 in
@@ -33,7 +44,7 @@ in_parts t text s =
     let to : SpellsTo (sections inside) End 8 s.0.1 pair.1 = subst (λ (x : List ℕ). SpellsTo (sections inside) End (0 + length x) s.0.1 pair.1) pair.2.1 pair.3 in
     (pair.1, split, subst (λ (u : Tree). SpellsTo (sections inside) End 8 u pair.1) (sym s.1) to)
 
-pub from_parts : (t : Tree) (text : List ℕ) → Spelled t text → SpellsComponent t text
+pub from_parts : (t : Tree) (text : List ℕ) → Spelled t text → Shallow t text
 unfolding component all_sections
 from_parts t text s = ((tt, t), refl {a = t}, (preamble, s.0, (refl {a = tt}, refl {a = preamble}), s.2, s.1))
 
@@ -50,7 +61,7 @@ err_not_ok r x d e h = cc
 err_is : {A : Type 0} (r : Result A Stop) (c d : Stop) → r ≡ Err c → r ≡ Err d → c ≡ d
 err_is r c d e h = cc
 
-spelled_is_ok : (bytes body : List ℕ) (t : Tree) → bytes ≡ preamble ++ body → SpellsComponent t bytes → (u : Tree) × ((whole_run body).outcome ≡ Ok u)
+spelled_is_ok : (bytes body : List ℕ) (t : Tree) → bytes ≡ preamble ++ body → Shallow t bytes → (u : Tree) × ((whole_run body).outcome ≡ Ok u)
 unfolding sections
 spelled_is_ok bytes body t e spelled_so =
     let s = in_parts t bytes spelled_so in
@@ -59,11 +70,11 @@ spelled_is_ok bytes body t e spelled_so =
     let spelled : SectionsSpell (sections inside) End 8 parts body = subst (λ (z : List ℕ). SectionsSpell (sections inside) End 8 parts z) same s.2.1 in
     (built (sections inside) End parts, run_all (sections inside) exact_inside parts (length body) End 0 8 body (omega arith) spelled refl)
 
-ok_spells : (bytes body : List ℕ) (t : Tree) → bytes ≡ preamble ++ body → (whole_run body).outcome ≡ Ok t → SpellsComponent t bytes
+ok_spells : (bytes body : List ℕ) (t : Tree) → bytes ≡ preamble ++ body → (whole_run body).outcome ≡ Ok t → Shallow t bytes
 ok_spells bytes body t e h = from_parts t bytes (body, e, run_ok (sections inside) exact_inside (length body) End 0 8 body t h)
 
 pub ok_is_the_component : (bytes body : List ℕ) (t : Tree) → bytes ≡ preamble ++ body → (whole_run body).outcome ≡ Ok t → IsTheComponent t bytes
-ok_is_the_component bytes body t e h = let s = ok_spells bytes body t e h in (s, λ u other. spelled_once u t bytes other s)
+ok_is_the_component bytes body t e h = let s = readable t bytes (ok_spells bytes body t e h) in (s, λ u other. spelled_once u t bytes other s.0)
 
 -- ---- stops
 
@@ -76,7 +87,7 @@ unfolding sections section
 depth_of_section = record { other = λ e. cc; not_at_end = λ s place e. cc }
 
 no_component : (bytes body : List ℕ) (stop : Stop) → bytes ≡ preamble ++ body → (whole_run body).outcome ≡ Err stop → IsNoComponent bytes
-no_component bytes body stop e h t s = let k = spelled_is_ok bytes body t e s in err_not_ok (whole_run body).outcome k.0 stop k.1 h
+no_component bytes body stop e h t s = let k = spelled_is_ok bytes body t e (shallow t bytes s) in err_not_ok (whole_run body).outcome k.0 stop k.1 h
 
 stopped : (bytes body : List ℕ) (stop : Stop) → IsOfSection (sections inside) stop → bytes ≡ preamble ++ body → (whole_run body).outcome ≡ Err stop → StopsAt stop bytes
 unfolding sections
@@ -104,16 +115,16 @@ too_nested_reaches bytes body e h =
 -- ---- the longest front
 
 -- a front of the bytes that is a component ends where the sections might have ended
-front_low : (bytes body : List ℕ) (n : ℕ) (t : Tree) → bytes ≡ preamble ++ body → n ≤ length bytes → SpellsComponent t (take n bytes) → n ≤ (whole_run body).good
+front_low : (bytes body : List ℕ) (n : ℕ) (t : Tree) → bytes ≡ preamble ++ body → n ≤ length bytes → SpellsReadable t (take n bytes) → n ≤ (whole_run body).good
 unfolding sections
 front_low bytes body n t e le spelled_so =
-    let s = in_parts t (take n bytes) spelled_so in
+    let s = in_parts t (take n bytes) (shallow t (take n bytes) spelled_so) in
     let back : bytes ≡ preamble ++ (s.0 ++ drop n bytes) = sym (take-append-drop n bytes) ∙ ap (λ (z : List ℕ). z ++ drop n bytes) s.1 ∙ append_assoc preamble s.0 (drop n bytes) in
     let split : body ≡ s.0 ++ drop n bytes = body_is body (s.0 ++ drop n bytes) (sym e ∙ back) in
     let w = run_longest (sections inside) exact_inside s.2.0 (length body) End 0 8 body s.0 (drop n bytes) (omega arith) (omega arith) (s.2.1, split, refl) in
     omega (arith, w, length-take n bytes, long (take n bytes) s.0 s.1)
 
-good_front : (bytes body : List ℕ) → bytes ≡ preamble ++ body → ((whole_run body).good ≡ 0) ⊎ ((t : Tree) × SpellsComponent t (take (whole_run body).good bytes))
+good_front : (bytes body : List ℕ) → bytes ≡ preamble ++ body → ((whole_run body).good ≡ 0) ⊎ ((t : Tree) × SpellsReadable t (take (whole_run body).good bytes))
 unfolding sections
 good_front bytes body e =
     elim (run_good (sections inside) exact_inside (length body) End 0 8 body) [
@@ -123,7 +134,7 @@ good_front bytes body e =
           let t = built (sections inside) End w.0 in
           let split : bytes ≡ (preamble ++ text) ++ w.2 = e ∙ ap (λ (z : List ℕ). preamble ++ z) w.3.1 ∙ sym (append_assoc preamble text w.2) in
           let front : take (whole_run body).good bytes ≡ preamble ++ text = ap (λ (n : ℕ). take n bytes) w.4 ∙ ap (take (8 + length text)) split ∙ take_at (preamble ++ text) w.2 (8 + length text) (length-append preamble text) in
-          inr (t, from_parts t (take (whole_run body).good bytes) (text, front, (w.0, w.3.0, refl, refl)))
+          inr (t, readable t (take (whole_run body).good bytes) (from_parts t (take (whole_run body).good bytes) (text, front, (w.0, w.3.0, refl, refl))))
     ]
 
 pub malformed_is_longest : (bytes body : List ℕ) (good : ℕ) → bytes ≡ preamble ++ body → whole_run body ≡ record { good = good; outcome = Err stops.Malformed }
@@ -132,7 +143,7 @@ malformed_is_longest bytes body good e h =
     let good-is : (whole_run body).good ≡ good = ap (λ (r : Run Tree). r.good) h in
     let failed : (whole_run body).outcome ≡ Err stops.Malformed = ap (λ (r : Run Tree). r.outcome) h in (
       (
-        subst (λ (n : ℕ). (n ≡ 0) ⊎ ((t : Tree) × SpellsComponent t (take n bytes))) good-is (good_front bytes body e),
+        subst (λ (n : ℕ). (n ≡ 0) ⊎ ((t : Tree) × SpellsReadable t (take n bytes))) good-is (good_front bytes body e),
         λ n t le s. omega (arith, front_low bytes body n t e le s, good-is),
       ),
       no_component bytes body stops.Malformed e failed,
@@ -142,8 +153,8 @@ malformed_is_longest bytes body good e h =
 
 pub none_without_preamble : (bytes : List ℕ) → ((rest : List ℕ) → bytes ≡ preamble ++ rest → ⊥) → IsLongest 0 bytes × IsNoComponent bytes × ((at byte : ℕ) → MeetsTag at byte bytes → ⊥) × (ReachesTooDeep bytes → ⊥)
 none_without_preamble bytes never = (
-  (inl refl, λ n t le h. let s = in_parts t (take n bytes) h in absurd (never (s.0 ++ drop n bytes) (sym (take-append-drop n bytes) ∙ ap (λ (z : List ℕ). z ++ drop n bytes) s.1 ∙ append_assoc preamble s.0 (drop n bytes)))),
-  λ t h. let s = in_parts t bytes h in never s.0 s.1,
+  (inl refl, λ n t le h. let s = in_parts t (take n bytes) (shallow t (take n bytes) h) in absurd (never (s.0 ++ drop n bytes) (sym (take-append-drop n bytes) ∙ ap (λ (z : List ℕ). z ++ drop n bytes) s.1 ∙ append_assoc preamble s.0 (drop n bytes)))),
+  λ t h. let s = in_parts t bytes (shallow t bytes h) in never s.0 s.1,
   λ at byte w. never (w.1 ++ w.2) w.3,
   λ w. never (w.1 ++ w.2) w.3,
 )

@@ -7,6 +7,7 @@ use Rattle.wasm_format.specs.Sections.{SectionsSpell}
 use Rattle.wasm_ast.specs.declared.component.Component.{Component}
 use Rattle.comp_grammar.specs.Trees.{Part, Tree, End, plain}
 use Rattle.comp_grammar.specs.Components.{preamble, section, sections, component, SpellsComponent}
+use Rattle.comp_grammar.specs.Depths.{depth_of}
 use Rattle.comp_read.specs.declared.reading.CompReadFault.{CompReadFault}
 use Rattle.comp_read.specs.declared.reading.CompReadFault.TheVariants.{Malformed, Unsupported, TooNested, NoMemory}
 
@@ -27,16 +28,24 @@ MeetsTag at byte text = StopsAt (stops.Unsupported at byte) text
 abbrev pub ReachesTooDeep : List ℕ → Type 0
 ReachesTooDeep text = StopsAt stops.TooNested text
 
+-- how deep components may stand in one another
+abbrev pub most_deep : ℕ
+most_deep = 100
+
+-- The bytes are a spelling of this component, which is at most so deep.
+abbrev pub SpellsReadable : Tree → List ℕ → Type 0
+SpellsReadable t text = SpellsComponent t text × (depth_of t ≤ most_deep)
+
 -- So many bytes at the front of the text are a component, and no more are; or none are, and the number is 0.
 abbrev pub IsLongest : ℕ → List ℕ → Type 0
-IsLongest at text = ((at ≡ 0) ⊎ ((t : Tree) × SpellsComponent t (take at text))) × ((n : ℕ) (t : Tree) → n ≤ length text → SpellsComponent t (take n text) → n ≤ at)
+IsLongest at text = ((at ≡ 0) ⊎ ((t : Tree) × SpellsReadable t (take at text))) × ((n : ℕ) (t : Tree) → n ≤ length text → SpellsReadable t (take n text) → n ≤ at)
 
 abbrev pub IsNoComponent : List ℕ → Type 0
-IsNoComponent text = (t : Tree) → SpellsComponent t text → ⊥
+IsNoComponent text = (t : Tree) → SpellsReadable t text → ⊥
 
--- The text is a spelling of this component, and of no other.
+-- The text is a spelling of this component, and of no other, however deep.
 abbrev pub IsTheComponent : Tree → List ℕ → Type 0
-IsTheComponent t text = SpellsComponent t text × ((u : Tree) → SpellsComponent u text → u ≡ t)
+IsTheComponent t text = SpellsReadable t text × ((u : Tree) → SpellsComponent u text → u ≡ t)
 
 abbrev pub Answers : Result Component CompReadFault → List ℕ → Type 0
 Answers (Ok c) text = IsTheComponent (plain c) text

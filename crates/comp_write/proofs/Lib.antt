@@ -2,6 +2,7 @@ pub mod FloatLaws
 pub mod FloatCore
 pub mod FloatItems
 pub mod LeastItems
+pub mod Bounds
 pub mod Bare
 pub mod SectionFloats
 pub mod SectionFits

@@ -10,9 +10,11 @@ use Rattle.comp_grammar.specs.CoreInstances.{core_instance}
 use Rattle.comp_grammar.specs.Items.{canon, component_import}
 use Rattle.comp_grammar.specs.TypeSections.{type_items}
 use Rattle.comp_grammar.specs.Components.{custom_in, core_module_in, nested_in, core_instances_in, instances_in, aliases_in, types_in, canons_in, imports_in, exports_in, custom, placed_module, placed, nested_section, low_section, high_section, section, sections, parts_of, all_sections, component}
-use Rattle.comp_write.specs.Copying.{bare_part, IsCopyable, MayWrite, IsWritable}
+use Rattle.comp_write.specs.Copying.{bare_part, IsWritable}
+use Rattle.comp_write.proofs.Bounds.{CopiesWithin, WritesWithin}
 use Rattle.comp_write.proofs.LeastItems.{least_core_instance, least_instance, least_alias, least_type_items, least_canon, least_component_import, least_component_export}
-use Rattle.comp_write.proofs.Bare.{built_is, parts_built, AreSame, same_parts}
+use Rattle.comp_grammar.proofs.BuiltLaws.{built_is, parts_built}
+use Rattle.comp_write.proofs.Bare.{AreSame, same_parts}
 
 -- what a section holds may be written
 abbrev pub PartFits : Part → Type 0
@@ -128,12 +130,12 @@ same_fit [] (q ∷ qs) e h = absurd e
 same_fit (p ∷ ps) [] e h = tt
 same_fit (p ∷ ps) (q ∷ qs) e h = (from_bare q (subst PartFits e.0 (into_bare p h.0)), same_fit ps qs e.1 h.1)
 
-pub all_fit : (depth : ℕ) (source : List ℕ) (t : Tree) → MayWrite depth source t → AllByRecursion PartFits (parts_of t)
+pub all_fit : (depth : ℕ) (source : List ℕ) (t : Tree) → WritesWithin depth source t → AllByRecursion PartFits (parts_of t)
 all_fit depth source t h =
     let s = h.spelled.2 in
     same_fit (parts_of s.0) (parts_of t) (same_parts s.0 t s.2) (tree_fits (suc depth) 0 s.0 h.spelled.0 h.spelled.1 s.1)
 
-writable : (depth : ℕ) (source : List ℕ) (p : Part) → IsCopyable depth source p → PartFits p → IsWritable source p
+writable : (depth : ℕ) (source : List ℕ) (p : Part) → CopiesWithin depth source p → PartFits p → IsWritable source p
 writable depth source (Custom span) c h = c.0
 writable depth source (CoreModule span m) c h = c.0
 writable depth source (Nested span inner) c h = c.0
@@ -145,9 +147,9 @@ writable depth source (Canons items) c h = h
 writable depth source (Imports items) c h = h
 writable depth source (Exports items) c h = h
 
-all_writable : (depth : ℕ) (source : List ℕ) (parts : List Part) → AllByRecursion (IsCopyable depth source) parts → AllByRecursion PartFits parts → AllByRecursion (IsWritable source) parts
+all_writable : (depth : ℕ) (source : List ℕ) (parts : List Part) → AllByRecursion (CopiesWithin depth source) parts → AllByRecursion PartFits parts → AllByRecursion (IsWritable source) parts
 all_writable depth source [] c h = tt
 all_writable depth source (p ∷ parts) c h = (writable depth source p c.0 h.0, all_writable depth source parts c.1 h.1)
 
-pub may_be_written : (depth : ℕ) (source : List ℕ) (t : Tree) → MayWrite depth source t → AllByRecursion (IsWritable source) (parts_of t)
+pub may_be_written : (depth : ℕ) (source : List ℕ) (t : Tree) → WritesWithin depth source t → AllByRecursion (IsWritable source) (parts_of t)
 may_be_written depth source t h = all_writable depth source (parts_of t) h.copied (all_fit depth source t h)

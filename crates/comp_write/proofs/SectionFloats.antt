@@ -6,11 +6,13 @@ use Rattle.wasm_ast.specs.declared.component.Span.{Span}
 use Rattle.wasm_ast.specs.declared.module.Module.{Module}
 use Rattle.comp_grammar.specs.Trees.{Part, Tree, CoreModule, Nested, Custom, End}
 use Rattle.comp_grammar.specs.Components.{no_span, add, custom_in, core_module_in, beside, span_of, custom, placed_module, placed, nested_section, low_section, high_section, section, sections, all_sections, component}
-use Rattle.comp_write.specs.Copying.{bare_part, bare, SpellsBare}
+use Rattle.comp_write.specs.Copying.{bare_part, bare}
+use Rattle.comp_write.proofs.Bounds.{SpellsWithin}
 use Rattle.comp_write.proofs.FloatLaws.{IsFloating, floating_u32, floating_sized, floating_vec}
 use Rattle.comp_write.proofs.FloatCore.{floating_note, floating_core_module}
 use Rattle.comp_write.proofs.FloatItems.{floating_core_instance, floating_instance, floating_alias, floating_type_items, floating_canon, floating_component_import, floating_component_export}
-use Rattle.comp_write.proofs.Bare.{built_is, AreSame, same_built}
+use Rattle.comp_grammar.proofs.BuiltLaws.{built_is}
+use Rattle.comp_write.proofs.Bare.{AreSame, same_built}
 
 -- a spelling of the same section at another offset
 abbrev pub Floated : Format Part → ℕ → Part → List ℕ → Type 0
@@ -114,7 +116,7 @@ component_moves (suc depth) at to u text s =
     )
 
 -- at every offset the same bytes spell the component, up to places
-pub moved_to : (depth at to : ℕ) (t : Tree) (text : List ℕ) → SpellsBare depth at t text → SpellsBare depth to t text
+pub moved_to : (depth at to : ℕ) (t : Tree) (text : List ℕ) → SpellsWithin depth at t text → SpellsWithin depth to t text
 moved_to depth at to t text s =
     let w = component_moves depth at to s.0 text s.1 in
     (w.0, w.1, w.2 ∙ s.2)

@@ -16,9 +16,11 @@ use Rattle.comp_grammar.specs.Components.{no_span, add, beside, span_of, custom,
 use Rattle.comp_grammar.proofs.CoreInstanceLaws.{exact_core_instance}
 use Rattle.comp_grammar.proofs.ItemLaws.{exact_canon, exact_component_import}
 use Rattle.comp_grammar.proofs.TypeSectionLaws.{exact_type_items}
-use Rattle.comp_write.specs.Copying.{bare_part, bare, SpellsBare, cut, LiesIn, IsCopyable, MayWrite, section_bytes, all_bytes, component_bytes}
+use Rattle.comp_write.specs.Copying.{bare_part, bare, cut, LiesIn, section_bytes, all_bytes, component_bytes}
+use Rattle.comp_write.proofs.Bounds.{SpellsWithin, CopiesWithin, WritesWithin}
 use Rattle.comp_write.proofs.FloatCore.{floating_note, floating_core_module}
-use Rattle.comp_write.proofs.Bare.{built_is, built_again, AreSame, same_built}
+use Rattle.comp_grammar.proofs.BuiltLaws.{built_is, built_again}
+use Rattle.comp_write.proofs.Bare.{AreSame, same_built}
 use Rattle.comp_write.proofs.SectionFloats.{Floated, moved_to}
 use Rattle.comp_write.proofs.SectionFits.{PartFits, all_fit}
 
@@ -26,7 +28,7 @@ cut_fits : (span : Span) (source : List ℕ) → LiesIn span source → u32_form
 cut_fits span source h = u32_fits (length (cut span source)) (omega (arith, h.2, length-take (span.to - span.from) (drop span.from source)))
 
 -- one section, as it is written
-part_written : (depth : ℕ) (source : List ℕ) (p : Part) → IsCopyable depth source p → PartFits p → (at : ℕ) → Floated (section (component depth)) at p (section_bytes source p)
+part_written : (depth : ℕ) (source : List ℕ) (p : Part) → CopiesWithin depth source p → PartFits p → (at : ℕ) → Floated (section (component depth)) at p (section_bytes source p)
 unfolding section low_section high_section nested_section custom placed_module placed bare_part
 part_written depth source (Custom span) c h at =
     let bytes : List ℕ = cut span source in
@@ -55,7 +57,7 @@ part_written depth source (Canons items) c h at = (Canons items, (items, refl, (
 part_written depth source (Imports items) c h at = (Imports items, (items, refl, (exact_sized _ (to_end _ (exact_vec component_import exact_component_import))).written items (at + 1) h), refl)
 part_written depth source (Exports items) c h at = (Exports items, (items, refl, (exact_sized _ (to_end _ (exact_vec component_export exact_component_export))).written items (at + 1) h), refl)
 
-parts_written : (depth : ℕ) (source : List ℕ) (parts : List Part) → AllByRecursion (IsCopyable depth source) parts → AllByRecursion PartFits parts → (s : Tree) (at : ℕ)
+parts_written : (depth : ℕ) (source : List ℕ) (parts : List Part) → AllByRecursion (CopiesWithin depth source) parts → AllByRecursion PartFits parts → (s : Tree) (at : ℕ)
     → (placed : List Part) × SectionsSpell (sections (component depth)) s at placed (all_bytes source parts) × AreSame placed parts
 unfolding sections
 parts_written depth source [] c h s at = ([], refl, tt)
@@ -64,7 +66,7 @@ parts_written depth source (p ∷ parts) c h s at =
     let rest = parts_written depth source parts c.1 h.1 (add s one.0) (at + length (section_bytes source p)) in
     (one.0 ∷ rest.0, (section_bytes source p, all_bytes source parts, one.1, rest.1, refl), (one.2, rest.2))
 
-pub spells : (depth : ℕ) (source : List ℕ) (t : Tree) → MayWrite depth source t → SpellsBare (suc depth) 0 t (component_bytes source t)
+pub spells : (depth : ℕ) (source : List ℕ) (t : Tree) → WritesWithin depth source t → SpellsWithin (suc depth) 0 t (component_bytes source t)
 unfolding component all_sections sections
 spells depth source t h =
     let inner : Format Tree = component depth in

@@ -1,6 +1,6 @@
 -- Writing components (Component Model, Binary.md, "Component Definitions"). Each section is written in its shortest spelling, but for
 -- nested modules, nested components and custom sections: their bytes are copied, unread, from the input where they stand.
-use Rattle.std.specs.Prelude.{◌≡◌, ℕ, suc, ◌-◌, ◌<◌, ◌≤◌, ◌^◌, List, [], ◌∷◌, ◌++◌, length, take, drop}
+use Rattle.std.specs.Prelude.{◌≡◌, ℕ, ◌-◌, ◌<◌, ◌≤◌, ◌^◌, List, [], ◌∷◌, ◌++◌, length, take, drop}
 use Rattle.std.specs.List.{AllByRecursion}
 use Rattle.wasm_format.specs.Format.{AreBytes, vec, sized, anything}
 use Rattle.wasm_ast.specs.declared.component.Span.{Span}
@@ -10,7 +10,7 @@ use Rattle.comp_grammar.specs.Trees.{Part, Tree, CoreModule, Nested, CoreInstanc
 use Rattle.comp_grammar.specs.CoreInstances.{core_instance}
 use Rattle.comp_grammar.specs.Items.{canon, component_import}
 use Rattle.comp_grammar.specs.TypeSections.{type_items}
-use Rattle.comp_grammar.specs.Components.{no_span, parts_of, preamble, component}
+use Rattle.comp_grammar.specs.Components.{no_span, parts_of, preamble, SpellsAt}
 
 -- ---- components up to the places where their parts stand
 
@@ -31,10 +31,9 @@ unfoldable mutual
   bare End = End
   bare (More part rest) = More (bare_part part) (bare rest)
 
--- The bytes, which stand at this offset, are a spelling of the component, up to the places where its parts stand; at most so many
--- components stand in one another.
-abbrev pub SpellsBare : ℕ → ℕ → Tree → List ℕ → Type 0
-SpellsBare depth at t text = (u : Tree) × (component depth).Spells at u text × (bare u ≡ bare t)
+-- The bytes, which stand at this offset, are a spelling of the component, up to the places where its parts stand.
+abbrev pub SpellsBare : ℕ → Tree → List ℕ → Type 0
+SpellsBare at t text = (u : Tree) × SpellsAt at u text × (bare u ≡ bare t)
 
 -- ---- what is copied
 
@@ -46,24 +45,23 @@ cut span source = take (span.to - span.from) (drop span.from source)
 abbrev pub LiesIn : Span → List ℕ → Type 0
 LiesIn span source = (span.from ≤ span.to) × (span.to ≤ length source) × (span.to - span.from < 2 ^ 32)
 
--- What a section copies lies in the input, and is a spelling of what stands with it; components in it are at most so deep.
-abbrev pub IsCopyable : ℕ → List ℕ → Part → Type 0
-IsCopyable depth source (CoreModule span m) = LiesIn span source × core_module.Spells span.from m (cut span source)
-IsCopyable depth source (Nested span inner) = LiesIn span source × SpellsBare depth span.from inner (cut span source)
-IsCopyable depth source (Custom span) = LiesIn span source × note.Spells span.from tt (cut span source)
-IsCopyable depth source (CoreInstances items) = Unit {0}
-IsCopyable depth source (Instances items) = Unit {0}
-IsCopyable depth source (Aliases items) = Unit {0}
-IsCopyable depth source (Types items) = Unit {0}
-IsCopyable depth source (Canons items) = Unit {0}
-IsCopyable depth source (Imports items) = Unit {0}
-IsCopyable depth source (Exports items) = Unit {0}
+-- What a section copies lies in the input, and is a spelling of what stands with it.
+abbrev pub IsCopyable : List ℕ → Part → Type 0
+IsCopyable source (CoreModule span m) = LiesIn span source × core_module.Spells span.from m (cut span source)
+IsCopyable source (Nested span inner) = LiesIn span source × SpellsBare span.from inner (cut span source)
+IsCopyable source (Custom span) = LiesIn span source × note.Spells span.from tt (cut span source)
+IsCopyable source (CoreInstances items) = Unit {0}
+IsCopyable source (Instances items) = Unit {0}
+IsCopyable source (Aliases items) = Unit {0}
+IsCopyable source (Types items) = Unit {0}
+IsCopyable source (Canons items) = Unit {0}
+IsCopyable source (Imports items) = Unit {0}
+IsCopyable source (Exports items) = Unit {0}
 
--- The component may be written: some bytes spell it, and what is copied is a spelling of what stands with it. Components in it are at
--- most so deep.
-pub record MayWrite (depth : ℕ) (source : List ℕ) (t : Tree) : Type 0 where
-  pub spelled : (text : List ℕ) × AreBytes text × SpellsBare (suc depth) 0 t text
-  pub copied : AllByRecursion (IsCopyable depth source) (parts_of t)
+-- The component may be written: some bytes spell it, and what is copied is a spelling of what stands with it.
+pub record MayWrite (source : List ℕ) (t : Tree) : Type 0 where
+  pub spelled : (text : List ℕ) × AreBytes text × SpellsBare 0 t text
+  pub copied : AllByRecursion (IsCopyable source) (parts_of t)
 
 -- ---- what is written
 

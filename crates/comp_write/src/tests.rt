@@ -1,7 +1,7 @@
 ghost use Rattle.std.specs.Prelude.{◌<◌, ◌^◌, length};
 ghost use Rattle.wasm_format.specs.Format.{AreBytes};
 ghost use Rattle.comp_grammar.specs.Trees.{plain};
-ghost use Rattle.comp_grammar.specs.Components.{SpellsComponent};
+ghost use Rattle.comp_read.specs.Answers.{SpellsReadable};
 
 use crate::writing::write_component;
 use comp_read::read_component;
@@ -15,7 +15,7 @@ use wasm_ast::Component;
 fn written(alloc: Global, component: &Component, bytes: &[u8]) -> Result<Vec<u8>, NoMemory>
     requires bytes { AreBytes bytes.now }
     requires few { length bytes.now < 2 ^ 32 }
-    requires read { SpellsComponent (plain component.now) bytes.now }
+    requires read { SpellsReadable (plain component.now) bytes.now }
 {
     write_component(alloc, component, bytes)
 }

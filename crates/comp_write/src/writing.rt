@@ -1,6 +1,7 @@
-ghost use Rattle.std.specs.Prelude.{◌≡◌, ℕ, suc, IfOk};
-ghost use Rattle.comp_grammar.specs.Trees.{plain};
-ghost use Rattle.comp_write.specs.Copying.{MayWrite, SpellsBare, component_bytes};
+ghost use Rattle.std.specs.Prelude.{◌≡◌, IfOk};
+ghost use Rattle.comp_grammar.specs.Trees.{Tree, plain};
+ghost use Rattle.comp_grammar.specs.Components.{SpellsComponent};
+ghost use Rattle.comp_write.specs.Copying.{MayWrite, SpellsBare, bare, component_bytes};
 
 use crate::sections::put_sections;
 use std::alloc::Global;
@@ -19,8 +20,9 @@ pub fn write_component(
     component: &Component,
     source: &[u8],
 ) -> Result<Vec<u8>, NoMemory>
-    requires { (depth : ℕ) × MayWrite depth source.now (plain component.now) }
-    ensures spelled { IfOk result (λ out. (depth : ℕ) → MayWrite depth source.now (plain component.now) → SpellsBare (suc depth) 0 (plain component.now) out.items) }
+    requires { MayWrite source.now (plain component.now) }
+    ensures spelled { IfOk result (λ out. SpellsBare 0 (plain component.now) out.items) }
+    ensures read_back { IfOk result (λ out. (u : Tree) → SpellsComponent u out.items → bare u ≡ bare (plain component.now)) }
     ensures written { IfOk result (λ out. out.items ≡ component_bytes source.now (plain component.now)) }
 {
     let mut out = Vec::new(alloc);
