@@ -1,4 +1,5 @@
 pub mod Adding
 pub mod ConstantGrammar
 pub mod Outputs
+pub mod WordLaws
 pub mod Runs

@@ -141,6 +141,19 @@ ran_usage words s k l result none r silent = record {
   quiet = λ told steady no fits. refl;
 }
 
+-- no memory for the words
+
+pub ran_memory : (words : List (List ℕ)) (s : FilesState) (k : SinkState) → Ran words s s k k NoMemory
+ran_memory words s k = record {
+  goes = record { later = omega arith; told = refl; steady = λ h. h };
+  due = NoMemory;
+  text = [];
+  files = (refl, refl);
+  report = inr (refl, refl);
+  kept = λ h. (refl, refl);
+  quiet = λ told steady no fits. refl;
+}
+
 -- ---- what follows: the status that the contents call for
 
 put_of : (due : Status) (text : List ℕ) (k l : SinkState) (result : Status) → Reports due text k l result → ¬ (Rose k.faults l.faults) → (result ≡ due) ⊎ (result ≡ NoMemory)

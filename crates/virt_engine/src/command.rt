@@ -1,7 +1,8 @@
-ghost use Rattle.std.specs.Prelude.{◌≡◌, option_map};
-ghost use Rattle.virt_engine.specs.Command.{command_of, names_of};
+ghost use Rattle.virt_engine.specs.Command.{Reads, command_of};
 
+use std::alloc::Global;
 use virt_base::Text;
+use virt_words::{Command, VirtWords, WordsFault, read_words};
 
 /// The names that a call of `virt` works on.
 #[derive(Clone, Copy)]
@@ -11,16 +12,14 @@ pub struct Names<'a> {
     pub out: &'a Text,
 }
 
-/// The names in the words `virt APP -p POLICY -o OUT`; none where the words are others.
-pub fn names_in<'a>(words: &'a [Text]) -> Option<Names<'a>>
-    ensures { option_map names_of result ≡ command_of words.now }
+/// What `virt` is to work on. For now the other commands are refused as words that give none.
+pub fn virt_in(alloc: Global, words: &[Text]) -> Result<VirtWords, WordsFault>
+    ensures { Reads (command_of words.now) result }
 {
-    let [action, app, p, policy, o, out] = words else {
-        return None;
-    };
-    if action.as_str() == "virt" && p.as_str() == "-p" && o.as_str() == "-o" {
-        Some(Names { app, policy, out })
-    } else {
-        None
+    match read_words(alloc, words) {
+        Ok(Command::Virt(names)) => Ok(names),
+        Ok(Command::Run(_)) => Err(WordsFault::Usage),
+        Ok(Command::Gen(_)) => Err(WordsFault::Usage),
+        Err(fault) => Err(fault),
     }
 }

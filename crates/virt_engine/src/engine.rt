@@ -2,13 +2,14 @@ ghost use Rattle.std.specs.Prelude.{◌≡◌, true};
 ghost use Rattle.virt_engine.specs.Command.{names_of};
 ghost use Rattle.virt_engine.specs.Plan.{Ran, RanCommand, Finishes, Completes, Accepts, Delivers};
 
-use crate::command::{Names, names_in};
+use crate::command::{Names, virt_in};
 use crate::plan::{Ready, plan};
 use crate::report::{put_text, refuse};
 use crate::status::Status;
 use crate::write_out::write_out;
 use std::alloc::Global;
 use virt_base::{Files, Sink, Text};
+use virt_words::{VirtWords, WordsFault};
 
 /// Writes the output, and puts the text of what came of it.
 fn finish<F: Files, S: Sink>(ready: Ready, name: &Text, files: &mut F, out: &mut S) -> Status
@@ -46,15 +47,29 @@ fn run<F: Files, S: Sink>(alloc: Global, names: Names<'_>, files: &mut F, out: &
 fn run_words<F: Files, S: Sink>(alloc: Global, words: &[Text], files: &mut F, out: &mut S) -> Status
     ensures { Ran words.now (F.state files.old) (F.state files.new) (S.state out.old) (S.state out.new) result }
 {
-    match names_in(words) {
-        Some(names) => run(alloc, names, files, out),
-        None => refuse(alloc, Status::Usage, out),
+    match virt_in(alloc, words) {
+        Ok(
+            VirtWords {
+                app,
+                policy,
+                out: name,
+            },
+        ) => {
+            let names = Names {
+                app: &app,
+                policy: &policy,
+                out: &name,
+            };
+            run(alloc, names, files, out)
+        }
+        Err(WordsFault::Usage) => refuse(alloc, Status::Usage, out),
+        Err(WordsFault::NoMemory) => Status::NoMemory,
     }
 }
 
-/// Does what the words behind the program's name say: `virt APP -p POLICY -o OUT`, in this order, writes to OUT the
-/// component APP in its adapter, and puts one line that says what came of it. For now APP has the constant's form, and
-/// POLICY holds no bytes.
+/// Does what the words behind the program's name say: `virt APP -p POLICY -o OUT`, the options in any order and form,
+/// writes to OUT the component APP in its adapter, and puts one line that says what came of it. For now APP has the
+/// constant's form, and POLICY holds no bytes; other commands are usage errors.
 pub fn wasi_virt<F: Files, S: Sink>(
     alloc: Global,
     words: &[Text],
