@@ -15,11 +15,11 @@ word_suc_list [] (suc at) (suc n) = refl
 word_suc_list (x ∷ m) zero n = refl
 word_suc_list (x ∷ m) (suc at) n = word_suc_list m at n
 
-word_suc : (m : List ℕ) (at n : ℕ) → word m at (suc n) ≡ get_or m at 0 + 256 * word m (at + 1) n
+pub word_suc : (m : List ℕ) (at n : ℕ) → word m at (suc n) ≡ get_or m at 0 + 256 * word m (at + 1) n
 unfolding word
 word_suc m at n = let e : at + 1 ≡ suc at = omega arith in word_suc_list m at n ∙ ap (λ k. get_or m at 0 + 256 * number (take n (drop k m))) (sym e)
 
-word_none : (m : List ℕ) (at : ℕ) → word m at 0 ≡ 0
+pub word_none : (m : List ℕ) (at : ℕ) → word m at 0 ≡ 0
 unfolding word
 word_none m at = refl
 

@@ -1,0 +1,5 @@
+pub mod Places
+pub mod Bytes
+pub mod Takes
+pub mod Frees
+pub mod Zeros

@@ -1,0 +1,8 @@
+//! Slot tables in the bytes of a memory, and the routines that take and free their places.
+#![tactic(auto)]
+
+mod entry;
+mod laws;
+
+pub use entry::Entry;
+pub use laws::{free_frees, take_takes, zeros_are_free};
