@@ -1,5 +1,6 @@
 -- Bounds on alignments and sizes, and layout by the lists of a type's parts.
-use Rattle.std.proofs.Common.{◌≡◌, ◌≤◌, ◌+◌, ◌*◌, ◌-◌, ℕ, max, arith, List, [], ◌∷◌, length, Option, Some, None, Box, Global, refl}
+use Rattle.std.proofs.Common.{◌≡◌, ◌≤◌, ◌+◌, ◌*◌, ◌-◌, ℕ, max, arith, List, [], ◌∷◌, length, Option, Some, None, Global, refl}
+use Rattle.std.specs.declared.rc.Rc.{Rc}
 use Rattle.std.proofs.lemmas.Bool.Decides.{nat_tests}
 use Rattle.wit_types.specs.declared.types.Case.{Case, out-Case}
 use Rattle.wit_types.specs.declared.types.Field.{Field}
@@ -150,19 +151,19 @@ greatest_alignment-case_part name (Some t) rest = omega (arith, greatest_alignme
 
 -- ---- the parts of a type's parts are no more
 
-pub few-Record : (ty : WitType) (fs : Fields) (xs : List Field) (n : ℕ) → ty ≡ Record fs → xs ≡ (out-Fields fs).items.items → parts (plain ty) ≤ n → all_parts (fields_of xs) ≤ n
-few-Record ty fs xs n is same few = rw same (let h = rw (is, plain-Record) at few in omega arith)
+pub few-Record : (ty : WitType) (fs : Rc Fields Global) (f : Fields) (xs : List Field) (n : ℕ) → ty ≡ Record fs → f ≡ fs.value → xs ≡ (out-Fields f).items.items → parts (plain ty) ≤ n → all_parts (fields_of xs) ≤ n
+few-Record ty fs f xs n is held same few = rw (same, held) (let h = rw (is, plain-Record) at few in omega arith)
 
-pub few-Tuple : (ty : WitType) (ts : Types) (xs : List WitType) (n : ℕ) → ty ≡ Tuple ts → xs ≡ ts.items.items → parts (plain ty) ≤ n → all_parts (types_of xs) ≤ n
-few-Tuple ty ts xs n is same few = rw same (let h = rw (is, plain-Tuple) at few in omega arith)
+pub few-Tuple : (ty : WitType) (ts : Rc Types Global) (t : Types) (xs : List WitType) (n : ℕ) → ty ≡ Tuple ts → t ≡ ts.value → xs ≡ t.items.items → parts (plain ty) ≤ n → all_parts (types_of xs) ≤ n
+few-Tuple ty ts t xs n is held same few = rw (same, held) (let h = rw (is, plain-Tuple) at few in omega arith)
 
-pub few-Variant : (ty : WitType) (cs : Cases) (xs : List Case) (n : ℕ) → ty ≡ Variant cs → xs ≡ (out-Cases cs).items.items → parts (plain ty) ≤ n → all_parts (cases_of xs) ≤ n
-few-Variant ty cs xs n is same few = rw same (let h = rw (is, plain-Variant) at few in omega arith)
+pub few-Variant : (ty : WitType) (cs : Rc Cases Global) (c : Cases) (xs : List Case) (n : ℕ) → ty ≡ Variant cs → c ≡ cs.value → xs ≡ (out-Cases c).items.items → parts (plain ty) ≤ n → all_parts (cases_of xs) ≤ n
+few-Variant ty cs c xs n is held same few = rw (same, held) (let h = rw (is, plain-Variant) at few in omega arith)
 
-pub few-Option : (ty : WitType) (b : Box WitType Global) (n : ℕ) → ty ≡ Optional b → parts (plain ty) ≤ n → parts (plain b.value) ≤ n
+pub few-Option : (ty : WitType) (b : Rc WitType Global) (n : ℕ) → ty ≡ Optional b → parts (plain ty) ≤ n → parts (plain b.value) ≤ n
 few-Option ty b n is few = let h = rw (is, plain-Option) at few in omega arith
 
-pub few-Result : (ty : WitType) (ok err : Option (Box WitType Global)) (n : ℕ) → ty ≡ Results ok err → parts (plain ty) ≤ n → (all_parts (case_part [] (payload_of ok) End) ≤ n) × (all_parts (case_part [] (payload_of err) End) ≤ n)
+pub few-Result : (ty : WitType) (ok err : Option (Rc WitType Global)) (n : ℕ) → ty ≡ Results ok err → parts (plain ty) ≤ n → (all_parts (case_part [] (payload_of ok) End) ≤ n) × (all_parts (case_part [] (payload_of err) End) ≤ n)
 few-Result ty ok err n is few = let h = rw (is, plain-Result, all_parts-case_part) at few in (omega arith, omega arith)
 
 -- ---- two payloads
@@ -180,13 +181,13 @@ count-two (Some t) None = refl
 count-two (Some t) (Some u) = refl
 
 -- the size and alignment of a result
-pub result_size : (ty : WitType) (ok err : Option (Box WitType Global)) → ty ≡ Results ok err → (d a s : ℕ) → d ≡ 2 →
+pub result_size : (ty : WitType) (ok err : Option (Rc WitType Global)) → ty ≡ Results ok err → (d a s : ℕ) → d ≡ 2 →
     s ≡ max (greatest_size (case_part [] (payload_of ok) End)) (greatest_size (case_part [] (payload_of err) End)) →
     a ≡ max (greatest_alignment (case_part [] (payload_of ok) End)) (greatest_alignment (case_part [] (payload_of err) End)) →
     variant_size (discriminant_size d) a s ≡ size (plain ty)
 result_size ty ok err is d a s two size_is align_is = rw (is, plain-Result, count-two, greatest_size-two, greatest_alignment-two, two, size_is, align_is) refl
 
-pub result_alignment : (ty : WitType) (ok err : Option (Box WitType Global)) → ty ≡ Results ok err → (d a : ℕ) → d ≡ 2 →
+pub result_alignment : (ty : WitType) (ok err : Option (Rc WitType Global)) → ty ≡ Results ok err → (d a : ℕ) → d ≡ 2 →
     a ≡ max (greatest_alignment (case_part [] (payload_of ok) End)) (greatest_alignment (case_part [] (payload_of err) End)) →
     max (discriminant_size d) a ≡ alignment (plain ty)
 result_alignment ty ok err is d a two align_is = rw (is, plain-Result, count-two, greatest_alignment-two, two, align_is) refl

@@ -7,6 +7,7 @@ ghost use Rattle.wit_types.specs.Layout.{join_one, join, flat_fields, flat_cases
 ghost use Rattle.abi_layout.specs.Flat.{within, types_of, append_within, join_within};
 
 use crate::flat_types::Flat;
+use std::rc::Rc;
 use virt_base::CoreType;
 use wit_types::{Case, Field, WitType};
 
@@ -93,7 +94,7 @@ fn variant(payloads: &Flat) -> Flat
 }
 
 #[cycle(flatten)]
-fn flatten_payload(ty: &Option<Box<WitType>>) -> Flat
+fn flatten_payload(ty: &Option<Rc<WitType>>) -> Flat
     ensures { types_of result ≡ within (flat_cases (case_part [] (payload_of ty.now) End)) }
 {
     match ty {

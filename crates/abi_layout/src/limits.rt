@@ -4,10 +4,11 @@ ghost use Rattle.std.specs.Prelude.{◌≤◌, ◌-◌, ◌↔◌, IsTrue, SomeI
 ghost use Rattle.wit_types.specs.Plain.{plain, payload_of, case_part, fields_of, types_of, cases_of, End};
 ghost use Rattle.wit_types.specs.Limits.{parts, all_parts, IsSmall};
 
+use std::rc::Rc;
 use wit_types::{Case, Field, WitType};
 
 #[cycle(left_of)]
-fn left_of_payload(ty: &Option<Box<WitType>>, left: u32) -> Option<u32>
+fn left_of_payload(ty: &Option<Rc<WitType>>, left: u32) -> Option<u32>
     ensures { SomeIff result (all_parts (case_part [] (payload_of ty.now) End) ≤ left) (left - all_parts (case_part [] (payload_of ty.now) End)) }
 {
     match ty {

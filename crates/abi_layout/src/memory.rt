@@ -5,6 +5,7 @@ ghost use Rattle.wit_types.specs.Plain.{plain, payload_of, case_part, fields_of,
 ghost use Rattle.wit_types.specs.Layout.{alignment, greatest_alignment, flags_size, discriminant_size, align_to, size, end_of, greatest_size, variant_size, align_of, size_of};
 ghost use Rattle.wit_types.specs.Limits.{parts, all_parts, IsSmall};
 
+use std::rc::Rc;
 use wit_types::{Case, Field, WitType};
 
 /// The bytes that a value takes, and its alignment: a power of two, of which each place of it is a multiple.
@@ -90,7 +91,7 @@ fn greater(one: Layout, other: Layout) -> Layout
 }
 
 #[cycle(layout_of)]
-fn layout_of_payload(ty: &Option<Box<WitType>>) -> Layout
+fn layout_of_payload(ty: &Option<Rc<WitType>>) -> Layout
     requires { all_parts (case_part [] (payload_of ty.now) End) ≤ 1000000 }
     ensures size { result.size ≡ greatest_size (case_part [] (payload_of ty.now) End) }
     ensures align { result.align ≡ greatest_alignment (case_part [] (payload_of ty.now) End) }

@@ -3,6 +3,7 @@
 use abi_layout::{align, flatten, is_small, layout_of, size};
 use std::alloc::Global;
 use std::process::Abort;
+use std::rc::Rc;
 use std::test::Fail;
 use virt_base::CoreType::{self, I32, I64};
 use virt_base::{Items, NoMemory, Text};
@@ -16,8 +17,8 @@ fn labels(alloc: Global, count: usize) -> Result<Labels, NoMemory> {
     Ok(all)
 }
 
-fn tuple(items: Vec<WitType>) -> WitType {
-    WitType::Tuple(Types { items })
+fn tuple(alloc: Global, items: Vec<WitType>) -> Result<WitType, Fail> {
+    Ok(WitType::Tuple(Rc::new(alloc, Types { items })?))
 }
 
 fn record(alloc: Global, types: Vec<WitType>) -> Result<WitType, Fail> {
@@ -26,7 +27,7 @@ fn record(alloc: Global, types: Vec<WitType>) -> Result<WitType, Fail> {
         let name = Text::from_str(alloc, "f")?;
         items.push(Field { name, ty })?;
     }
-    Ok(WitType::Record(Fields { items }))
+    Ok(WitType::Record(Rc::new(alloc, Fields { items })?))
 }
 
 fn variant(alloc: Global, payloads: Vec<Option<WitType>>) -> Result<WitType, Fail> {
@@ -35,19 +36,19 @@ fn variant(alloc: Global, payloads: Vec<Option<WitType>>) -> Result<WitType, Fai
         let name = Text::from_str(alloc, "c")?;
         let ty = match payload {
             None => None,
-            Some(ty) => Some(Box::new(alloc, ty)?),
+            Some(ty) => Some(Rc::new(alloc, ty)?),
         };
         items.push(Case { name, ty })?;
     }
-    Ok(WitType::Variant(Cases { items }))
+    Ok(WitType::Variant(Rc::new(alloc, Cases { items })?))
 }
 
 fn option(alloc: Global, ty: WitType) -> Result<WitType, Fail> {
-    Ok(WitType::Option(Box::new(alloc, ty)?))
+    Ok(WitType::Option(Rc::new(alloc, ty)?))
 }
 
 fn result(alloc: Global, ok: WitType, err: WitType) -> Result<WitType, Fail> {
-    Ok(WitType::Result(Some(Box::new(alloc, ok)?), Some(Box::new(alloc, err)?)))
+    Ok(WitType::Result(Some(Rc::new(alloc, ok)?), Some(Rc::new(alloc, err)?)))
 }
 
 /// So many core types of one kind in a tuple.
@@ -56,7 +57,7 @@ fn words(alloc: Global, count: usize) -> Result<WitType, Fail> {
     for _ in 0..count {
         items.push(WitType::U32)?;
     }
-    Ok(tuple(items))
+    tuple(alloc, items)
 }
 
 fn expect_layout(rt: &impl Abort, ty: &WitType, bytes: u32, alignment: u32) {
@@ -109,7 +110,7 @@ fn types_without_parts(rt: HostRuntime) -> Result<(), Fail> {
         expect(&rt, &ty, 8, 8, &[I64]);
     }
     expect(&rt, &WitType::Str, 8, 4, &[I32, I32]);
-    let list = WitType::List(Box::new(alloc, WitType::U64)?);
+    let list = WitType::List(Rc::new(alloc, WitType::U64)?);
     expect(&rt, &list, 8, 4, &[I32, I32]);
     Ok(())
 }
@@ -120,7 +121,7 @@ fn flags_and_enums(rt: HostRuntime) -> Result<(), Fail> {
     for (count, bytes) in [(1, 1), (8, 1), (9, 2), (16, 2), (17, 4), (32, 4)] {
         expect(
             &rt,
-            &WitType::Flags(labels(alloc, count)?),
+            &WitType::Flags(Rc::new(alloc, labels(alloc, count)?)?),
             bytes,
             bytes,
             &[I32],
@@ -129,7 +130,7 @@ fn flags_and_enums(rt: HostRuntime) -> Result<(), Fail> {
     for (count, bytes) in [(1, 1), (256, 1), (257, 2), (65536, 2), (65537, 4)] {
         expect(
             &rt,
-            &WitType::Enum(labels(alloc, count)?),
+            &WitType::Enum(Rc::new(alloc, labels(alloc, count)?)?),
             bytes,
             bytes,
             &[I32],
@@ -146,8 +147,8 @@ fn records(rt: HostRuntime) -> Result<(), Fail> {
     let rounded = vec![in alloc; WitType::U64, WitType::U8]?;
     expect(&rt, &record(alloc, rounded)?, 16, 8, &[I64, I32]);
     let bytes = vec![in alloc; WitType::U8, WitType::Bool]?;
-    expect(&rt, &tuple(bytes), 2, 1, &[I32, I32]);
-    let inner = tuple(vec![in alloc; WitType::U8, WitType::U64]?);
+    expect(&rt, &tuple(alloc, bytes)?, 2, 1, &[I32, I32]);
+    let inner = tuple(alloc, vec![in alloc; WitType::U8, WitType::U64]?)?;
     let nested = vec![in alloc; WitType::U8, inner, WitType::U8]?;
     expect(&rt, &record(alloc, nested)?, 32, 8, &[I32, I32, I64, I32]);
     Ok(())
@@ -158,7 +159,7 @@ fn variants(rt: HostRuntime) -> Result<(), Fail> {
     let alloc = rt.alloc();
     let two = vec![in alloc; Some(WitType::U8), Some(WitType::U64)]?;
     expect(&rt, &variant(alloc, two)?, 16, 8, &[I32, I64]);
-    let three_bytes = tuple(vec![in alloc; WitType::U8, WitType::U8, WitType::U8]?);
+    let three_bytes = tuple(alloc, vec![in alloc; WitType::U8, WitType::U8, WitType::U8]?)?;
     let mixed = vec![in alloc; Some(WitType::U16), None, Some(three_bytes)]?;
     expect(&rt, &variant(alloc, mixed)?, 6, 2, &[I32, I32, I32, I32]);
     let bare = vec![in alloc; None, None]?;
@@ -180,7 +181,7 @@ fn options_and_results(rt: HostRuntime) -> Result<(), Fail> {
     let joined = result(alloc, WitType::U64, WitType::Str)?;
     expect(&rt, &joined, 16, 8, &[I32, I64, I32]);
     expect(&rt, &WitType::Result(None, None), 1, 1, &[I32]);
-    let ok = WitType::Result(Some(Box::new(alloc, WitType::U16)?), None);
+    let ok = WitType::Result(Some(Rc::new(alloc, WitType::U16)?), None);
     expect(&rt, &ok, 4, 2, &[I32, I32]);
     Ok(())
 }

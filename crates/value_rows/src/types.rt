@@ -1,6 +1,7 @@
 use std::alloc::Global;
 use std::fmt::Debug;
 use std::process::Abort;
+use std::rc::Rc;
 use std::test::Fail;
 use virt_base::{Items, NoMemory, Text};
 use wit_types::{
@@ -34,7 +35,7 @@ fn tuple(alloc: Global, first: WitType, second: WitType) -> Result<WitType, Fail
     let mut items = Vec::new(alloc);
     items.push(first)?;
     items.push(second)?;
-    Ok(WitType::Tuple(Types { items }))
+    Ok(WitType::Tuple(Rc::new(alloc, Types { items })?))
 }
 
 /// A case with a payload, and one without.
@@ -43,14 +44,14 @@ fn variant(alloc: Global, payload: WitType) -> Result<WitType, Fail> {
     let full = Text::from_str(alloc, "full")?;
     items.push(Case {
         name: full,
-        ty: Some(Box::new(alloc, payload)?),
+        ty: Some(Rc::new(alloc, payload)?),
     })?;
     let empty = Text::from_str(alloc, "empty")?;
     items.push(Case {
         name: empty,
         ty: None,
     })?;
-    Ok(WitType::Variant(Cases { items }))
+    Ok(WitType::Variant(Rc::new(alloc, Cases { items })?))
 }
 
 fn values(alloc: Global, first: Value, second: Value) -> Result<Values, Fail> {
@@ -67,15 +68,15 @@ fn case(alloc: Global, number: u32, payload: Value) -> Result<Value, Fail> {
 /// A type of each form that has parts, names or a number.
 fn built_type(alloc: Global, form: u32) -> Result<WitType, Fail> {
     match form {
-        0 => Ok(WitType::Record(fields(alloc, WitType::U8, WitType::Bool)?)),
+        0 => Ok(WitType::Record(Rc::new(alloc, fields(alloc, WitType::U8, WitType::Bool)?)?)),
         1 => tuple(alloc, WitType::U8, WitType::U8),
         2 => variant(alloc, WitType::U8),
-        3 => Ok(WitType::List(Box::new(alloc, WitType::U8)?)),
-        4 => Ok(WitType::Flags(labels(alloc, 9)?)),
-        5 => Ok(WitType::Enum(labels(alloc, 2)?)),
-        6 => Ok(WitType::Option(Box::new(alloc, WitType::U8)?)),
-        7 => Ok(WitType::Result(Some(Box::new(alloc, WitType::U8)?), None)),
-        8 => Ok(WitType::Result(None, Some(Box::new(alloc, WitType::U8)?))),
+        3 => Ok(WitType::List(Rc::new(alloc, WitType::U8)?)),
+        4 => Ok(WitType::Flags(Rc::new(alloc, labels(alloc, 9)?)?)),
+        5 => Ok(WitType::Enum(Rc::new(alloc, labels(alloc, 2)?)?)),
+        6 => Ok(WitType::Option(Rc::new(alloc, WitType::U8)?)),
+        7 => Ok(WitType::Result(Some(Rc::new(alloc, WitType::U8)?), None)),
+        8 => Ok(WitType::Result(None, Some(Rc::new(alloc, WitType::U8)?))),
         9 => Ok(WitType::Own(7)),
         _ => Ok(WitType::Borrow(8)),
     }

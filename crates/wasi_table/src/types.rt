@@ -1,10 +1,10 @@
 #![tactic(auto, using(wit_types::proofs::PlainLemmas::plains, crate::proofs::ItemLemmas::item_rules, crate::proofs::FunctionLemmas::function_rules))]
 
-ghost use Rattle.std.specs.Prelude.{◌≡◌, ◌++◌, IfOk, OnOk, map, option_map};
-ghost use Rattle.wit_types.specs.Plain.{End, Parts, plain, payload_of, fields_of, cases_of};
+ghost use Rattle.std.specs.Prelude.{◌≡◌, ◌++◌, IfOk, OnOk, Some, map, option_map};
+ghost use Rattle.wit_types.specs.Plain.{End, Parts, RecordType, VariantType, FlagsType, AsRecord, AsVariant, AsEnum, bare, plain, payload_of, fields_of, cases_of};
 ghost use Rattle.wit_types.specs.declared.types.Fields.{out-Fields};
 ghost use Rattle.wit_types.specs.declared.types.Cases.{out-Cases};
-ghost use Rattle.wasi_table.specs.Plain.{plain_known, plain_meaning};
+ghost use Rattle.wasi_table.specs.Plain.{IsType, plain_known, plain_meaning};
 ghost use Rattle.wasi_table.specs.Items.{plain_item};
 ghost use Rattle.wasi_table.specs.Types.{cases_in, case_in, fields_in, field_in, labelled, alias_of, resource_of, type_spelled, meaning_of};
 ghost use Rattle.wasi_table.specs.Texts.{lines_in, words_in, words_of};
@@ -16,6 +16,7 @@ use crate::items::Item;
 use crate::kinds::kind_of;
 use crate::words::{read, take_first, type_of};
 use std::alloc::Global;
+use std::rc::Rc;
 use virt_base::{Items, NoMemory, Text};
 use wit_types::{Case, Cases, Field, Fields, Labels, WitType};
 
@@ -35,11 +36,11 @@ fn payload_spelled(
     alloc: Global,
     known: &[Known],
     words: Rest,
-) -> Result<Option<Box<WitType>>, NoMemory>
+) -> Result<Option<Rc<WitType>>, NoMemory>
     ensures { IfOk result (λ ty. payload_of ty ≡ type_spelled (map plain_known known.now) (words_in words.entry)) }
 {
     match type_spelled(alloc, known, words)? {
-        Some(ty) => Ok(Some(Box::new(alloc, ty)?)),
+        Some(ty) => Ok(Some(Rc::new(alloc, ty)?)),
         None => Ok(None),
     }
 }
@@ -166,6 +167,34 @@ fn labels_in(alloc: Global, words: Rest) -> Result<Labels, NoMemory>
     Ok(labels)
 }
 
+fn record_of(alloc: Global, known: &[Known], lines: Rest) -> Result<Option<Meaning>, NoMemory>
+    ensures { IfOk result (λ m. option_map plain_meaning m ≡ Some (IsType (RecordType AsRecord (fields_in (map plain_known known.now) (lines_in lines.entry))))) }
+{
+    let fields = Rc::new(alloc, fields_in(alloc, known, lines)?)?;
+    Ok(Some(Meaning::Value(WitType::Record(fields))))
+}
+
+fn variant_of(alloc: Global, known: &[Known], lines: Rest) -> Result<Option<Meaning>, NoMemory>
+    ensures { IfOk result (λ m. option_map plain_meaning m ≡ Some (IsType (VariantType AsVariant (cases_in (map plain_known known.now) (lines_in lines.entry))))) }
+{
+    let cases = Rc::new(alloc, cases_in(alloc, known, lines)?)?;
+    Ok(Some(Meaning::Value(WitType::Variant(cases))))
+}
+
+fn flags_of(alloc: Global, words: Rest) -> Result<Option<Meaning>, NoMemory>
+    ensures { IfOk result (λ m. option_map plain_meaning m ≡ Some (IsType (FlagsType (words_in words.entry)))) }
+{
+    let labels = Rc::new(alloc, labels_in(alloc, words)?)?;
+    Ok(Some(Meaning::Value(WitType::Flags(labels))))
+}
+
+fn enum_of(alloc: Global, words: Rest) -> Result<Option<Meaning>, NoMemory>
+    ensures { IfOk result (λ m. option_map plain_meaning m ≡ Some (IsType (VariantType AsEnum (bare (words_in words.entry))))) }
+{
+    let labels = Rc::new(alloc, labels_in(alloc, words)?)?;
+    Ok(Some(Meaning::Value(WitType::Enum(labels))))
+}
+
 fn alias_of(alloc: Global, known: &[Known], words: Rest) -> Result<Option<Meaning>, NoMemory>
     ensures { IfOk result (λ m. option_map plain_meaning m ≡ alias_of (type_spelled (map plain_known known.now) (words_in words.entry))) }
 {
@@ -191,14 +220,10 @@ pub fn meaning_of(alloc: Global, known: &[Known], item: Item) -> Result<Option<M
     match item {
         Item::Use(_) => Ok(None),
         Item::Alias(_, words) => alias_of(alloc, known, words),
-        Item::Record(_, lines) => Ok(Some(Meaning::Value(WitType::Record(fields_in(
-            alloc, known, lines,
-        )?)))),
-        Item::Variant(_, lines) => Ok(Some(Meaning::Value(WitType::Variant(cases_in(
-            alloc, known, lines,
-        )?)))),
-        Item::Flags(_, words) => Ok(Some(Meaning::Value(WitType::Flags(labels_in(alloc, words)?)))),
-        Item::Enum(_, words) => Ok(Some(Meaning::Value(WitType::Enum(labels_in(alloc, words)?)))),
+        Item::Record(_, lines) => record_of(alloc, known, lines),
+        Item::Variant(_, lines) => variant_of(alloc, known, lines),
+        Item::Flags(_, words) => flags_of(alloc, words),
+        Item::Enum(_, words) => enum_of(alloc, words),
         Item::Resource(name, _) => Ok(resource_of(name)),
         Item::Function(_, _) => Ok(None),
     }

@@ -15,6 +15,7 @@ use crate::cut::{Rest, next_word};
 use crate::forms::{Form, form_of};
 use crate::interface::{Known, Meaning};
 use std::alloc::Global;
+use std::rc::Rc;
 use virt_base::{NoMemory, Text};
 use wit_types::{Field, Fields, Types, WitType, copy_type};
 
@@ -52,11 +53,11 @@ pub fn type_of(operand: Operand) -> Option<WitType>
     }
 }
 
-fn payload_of(alloc: Global, operand: Operand) -> Result<Option<Box<WitType>>, NoMemory>
+fn payload_of(alloc: Global, operand: Operand) -> Result<Option<Rc<WitType>>, NoMemory>
     ensures { IfOk result (λ ty. payload_of ty ≡ type_in (option_map plain_meaning operand)) }
 {
     match type_of(operand) {
-        Some(ty) => Ok(Some(Box::new(alloc, ty)?)),
+        Some(ty) => Ok(Some(Rc::new(alloc, ty)?)),
         None => Ok(None),
     }
 }
@@ -65,7 +66,7 @@ fn list_of(alloc: Global, operand: Operand) -> Result<Operand, NoMemory>
     ensures { IfOk result (λ o. option_map plain_meaning o ≡ list_of (option_map plain_meaning operand)) }
 {
     match type_of(operand) {
-        Some(ty) => Ok(Some(Meaning::Value(WitType::List(Box::new(alloc, ty)?)))),
+        Some(ty) => Ok(Some(Meaning::Value(WitType::List(Rc::new(alloc, ty)?)))),
         None => Ok(None),
     }
 }
@@ -74,7 +75,7 @@ fn option_of(alloc: Global, operand: Operand) -> Result<Operand, NoMemory>
     ensures { IfOk result (λ o. option_map plain_meaning o ≡ option_of (option_map plain_meaning operand)) }
 {
     match type_of(operand) {
-        Some(ty) => Ok(Some(Meaning::Value(WitType::Option(Box::new(alloc, ty)?)))),
+        Some(ty) => Ok(Some(Meaning::Value(WitType::Option(Rc::new(alloc, ty)?)))),
         None => Ok(None),
     }
 }
@@ -124,7 +125,8 @@ fn tuple_of(alloc: Global, size: usize, stack: &mut Operands) -> Result<Operand,
     for _ in 0..size {
         push_type(&mut items, type_of(take_first(stack)))?;
     }
-    Ok(Some(Meaning::Value(WitType::Tuple(Types { items }))))
+    let types = Rc::new(alloc, Types { items })?;
+    Ok(Some(Meaning::Value(WitType::Tuple(types))))
 }
 
 fn operand_of(alloc: Global, form: Form, stack: &mut Operands) -> Result<Operand, NoMemory>

@@ -1,10 +1,13 @@
 -- The tree of each type, by the lists of its parts.
-use Rattle.std.proofs.Common.{◌≡◌, ℕ, ap, refl, sym, ◌∙◌, Option, Some, None, Box, Global, List as Lst, [], ◌∷◌, ◌++◌}
+use Rattle.std.proofs.Common.{◌≡◌, ℕ, ap, refl, sym, ◌∙◌, Option, Some, None, Global, List as Lst, [], ◌∷◌, ◌++◌}
+use Rattle.std.specs.declared.rc.Rc.{Rc}
 use Rattle.wit_types.specs.declared.types.Field.{Field, out-Field}
 use Rattle.wit_types.specs.declared.types.Case.{Case, out-Case}
 use Rattle.wit_types.specs.declared.types.WitType.{WitType, Row_of-WitType, end_of-WitType, more_of-WitType, items-the_row-WitType, items_hidden-the_row-WitType-0, Held-WitType-Result-0, None', Some', view-WitType-Result-0}
-use Rattle.wit_types.specs.declared.types.WitType.TheVariants.{Bool, S8, U8, S16, U16, S32, U32, S64, U64, Char, Str, Record, Variant, Tuple, List, Flags, Enum, Option as Optional, Result, Own, Borrow}
+use Rattle.wit_types.specs.declared.types.WitType.TheVariants.{Bool, S8, U8, S16, U16, S32, U32, S64, U64, Char, Str, Record, Record', Variant, Variant', Tuple, List, Flags, Enum, Option as Optional, Result, Own, Borrow}
 use Rattle.wit_types.specs.declared.types.Types.{Types}
+use Rattle.virt_base.specs.declared.items.Items.{Items}
+use Rattle.virt_base.specs.declared.text.Text.{Text}
 use Rattle.wit_types.specs.declared.types.WitType.TheBlock.{hidden-the_row-WitType-0}
 use Rattle.wit_types.specs.declared.types.Fields.{Fields, Fields', out-Fields, outs-Fields', items_shown-the_row-Field-2, Row_of-Field, end_of-Field, more_of-Field, items-the_row-Field}
 use Rattle.wit_types.specs.declared.types.Cases.{Cases, Cases', out-Cases, outs-Cases', items_shown-the_row-Case-1, Row_of-Case, end_of-Case, more_of-Case, items-the_row-Case}
@@ -30,30 +33,36 @@ unfolding plain_cases
 cases_of-row n end_of-Case = refl
 cases_of-row n (more_of-Case {n = m} a b rest) = case_part-view a b _ ∙ ap (plain_case a b) (cases_of-row m rest)
 
-pub plain-Record : (fs : Fields) → plain (Record fs) ≡ RecordType AsRecord (fields_of (out-Fields fs).items.items)
+record-plain : (p : _) (fs : Fields) → plain (Record' p fs) ≡ RecordType AsRecord (fields_of (out-Fields fs).items.items)
 unfolding plain
-plain-Record (Fields' s row) = rw (outs-Fields', items_shown-the_row-Field-2) (ap (RecordType AsRecord) (sym (fields_of-row _ row)))
+record-plain p (Fields' s row) = rw (outs-Fields', items_shown-the_row-Field-2) (ap (RecordType AsRecord) (sym (fields_of-row _ row)))
 
-pub plain-Variant : (cs : Cases) → plain (Variant cs) ≡ VariantType AsVariant (cases_of (out-Cases cs).items.items)
+pub plain-Record : (fs : Rc Fields Global) → plain (Record fs) ≡ RecordType AsRecord (fields_of (out-Fields fs.value).items.items)
+plain-Record fs = record-plain _ fs.value
+
+variant-plain : (p : _) (cs : Cases) → plain (Variant' p cs) ≡ VariantType AsVariant (cases_of (out-Cases cs).items.items)
 unfolding plain
-plain-Variant (Cases' s row) = rw (outs-Cases', items_shown-the_row-Case-1) (ap (VariantType AsVariant) (sym (cases_of-row _ row)))
+variant-plain p (Cases' s row) = rw (outs-Cases', items_shown-the_row-Case-1) (ap (VariantType AsVariant) (sym (cases_of-row _ row)))
 
-pub plain-Tuple : (ts : Types) → plain (Tuple ts) ≡ RecordType AsTuple (types_of ts.items.items)
+pub plain-Variant : (cs : Rc Cases Global) → plain (Variant cs) ≡ VariantType AsVariant (cases_of (out-Cases cs.value).items.items)
+plain-Variant cs = variant-plain _ cs.value
+
+pub plain-Tuple : (ts : Rc Types Global) → plain (Tuple ts) ≡ RecordType AsTuple (types_of ts.value.items.items)
 unfolding plain
-plain-Tuple ts = ap (RecordType AsTuple) (sym (types_of-row _ (hidden-the_row-WitType-0 ts.items)) ∙ ap types_of (items_hidden-the_row-WitType-0 ts.items))
+plain-Tuple ts = ap (RecordType AsTuple) (sym (types_of-row _ (hidden-the_row-WitType-0 ts.value.items)) ∙ ap types_of (items_hidden-the_row-WitType-0 ts.value.items))
 
-pub plain-Result : (ok err : Option (Box WitType Global)) → plain (Result ok err) ≡ VariantType AsResult (case_part [] (payload_of ok) (case_part [] (payload_of err) End))
+pub plain-Result : (ok err : Option (Rc WitType Global)) → plain (Result ok err) ≡ VariantType AsResult (case_part [] (payload_of ok) (case_part [] (payload_of err) End))
 unfolding plain plain_case
 plain-Result None None = refl
 plain-Result None (Some e) = refl
 plain-Result (Some o) None = refl
 plain-Result (Some o) (Some e) = refl
 
-pub plain-Option : (b : Box WitType Global) → plain (Optional b) ≡ VariantType AsOption (Bare [] (More [] (plain b.value) End))
+pub plain-Option : (b : Rc WitType Global) → plain (Optional b) ≡ VariantType AsOption (Bare [] (More [] (plain b.value) End))
 unfolding plain
 plain-Option b = refl
 
-pub plain-List : (b : Box WitType Global) → plain (List b) ≡ ListType (plain b.value)
+pub plain-List : (b : Rc WitType Global) → plain (List b) ≡ ListType (plain b.value)
 unfolding plain
 plain-List b = refl
 
@@ -101,11 +110,11 @@ pub plain-Str : plain Str ≡ StringType
 unfolding plain
 plain-Str = refl
 
-pub plain-Flags : (labels : Lst Name) → plain (Flags labels) ≡ FlagsType labels
+pub plain-Flags : (labels : Rc (Items Text) Global) → plain (Flags labels) ≡ FlagsType labels.value
 unfolding plain
 plain-Flags labels = refl
 
-pub plain-Enum : (labels : Lst Name) → plain (Enum labels) ≡ VariantType AsEnum (bare labels)
+pub plain-Enum : (labels : Rc (Items Text) Global) → plain (Enum labels) ≡ VariantType AsEnum (bare labels.value)
 unfolding plain
 plain-Enum labels = refl
 
@@ -116,36 +125,6 @@ plain-Own n = refl
 pub plain-Borrow : (n : ℕ) → plain (Borrow n) ≡ BorrowType n
 unfolding plain
 plain-Borrow n = refl
-
-case_part-End : (name : Name) (p : Option Plain) (rest : Parts) → End ≡ case_part name p rest → ⊥
-case_part-End name None rest e = cc
-case_part-End name (Some ty) rest e = cc
-
-case_part-same : (m n : Name) (p q : Option Plain) (xs ys : Parts) → case_part m p xs ≡ case_part n q ys → (m ≡ n) × (p ≡ q) × (xs ≡ ys)
-case_part-same m n None None xs ys e = (cc, refl, cc)
-case_part-same m n None (Some t) xs ys e = (cc, cc, cc)
-case_part-same m n (Some t) None xs ys e = (cc, cc, cc)
-case_part-same m n (Some t) (Some u) xs ys e = (cc, cc, cc)
-
--- one more at the end
-pub cases_of-push : (xs ys : Lst Case) (x y : Case) → cases_of xs ≡ cases_of ys → (out-Case x).name ≡ (out-Case y).name → payload_of (out-Case x).ty ≡ payload_of (out-Case y).ty → cases_of (xs ++ x ∷ []) ≡ cases_of (ys ++ y ∷ [])
-cases_of-push [] [] x y e n h = cc
-cases_of-push [] (v ∷ ys) x y e n h = absurd (case_part-End _ _ _ e)
-cases_of-push (u ∷ xs) [] x y e n h = absurd (case_part-End _ _ _ (sym e))
-cases_of-push (u ∷ xs) (v ∷ ys) x y e n h =
-    let same = case_part-same _ _ _ _ _ _ e in
-    let rest = cases_of-push xs ys x y same.2 n h in
-    cc
-
-pub types_of-push : (xs ys : Lst WitType) (x y : WitType) → types_of xs ≡ types_of ys → plain x ≡ plain y → types_of (xs ++ x ∷ []) ≡ types_of (ys ++ y ∷ [])
-types_of-push [] [] x y e h = ap (λ p. More [] p End) h
-types_of-push [] (v ∷ ys) x y e h = cc
-types_of-push (u ∷ xs) [] x y e h = cc
-types_of-push (u ∷ xs) (v ∷ ys) x y e h =
-    let head : plain u ≡ plain v = cc in
-    let tail : types_of xs ≡ types_of ys = cc in
-    let rest = types_of-push xs ys x y tail h in
-    cc
 
 pub fields_of-push : (xs ys : Lst Field) (x y : Field) → fields_of xs ≡ fields_of ys → (out-Field x).name ≡ (out-Field y).name → plain (out-Field x).ty ≡ plain (out-Field y).ty → fields_of (xs ++ x ∷ []) ≡ fields_of (ys ++ y ∷ [])
 fields_of-push [] [] x y e n h = cc

@@ -1,11 +1,12 @@
 -- Types without their special forms (Canonical ABI, "Despecialization"): a tuple is a record, and an enum, an option and a
 -- result are variants. How each was written, and each name, stand beside, so that two types are equal where their trees are.
-use Rattle.std.specs.Prelude.{ℕ, List, [], ◌∷◌, Option as Opt, Some, None, Box}
+use Rattle.std.specs.Prelude.{ℕ, List, [], ◌∷◌, Option as Opt, Some, None}
 use Rattle.std.specs.Global.{Global}
+use Rattle.std.specs.declared.rc.Rc.{Rc}
 use Rattle.wit_types.specs.declared.types.Field.{Field, out-Field}
 use Rattle.wit_types.specs.declared.types.Case.{Case, out-Case}
 use Rattle.wit_types.specs.declared.types.WitType.{WitType, Row_of-WitType, end_of-WitType, more_of-WitType, Held-WitType-Result-0, None', Some'}
-use Rattle.wit_types.specs.declared.types.WitType.TheVariants.{Bool, S8, U8, S16, U16, S32, U32, S64, U64, Char, Str, Record, Tuple', Variant, List', Flags, Enum, Option', Result', Own, Borrow}
+use Rattle.wit_types.specs.declared.types.WitType.TheVariants.{Bool, S8, U8, S16, U16, S32, U32, S64, U64, Char, Str, Record', Tuple', Variant', List', Flags, Enum, Option', Result', Own, Borrow}
 use Rattle.wit_types.specs.declared.types.Fields.{Fields', out-Fields, Row_of-Field, end_of-Field, more_of-Field}
 use Rattle.wit_types.specs.declared.types.Cases.{Cases', Row_of-Case, end_of-Case, more_of-Case}
 use Rattle.wit_types.specs.declared.types.FuncType.{FuncType}
@@ -73,12 +74,12 @@ unfoldable mutual
   plain U64 = UnsignedType EightBytes
   plain Char = CharType
   plain Str = StringType
-  plain (Record (Fields' _ fields)) = RecordType AsRecord (plain_fields fields)
-  plain (Tuple' _ types) = RecordType AsTuple (plain_types types)
-  plain (Variant (Cases' _ cases)) = VariantType AsVariant (plain_cases cases)
+  plain (Record' _ (Fields' _ fields)) = RecordType AsRecord (plain_fields fields)
+  plain (Tuple' _ _ types) = RecordType AsTuple (plain_types types)
+  plain (Variant' _ (Cases' _ cases)) = VariantType AsVariant (plain_cases cases)
   plain (List' _ item) = ListType (plain item)
-  plain (Flags labels) = FlagsType labels
-  plain (Enum labels) = VariantType AsEnum (bare labels)
+  plain (Flags labels) = FlagsType labels.value
+  plain (Enum labels) = VariantType AsEnum (bare labels.value)
   plain (Option' _ ty) = VariantType AsOption (Bare [] (More [] (plain ty) End))
   plain (Result' ok err) = VariantType AsResult (plain_case [] ok (plain_case [] err End))
   plain (Own resource) = OwnType resource
@@ -109,7 +110,7 @@ abbrev pub types_of : List WitType → Parts
 types_of [] = End
 types_of (t ∷ ts) = More [] (plain t) (types_of ts)
 
-abbrev pub payload_of : Opt (Box WitType Global) → Opt Plain
+abbrev pub payload_of : Opt (Rc WitType Global) → Opt Plain
 payload_of None = None
 payload_of (Some b) = Some (plain b.value)
 

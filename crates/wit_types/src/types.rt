@@ -1,3 +1,4 @@
+use std::rc::Rc;
 use virt_base::{Items, Text};
 
 /// A value type of the Component Model (Binary.md, "Type Definitions"). The number of a handle type names a resource.
@@ -15,14 +16,14 @@ pub enum WitType {
     U64,
     Char,
     Str,
-    Record(Fields),
-    Tuple(Types),
-    Variant(Cases),
-    List(Box<WitType>),
-    Flags(Labels),
-    Enum(Labels),
-    Option(Box<WitType>),
-    Result(Option<Box<WitType>>, Option<Box<WitType>>),
+    Record(Rc<Fields>),
+    Tuple(Rc<Types>),
+    Variant(Rc<Cases>),
+    List(Rc<WitType>),
+    Flags(Rc<Labels>),
+    Enum(Rc<Labels>),
+    Option(Rc<WitType>),
+    Result(Option<Rc<WitType>>, Option<Rc<WitType>>),
     Own(u32),
     Borrow(u32),
 }
@@ -57,7 +58,7 @@ pub struct Fields {
 #[cycle(types)]
 pub struct Case {
     pub name: Text,
-    pub ty: Option<Box<WitType>>,
+    pub ty: Option<Rc<WitType>>,
 }
 
 /// Cases in order.

@@ -7,6 +7,7 @@ ghost use Rattle.wit_types.specs.HasType.{is_of, are_of, is_of_case, is_of_paylo
 
 use crate::types::{Case, Field, WitType};
 use crate::value::Value;
+use std::rc::Rc;
 
 fn is_bool(value: &Value) -> bool
     ensures { result ≡ is_bool (plain_value value.now) }
@@ -120,7 +121,7 @@ fn is_handle(value: &Value) -> bool
 }
 
 #[cycle(has_type)]
-fn is_payload(payload: &Option<Box<Value>>, ty: &Option<Box<WitType>>) -> bool
+fn is_payload(payload: &Option<Box<Value>>, ty: &Option<Rc<WitType>>) -> bool
     ensures { result ≡ is_of_payload (payload_of ty.now) (value_payload_of payload.now) }
 {
     match ty {
@@ -292,7 +293,7 @@ fn is_option(value: &Value, some: &WitType) -> bool
 }
 
 #[cycle(has_type)]
-fn is_result(value: &Value, ok: &Option<Box<WitType>>, err: &Option<Box<WitType>>) -> bool
+fn is_result(value: &Value, ok: &Option<Rc<WitType>>, err: &Option<Rc<WitType>>) -> bool
     ensures { result ≡ is_variant (λ n x. is_of_case (case_part [] (payload_of ok.now) (case_part [] (payload_of err.now) End)) n x) (plain_value value.now) }
 {
     match value {

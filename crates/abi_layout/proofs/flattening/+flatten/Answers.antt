@@ -9,7 +9,7 @@ use Rattle.abi_layout.proofs.flattening.+flatten.Goals as goal
 
 pub flatten-returns-in-Variant : goal.flatten-returns-in-Variant
 flatten-returns-in-Variant t c =
-    rw (c.in-Variant.is, plain-Variant, ← c.deref-in-Variant.ensures.value) (variant_is _ _ _ c.variant.ensures c.flatten_cases.ensures)
+    rw (c.in-Variant.is, plain-Variant, ← c.deref-in-Variant.ensures, ← c.deref-in-Variant-2.ensures.value) (variant_is _ _ _ c.variant.ensures c.flatten_cases.ensures)
 
 pub flatten-returns-in-Option : goal.flatten-returns-in-Option
 flatten-returns-in-Option t c =

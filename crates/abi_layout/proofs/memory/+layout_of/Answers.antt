@@ -8,13 +8,13 @@ use Rattle.abi_layout.proofs.LayoutLemmas.{few-Record, few-Tuple, few-Variant, f
 use Rattle.abi_layout.proofs.memory.+layout_of.Goals as goal
 
 pub layout_of-layout_of_fields-requires : goal.layout_of-layout_of_fields-requires
-layout_of-layout_of_fields-requires t c = (search (rules, the_lemmas), few-Record _ _ _ _ c.in-Record.is c.deref.ensures.value c.requires)
+layout_of-layout_of_fields-requires t c = (search (rules, the_lemmas), few-Record _ c.in-Record.fields _ _ _ c.in-Record.is c.deref.ensures c.deref-in-Record.ensures.value c.requires)
 
 pub layout_of-layout_of_types-requires : goal.layout_of-layout_of_types-requires
-layout_of-layout_of_types-requires t c = (search (rules, the_lemmas), few-Tuple _ c.in-Tuple.types _ _ c.in-Tuple.is c.deref-in-Tuple.ensures.value c.requires)
+layout_of-layout_of_types-requires t c = (search (rules, the_lemmas), few-Tuple _ c.in-Tuple.types _ _ _ c.in-Tuple.is c.deref-in-Tuple.ensures c.deref-in-Tuple-2.ensures.value c.requires)
 
 pub layout_of-layout_of_cases-requires : goal.layout_of-layout_of_cases-requires
-layout_of-layout_of_cases-requires t c = (search (rules, the_lemmas), few-Variant _ c.in-Variant.cases _ _ c.in-Variant.is c.deref-in-Variant.ensures.value c.requires)
+layout_of-layout_of_cases-requires t c = (search (rules, the_lemmas), few-Variant _ c.in-Variant.cases _ _ _ c.in-Variant.is c.deref-in-Variant-2.ensures c.deref-in-Variant-3.ensures.value c.requires)
 
 pub layout_of-layout_of-requires : goal.layout_of-layout_of-requires
 layout_of-layout_of-requires t c = (search (rules, the_lemmas), rw c.deref-in-Option.ensures (few-Option _ c.in-Option.some _ c.in-Option.is c.requires))

@@ -1,5 +1,5 @@
 use Rattle.std.proofs.Common.{◌∙◌, sym, ap, take, drop, Some, ◌+◌, ◌-◌}
-use Rattle.wit_types.specs.Plain.{RecordType, AsTuple}
+use Rattle.wit_types.specs.Plain.{RecordType, AsTuple, types_of}
 use Rattle.wit_types.proofs.PlainLemmas.{plain-Tuple}
 use Rattle.wasi_table.specs.Plain.{IsType}
 use Rattle.wasi_table.specs.Before.{types_before}
@@ -18,4 +18,4 @@ loop-preserved c = (
 
 pub returns-clause-value : goal.returns-clause-value
 returns-clause-value c =
-    ap (λ p. Some (IsType p)) (plain-Tuple _ ∙ ap (RecordType AsTuple) (sym (all_taken c.args.size c.loop.counter (operands c.loop.stack.items) c.loop.items.items c.loop-test.false) ∙ c.loop.invariant.0))
+    ap (λ p. Some (IsType p)) (plain-Tuple _ ∙ ap (λ ts. RecordType AsTuple (types_of ts.items.items)) c.in_ok-types.ensures.ok ∙ ap (RecordType AsTuple) (sym (all_taken c.args.size c.loop.counter (operands c.loop.stack.items) c.loop.items.items c.loop-test.false) ∙ c.loop.invariant.0))

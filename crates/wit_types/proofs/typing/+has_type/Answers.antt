@@ -24,7 +24,7 @@ is_variant-returns-else-number-cases t c =
 
 pub has_type-returns-in-Enum-clause-value : goal.has_type-returns-in-Enum-clause-value
 has_type-returns-in-Enum-clause-value t c =
-    rw (c.in-Enum.is, plain-Enum) (c.is_enum.ensures ∙ rw c.len-in-Enum.ensures (is_of-bare AsEnum c.in-Enum.labels (plain_value c.args.value.now)))
+    rw (c.in-Enum.is, plain-Enum) (c.is_enum.ensures ∙ rw (c.len-in-Enum.ensures, c.deref-in-Enum.ensures) (is_of-bare AsEnum _ (plain_value c.args.value.now)))
 
 pub has_type-returns-in-Enum-clause-rule : goal.has_type-returns-in-Enum-clause-rule
 has_type-returns-in-Enum-clause-rule t c =
