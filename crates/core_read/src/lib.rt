@@ -7,8 +7,6 @@ mod nesting;
 mod ops;
 mod reading;
 mod sections;
-#[cfg(test)]
-mod tests;
 mod types;
 
 pub use reading::{CoreModules, ReadFault, read_module};

@@ -9,8 +9,6 @@ mod marks;
 mod names;
 mod segments;
 mod spaces;
-#[cfg(test)]
-mod tests;
 mod types;
 mod whole;
 

@@ -5,8 +5,6 @@ mod instrs;
 mod items;
 mod ops;
 mod sections;
-#[cfg(test)]
-mod tests;
 mod types;
 mod writing;
 

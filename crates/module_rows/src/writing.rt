@@ -1,5 +1,5 @@
-use crate::writing::write_module;
 use core_read::read_module;
+use core_write::write_module;
 use std::alloc::Global;
 use std::process::Abort;
 use std::test::Fail;

@@ -1,5 +1,5 @@
-use crate::reading::{ReadFault, read_module};
 use ReadFault::{Malformed, Unsupported};
+use core_read::{ReadFault, read_module};
 use std::alloc::Global;
 use std::process::Abort;
 use std::test::Fail;

@@ -1,6 +1,6 @@
 //! Rows: a module that breaks each rule, some that break two, and some that are valid.
 
-use crate::{CoreExport, CoreFault, CoreItem, validate};
+use core_validate::{CoreExport, CoreFault, CoreItem, validate};
 use std::alloc::Global as Heap;
 use std::test::Fail;
 use virt_base::{CoreType, Items, NoMemory, Text};
