@@ -58,7 +58,7 @@ fn values(alloc: Global, first: Value, second: Value) -> Result<Values, Fail> {
     let mut items = Vec::new(alloc);
     items.push(first)?;
     items.push(second)?;
-    Ok(Values { items })
+    Ok(Values::Each(items))
 }
 
 fn case(alloc: Global, number: u32, payload: Value) -> Result<Value, Fail> {
@@ -98,9 +98,7 @@ fn built_value(alloc: Global, form: u32) -> Result<Value, Fail> {
         11 => Ok(Value::Flags(512)),
         12 => Ok(Value::Handle(4294967295)),
         13 => Ok(Value::Str(Text::from_str(alloc, "hello")?)),
-        _ => Ok(Value::Record(Values {
-            items: Vec::new(alloc),
-        })),
+        _ => Ok(Value::Record(Values::Each(Vec::new(alloc)))),
     }
 }
 

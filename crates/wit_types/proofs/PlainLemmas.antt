@@ -11,7 +11,7 @@ use Rattle.virt_base.specs.declared.text.Text.{Text}
 use Rattle.wit_types.specs.declared.types.WitType.TheBlock.{hidden-the_row-WitType-0}
 use Rattle.wit_types.specs.declared.types.Fields.{Fields, Fields', out-Fields, outs-Fields', items_shown-the_row-Field-2, Row_of-Field, end_of-Field, more_of-Field, items-the_row-Field}
 use Rattle.wit_types.specs.declared.types.Cases.{Cases, Cases', out-Cases, outs-Cases', items_shown-the_row-Case-1, Row_of-Case, end_of-Case, more_of-Case, items-the_row-Case}
-use Rattle.wit_types.specs.Plain.{Name, Width, OneByte, TwoBytes, FourBytes, EightBytes, AsRecord, AsTuple, AsVariant, AsEnum, AsOption, AsResult, Plain, Parts, BoolType, SignedType, UnsignedType, CharType, StringType, ListType, RecordType, VariantType, FlagsType, OwnType, BorrowType, End, More, Bare, bare, plain, plain_fields, plain_types, plain_cases, plain_case, fields_of, types_of, cases_of, payload_of, case_part}
+use Rattle.wit_types.specs.Plain.{Name, OneByte, TwoBytes, FourBytes, EightBytes, AsRecord, AsTuple, AsVariant, AsEnum, AsOption, AsResult, Plain, Parts, BoolType, SignedType, UnsignedType, CharType, StringType, ListType, RecordType, VariantType, FlagsType, OwnType, BorrowType, End, More, Bare, bare, plain, plain_fields, plain_types, plain_cases, plain_case, fields_of, types_of, cases_of, payload_of, case_part}
 
 fields_of-row : (n : _) (row : Row_of-Field n) → fields_of (items-the_row-Field n row) ≡ plain_fields row
 unfolding plain_fields

@@ -2,7 +2,7 @@
 -- it is neither deep nor large, which are limits of this product's own.
 use Rattle.std.specs.Prelude.{ℕ, ◌+◌, ◌<◌, ◌≤◌, max, length}
 use Rattle.wit_types.specs.declared.types.WitType.{WitType}
-use Rattle.wit_types.specs.Plain.{Plain, Parts, BoolType, SignedType, UnsignedType, CharType, StringType, ListType, RecordType, VariantType, FlagsType, OwnType, BorrowType, End, More, Bare, plain}
+use Rattle.wit_types.specs.Plain.{Plain, Parts, ListType, RecordType, VariantType, FlagsType, End, More, Bare, plain}
 use Rattle.wit_types.specs.Layout.{count}
 
 -- the parts of a type when it is written out: itself, and those of each type in it

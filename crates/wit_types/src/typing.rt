@@ -1,12 +1,12 @@
 #![tactic(auto, using(crate::proofs::PlainLemmas::plains, crate::proofs::ValueLemmas::values))]
 
-ghost use Rattle.std.specs.Prelude.{◌≡◌, ◌↔◌, ◌&&◌, nat_lt, IsTrue, []};
+ghost use Rattle.std.specs.Prelude.{◌≡◌, ◌↔◌, ◌&&◌, nat_lt, pos, IsTrue, []};
 ghost use Rattle.wit_types.specs.Plain.{plain, payload_of, fields_of, types_of, cases_of, case_part, End, More, Bare};
-ghost use Rattle.wit_types.specs.PlainValue.{FlagsValue, plain_value, payload_of as value_payload_of, values_of};
+ghost use Rattle.wit_types.specs.PlainValue.{FlagsValue, IntValue, plain_value, payload_of as value_payload_of, plain_values, values_of, byte_values};
 ghost use Rattle.wit_types.specs.HasType.{is_of, are_of, is_of_case, is_of_payload, is_without, is_with, is_scalar, is_bool, is_integer, is_char, is_string, is_list, all_pass, is_record, is_variant, is_flags, is_handle, HasType};
 
 use crate::types::{Case, Field, WitType};
-use crate::value::Value;
+use crate::value::{Value, Values};
 use std::rc::Rc;
 
 fn is_bool(value: &Value) -> bool
@@ -120,6 +120,64 @@ fn is_handle(value: &Value) -> bool
     }
 }
 
+/// Whether a byte as an integer has the type.
+fn is_byte_of(byte: u8, ty: &WitType) -> bool
+    ensures { result ≡ is_of (plain ty.now) (IntValue (pos byte)) }
+{
+    match ty {
+        WitType::S8 => byte < 0x80,
+        WitType::U8 | WitType::S16 | WitType::U16 | WitType::S32 | WitType::U32 => true,
+        WitType::S64 | WitType::U64 => true,
+        WitType::Bool | WitType::Char | WitType::Str | WitType::Flags(_) | WitType::Enum(_) =>
+            false,
+        WitType::Record(_) | WitType::Tuple(_) | WitType::Variant(_) | WitType::List(_) => false,
+        WitType::Option(_) | WitType::Result(_, _) | WitType::Own(_) | WitType::Borrow(_) => false,
+    }
+}
+
+/// Whether bytes are of one type; those of a `list<u8>` are so at once.
+fn are_bytes(bytes: &[u8], item: &WitType) -> bool
+    ensures { result ≡ all_pass (λ v. is_of (plain item.now) v) (byte_values bytes.now) }
+{
+    if let WitType::U8 = item {
+        return true;
+    }
+    for byte in bytes {
+        if !is_byte_of(*byte, item) {
+            return false;
+        }
+    }
+    true
+}
+
+fn are_fields_bytes(bytes: &[u8], fields: &[Field]) -> bool
+    ensures { result ≡ are_of (fields_of fields.now) (byte_values bytes.now) }
+{
+    if bytes.len() != fields.len() {
+        return false;
+    }
+    for i in 0..fields.len() {
+        if !is_byte_of(bytes[i], &fields[i].ty) {
+            return false;
+        }
+    }
+    true
+}
+
+fn are_types_bytes(bytes: &[u8], types: &[WitType]) -> bool
+    ensures { result ≡ are_of (types_of types.now) (byte_values bytes.now) }
+{
+    if bytes.len() != types.len() {
+        return false;
+    }
+    for i in 0..types.len() {
+        if !is_byte_of(bytes[i], &types[i]) {
+            return false;
+        }
+    }
+    true
+}
+
 #[cycle(has_type)]
 fn is_payload(payload: &Option<Box<Value>>, ty: &Option<Rc<WitType>>) -> bool
     ensures { result ≡ is_of_payload (payload_of ty.now) (value_payload_of payload.now) }
@@ -145,7 +203,7 @@ fn is_list(value: &Value, item: &WitType) -> bool
     ensures { result ≡ is_list (λ v. is_of (plain item.now) v) (plain_value value.now) }
 {
     match value {
-        Value::List(values) => are_items(&values.items, item),
+        Value::List(values) => are_items(values, item),
         Value::Bool(_)
         | Value::Int(_)
         | Value::Char(_)
@@ -158,7 +216,17 @@ fn is_list(value: &Value, item: &WitType) -> bool
 }
 
 #[cycle(has_type)]
-fn are_items(values: &[Value], item: &WitType) -> bool
+fn are_items(values: &Values, item: &WitType) -> bool
+    ensures { result ≡ all_pass (λ v. is_of (plain item.now) v) (plain_values values.now) }
+{
+    match values {
+        Values::Each(items) => are_values(items, item),
+        Values::Bytes(bytes) => are_bytes(bytes.as_slice(), item),
+    }
+}
+
+#[cycle(has_type)]
+fn are_values(values: &[Value], item: &WitType) -> bool
     ensures { result ≡ all_pass (λ v. is_of (plain item.now) v) (values_of values.now) }
 {
     for value in values {
@@ -174,7 +242,7 @@ fn is_record(value: &Value, fields: &[Field]) -> bool
     ensures { result ≡ is_record (λ xs. are_of (fields_of fields.now) xs) (plain_value value.now) }
 {
     match value {
-        Value::Record(values) => are_fields(&values.items, fields),
+        Value::Record(values) => are_fields(values, fields),
         Value::Bool(_)
         | Value::Int(_)
         | Value::Char(_)
@@ -187,7 +255,17 @@ fn is_record(value: &Value, fields: &[Field]) -> bool
 }
 
 #[cycle(has_type)]
-fn are_fields(values: &[Value], fields: &[Field]) -> bool
+fn are_fields(values: &Values, fields: &[Field]) -> bool
+    ensures { result ≡ are_of (fields_of fields.now) (plain_values values.now) }
+{
+    match values {
+        Values::Each(items) => are_fields_each(items, fields),
+        Values::Bytes(bytes) => are_fields_bytes(bytes.as_slice(), fields),
+    }
+}
+
+#[cycle(has_type)]
+fn are_fields_each(values: &[Value], fields: &[Field]) -> bool
     ensures { result ≡ are_of (fields_of fields.now) (values_of values.now) }
 {
     if values.len() != fields.len() {
@@ -206,7 +284,7 @@ fn is_tuple(value: &Value, types: &[WitType]) -> bool
     ensures { result ≡ is_record (λ xs. are_of (types_of types.now) xs) (plain_value value.now) }
 {
     match value {
-        Value::Record(values) => are_parts(&values.items, types),
+        Value::Record(values) => are_parts(values, types),
         Value::Bool(_)
         | Value::Int(_)
         | Value::Char(_)
@@ -219,7 +297,17 @@ fn is_tuple(value: &Value, types: &[WitType]) -> bool
 }
 
 #[cycle(has_type)]
-fn are_parts(values: &[Value], types: &[WitType]) -> bool
+fn are_parts(values: &Values, types: &[WitType]) -> bool
+    ensures { result ≡ are_of (types_of types.now) (plain_values values.now) }
+{
+    match values {
+        Values::Each(items) => are_types_each(items, types),
+        Values::Bytes(bytes) => are_types_bytes(bytes.as_slice(), types),
+    }
+}
+
+#[cycle(has_type)]
+fn are_types_each(values: &[Value], types: &[WitType]) -> bool
     ensures { result ≡ are_of (types_of types.now) (values_of values.now) }
 {
     if values.len() != types.len() {

@@ -1,4 +1,4 @@
-use virt_base::Text;
+use virt_base::{Bytes, Text};
 
 /// A value of a type. A tuple is a `Record`. An enum, an option and a result are a `Variant`, by the number of the case:
 /// none is 0 and some is 1, ok is 0 and error is 1. The lowest bit of `Flags` is the first label's.
@@ -16,9 +16,10 @@ pub enum Value {
     Handle(u32),
 }
 
-/// Values in order.
+/// Values in order. Integers that are bytes may be kept as a run of bytes, as those of a `list<u8>` are once they are loaded.
 #[derive(Debug, Drop)]
 #[cycle(values)]
-pub struct Values {
-    pub items: Vec<Value>,
+pub enum Values {
+    Each(Vec<Value>),
+    Bytes(Bytes),
 }

@@ -1,11 +1,11 @@
 #![tactic(auto, using(crate::proofs::ValueLemmas::values))]
 
 ghost use Rattle.std.specs.Prelude.{◌≡◌, IfOk};
-ghost use Rattle.wit_types.specs.PlainValue.{plain_value, values_of, payload_of};
+ghost use Rattle.wit_types.specs.PlainValue.{plain_value, plain_values, values_of, payload_of};
 
 use crate::value::{Value, Values};
 use std::alloc::Global;
-use virt_base::NoMemory;
+use virt_base::{NoMemory, copy_bytes};
 
 #[cycle(copy_value)]
 fn copy_payload(alloc: Global, payload: &Option<Box<Value>>) -> Result<Option<Box<Value>>, NoMemory>
@@ -18,14 +18,24 @@ fn copy_payload(alloc: Global, payload: &Option<Box<Value>>) -> Result<Option<Bo
 }
 
 #[cycle(copy_value)]
-fn copy_values(alloc: Global, values: &[Value]) -> Result<Values, NoMemory>
-    ensures { IfOk result (λ copy. values_of copy.items.items ≡ values_of values.now) }
+fn copy_each(alloc: Global, values: &[Value]) -> Result<Vec<Value>, NoMemory>
+    ensures { IfOk result (λ copies. values_of copies.items ≡ values_of values.now) }
 {
     let mut items = Vec::new(alloc);
     for value in values {
         items.push(copy_value(alloc, value)?)?;
     }
-    Ok(Values { items })
+    Ok(items)
+}
+
+#[cycle(copy_value)]
+fn copy_values(alloc: Global, values: &Values) -> Result<Values, NoMemory>
+    ensures { IfOk result (λ copy. plain_values copy ≡ plain_values values.now) }
+{
+    match values {
+        Values::Each(items) => Ok(Values::Each(copy_each(alloc, items)?)),
+        Values::Bytes(bytes) => Ok(Values::Bytes(copy_bytes(alloc, bytes.as_slice())?)),
+    }
 }
 
 /// An equal value.
@@ -38,8 +48,8 @@ pub fn copy_value(alloc: Global, value: &Value) -> Result<Value, NoMemory>
         Value::Int(n) => Ok(Value::Int(*n)),
         Value::Char(c) => Ok(Value::Char(*c)),
         Value::Str(text) => Ok(Value::Str(text.copy(alloc)?)),
-        Value::List(values) => Ok(Value::List(copy_values(alloc, &values.items)?)),
-        Value::Record(values) => Ok(Value::Record(copy_values(alloc, &values.items)?)),
+        Value::List(values) => Ok(Value::List(copy_values(alloc, values)?)),
+        Value::Record(values) => Ok(Value::Record(copy_values(alloc, values)?)),
         Value::Variant(number, payload) => {
             Ok(Value::Variant(*number, copy_payload(alloc, payload)?))
         }

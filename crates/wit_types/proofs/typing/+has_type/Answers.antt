@@ -8,11 +8,11 @@ use Rattle.wit_types.proofs.ValueLemmas.{plain_value-Variant}
 use Rattle.wit_types.proofs.TypingLemmas.{are_of-fields_of, are_of-types_of, is_of-bare, is_of_case-cases_of, is_of_case-past}
 use Rattle.wit_types.proofs.typing.+has_type.Goals as goal
 
-pub are_fields-returns-then-values-fields : goal.are_fields-returns-then-values-fields
-are_fields-returns-then-values-fields t c = sym (are_of-fields_of _ _ c.if-values-fields.true)
+pub are_fields_each-returns-then-values-fields : goal.are_fields_each-returns-then-values-fields
+are_fields_each-returns-then-values-fields t c = sym (are_of-fields_of _ _ c.if-values-fields.true)
 
-pub are_parts-returns-then-values-types : goal.are_parts-returns-then-values-types
-are_parts-returns-then-values-types t c = sym (are_of-types_of _ _ c.if-values-types.true)
+pub are_types_each-returns-then-values-types : goal.are_types_each-returns-then-values-types
+are_types_each-returns-then-values-types t c = sym (are_of-types_of _ _ c.if-values-types.true)
 
 pub is_variant-returns-then-number-cases : goal.is_variant-returns-then-number-cases
 is_variant-returns-then-number-cases t c =

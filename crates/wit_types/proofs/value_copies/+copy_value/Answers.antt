@@ -4,8 +4,8 @@ use Rattle.wit_types.specs.PlainValue.{values_of}
 use Rattle.wit_types.proofs.ValueLemmas.{values_of-push}
 use Rattle.wit_types.proofs.value_copies.+copy_value.Goals as goal
 
-pub copy_values-loop-value-preserved : goal.copy_values-loop-value-preserved
-copy_values-loop-value-preserved t c =
+pub copy_each-loop-value-preserved : goal.copy_each-loop-value-preserved
+copy_each-loop-value-preserved t c =
     let x = c.value-item.result in
     let values = c.args.values.now in
     let i = c.loop-value.value-index in
