@@ -1,0 +1,4 @@
+pub mod AllowedLemmas
+pub mod FrontLemmas
+pub mod NumberLemmas
+pub mod FieldLemmas

@@ -1,0 +1,60 @@
+ghost use Rattle.std.specs.Prelude.{◌≡◌, ◌↔◌, IsTrue};
+ghost use Rattle.std.specs.List.{list_any};
+ghost use Rattle.policy_data.specs.Addresses.{IsAllowed};
+ghost use Rattle.wit_types.specs.PlainValue.{plain_value, values_of};
+ghost use Rattle.net_policy.specs.Allowed.{IsAddress, address_in, allows_one, holds_port, is_in_network, is_allowed, address_of};
+
+use crate::address::{Address, address_in};
+use crate::network::same_numbers;
+use policy_data::{PortRange, Rule, Rules};
+use wit_types::Value;
+
+fn holds_port(range: &PortRange, port: u128) -> bool
+    ensures { result ≡ holds_port port range.now }
+{
+    u128::from(range.from) <= port && port <= u128::from(range.to)
+}
+
+/// Whether the rule's network holds the address.
+fn is_in_network(rule: &Rule, address: &Address<'_>) -> bool
+    ensures { result ≡ is_in_network rule.now (address_of address.now.six (values_of address.now.numbers.now) address.now.port) }
+{
+    if rule.six != address.six {
+        return false;
+    }
+    let width = if rule.six { 16 } else { 8 };
+    same_numbers(
+        rule.numbers.as_slice(),
+        address.numbers,
+        width,
+        u32::from(rule.length),
+    )
+}
+
+fn holds_some_port(ranges: &[PortRange], port: u128) -> bool
+    ensures { result ≡ list_any (holds_port port) ranges.now }
+{
+    ranges.iter().any(|range| holds_port(range, port))
+}
+
+fn allows_one(rule: &Rule, address: &Address<'_>) -> bool
+    ensures { result ≡ allows_one (address_of address.now.six (values_of address.now.numbers.now) address.now.port) rule.now }
+{
+    is_in_network(rule, address) && holds_some_port(rule.ports.as_slice(), address.port)
+}
+
+fn some_allows(rules: &[Rule], address: &Address<'_>) -> bool
+    ensures { result ≡ is_allowed rules.now (address_of address.now.six (values_of address.now.numbers.now) address.now.port) }
+{
+    rules.iter().any(|rule| allows_one(rule, address))
+}
+
+/// Whether some rule allows the address, a value of the type `ip-socket-address`. It takes no memory.
+pub fn allows(rules: &Rules, address: &Value) -> bool
+    requires { IsAddress (plain_value address.now) }
+    ensures value { result ≡ is_allowed rules.now (address_in (plain_value address.now)) }
+    ensures rule { IsTrue result ↔ IsAllowed rules.now (address_in (plain_value address.now)) }
+{
+    let address = address_in(address);
+    some_allows(rules.as_slice(), &address)
+}
