@@ -1,3 +1,4 @@
 pub mod Addresses
+pub mod Limits
 pub mod Sizes
 pub mod Words

@@ -1,4 +1,4 @@
+pub mod HexTurns
 pub mod NetworkTexts
 pub mod PathEntries
-pub mod PathNames
 pub mod PathOrder

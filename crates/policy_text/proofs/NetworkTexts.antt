@@ -3,7 +3,7 @@ use Rattle.std.proofs.Common.{◌≡◌, ◌∙◌, refl, ap, sym, ℕ, List, []
 use Rattle.std.specs.Prelude.{Option, Some, None, option_and_then}
 use Rattle.std.proofs.Math.Seq.{append_snoc}
 use Rattle.policy_text.specs.Networks.{all_numbers}
-use Rattle.policy_text.proofs.PathNames.{in_front}
+use Rattle.policy_text.proofs.HexTurns.{in_front}
 
 joined_front : (ns : List ℕ) (n : ℕ) (more : Option (List ℕ))
     → in_front ns (option_and_then (λ ms. Some (n ∷ ms)) more) ≡ in_front (ns ++ n ∷ []) more

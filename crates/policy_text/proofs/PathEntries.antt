@@ -16,7 +16,7 @@ use Rattle.std.proofs.lemmas.Bool.{false≢true}
 use Rattle.std.proofs.lemmas.Map.Text.{is_eq-slice_cmp}
 use Rattle.std.proofs.lemmas.Slice.Eq.{bytes_eq-Decides}
 use Rattle.std.proofs.lemmas.Bool.Decides.{nat_tests}
-use Rattle.policy_text.specs.Paths.{Placed, covers, clashes, is_clear}
+use Rattle.path_names.specs.Paths.{Placed, covers, clashes, is_clear}
 use Rattle.policy_text.specs.PathKeys.{placed_of, unrank}
 use Rattle.policy_text.proofs.PathOrder.{within, covers-unrank, upto, before, is_before, is_upto, not_before, before_upto, within_upto, within_between}
 

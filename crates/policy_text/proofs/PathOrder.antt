@@ -1,5 +1,5 @@
 -- The order of keys: what lies in a path stands right behind it.
-use Rattle.std.proofs.Common.{◌≡◌, ◌∙◌, refl, ap, ℕ, ◌-◌, List, [], ◌∷◌, Bool, true, false, not, cond, map, length, get_or, arith, nat_cmp, ◌<◌}
+use Rattle.std.proofs.Common.{◌≡◌, ◌∙◌, refl, ap, ℕ, List, [], ◌∷◌, Bool, true, false, not, cond, map, length, get_or, arith, nat_cmp, ◌<◌}
 use Rattle.std.specs.Prelude.{◌==◌, nat_eq, nat_lt, ◌&&◌}
 use Rattle.std.specs.List.{starts_with}
 use Rattle.std.specs.Cmp.Lexicographic.{slice_cmp}
@@ -7,7 +7,7 @@ use Rattle.std.specs.Ordering.{is_le, is_lt}
 use Rattle.std.specs.declared.cmp.Ordering.{Ordering}
 use Rattle.std.proofs.lemmas.Bool.Decides.{nat_tests}
 use Rattle.std.proofs.lemmas.Cmp.{same_from_slice_cmp}
-use Rattle.policy_text.specs.Paths.{covers}
+use Rattle.path_names.specs.Paths.{covers}
 use Rattle.policy_text.specs.PathKeys.{rank, unrank}
 
 -- `covers`, at keys

@@ -1,5 +1,3 @@
 pub mod Hex
 pub mod Networks
-pub mod Parts
 pub mod PathKeys
-pub mod Paths

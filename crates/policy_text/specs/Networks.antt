@@ -1,7 +1,7 @@
 -- The text of a network: an address, `/` and how many of its first bits count.
 use Rattle.std.specs.Prelude.{ℕ, ◌+◌, ◌-◌, ◌*◌, List, [], ◌∷◌, Bool, true, false, not, Option, Some, None, option_and_then, length, nat_lt, nat_le, ◌==◌, ◌&&◌, ◌||◌, if◌then◌else◌}
 use Rattle.policy_data.specs.declared.data.Network.{Network}
-use Rattle.policy_text.specs.Parts.{cut, parts_of}
+use Rattle.path_names.specs.Parts.{cut, parts_of}
 
 -- ---- numbers
 

@@ -1,7 +1,7 @@
 -- The keys under which paths are kept: `/` becomes the least byte, so that what lies in a path stands right behind it.
 use Rattle.std.specs.Prelude.{ℕ, ◌-◌, ◌+◌, Bool, ◌==◌, nat_lt, map, if◌then◌else◌, Vec}
 use Rattle.std.specs.declared.alloc.Global.{Global}
-use Rattle.policy_text.specs.Paths.{Placed}
+use Rattle.path_names.specs.Paths.{Placed}
 
 abbrev pub rank : ℕ → ℕ
 rank byte = if byte == 47 then 0 else (if nat_lt byte 47 then byte + 1 else byte)

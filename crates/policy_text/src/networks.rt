@@ -1,8 +1,8 @@
 ghost use Rattle.std.specs.Prelude.{◌≡◌, ◌<◌, true, false, IfOk, IfSome, option_and_then, if◌then◌else◌};
-ghost use Rattle.policy_text.specs.Parts.{parts_of};
+ghost use Rattle.path_names.specs.Parts.{parts_of};
 ghost use Rattle.policy_text.specs.Networks.{address_of, all_numbers, decimal_digit, decimal_of, group_digit, group_of, network_at, network_by, network_of, number_of, upto};
 
-use crate::parts::cut;
+use path_names::cut;
 use policy_data::{Network, Numbers};
 use std::alloc::Global;
 use virt_base::{Items, NoMemory};

@@ -1,6 +1,6 @@
 ghost use Rattle.std.specs.Prelude.{◌≡◌, ◌||◌, ◌&&◌, not, map, [], IfOk, OnErr, IsTrue, Bool, true, false};
 ghost use Rattle.std.specs.List.{list_any};
-ghost use Rattle.policy_text.specs.Paths.{Placed, covers, clashes, is_clear};
+ghost use Rattle.path_names.specs.Paths.{Placed, covers, clashes, is_clear};
 ghost use Rattle.policy_text.specs.PathKeys.{placed_of, rank, unrank};
 
 use std::alloc::Global;
@@ -18,7 +18,7 @@ pub struct Paths {
 
 impl Model for Paths {
     ghost use Rattle.std.specs.Prelude.{◌≡◌, List, map, true};
-    ghost use Rattle.policy_text.specs.Paths.{Placed, is_clear};
+    ghost use Rattle.path_names.specs.Paths.{Placed, is_clear};
     ghost use Rattle.policy_text.specs.PathKeys.{placed_of};
 
     ghost Value = { List Placed };

@@ -1,8 +1,7 @@
 use crate::hex::hex_bytes;
-use crate::names::is_path;
 use crate::networks::network_of;
-use crate::parts::holds_byte;
 use crate::paths::Paths;
+use path_names::{holds_byte, is_path};
 use std::test::Fail;
 
 #[test]

@@ -1,5 +1,7 @@
 pub mod Counts
+pub mod Keeping
 pub mod Placing
+pub mod PolicyKept
 pub mod PolicySizes
 pub mod Sizes
 pub mod Taken

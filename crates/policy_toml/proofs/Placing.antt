@@ -11,7 +11,7 @@ use Rattle.toml.proofs.Views.{items_view-drop}
 use Rattle.policy_data.specs.declared.fault.ReadPolicyFault.{ReadPolicyFault}
 use Rattle.policy_data.specs.declared.fault.ReadPolicyFault.TheVariants.{NotToml, BadKey, BadValue, BadName, OverLimit, NoMemory}
 use Rattle.policy_toml.specs.Reading.{Gives, and_then, each_item, each_member}
-use Rattle.policy_text.specs.Paths.{Placed, clashes}
+use Rattle.path_names.specs.Paths.{Placed, clashes}
 use Rattle.policy_toml.specs.Keys.{below, nth, optional, value_or}
 use Rattle.policy_data.specs.declared.data.EmbeddedFile.{EmbeddedFile}
 use Rattle.policy_data.specs.declared.data.Link.{Link}

@@ -15,8 +15,8 @@ use Rattle.policy_data.specs.declared.data.Scratch.{Scratch}
 use Rattle.policy_data.specs.declared.policy.Policy.{Policy}
 use Rattle.policy_data.specs.Sizes.{texts_size, variable_size, arguments_size, cwd_size, pass_size, content_size, file_size, link_size, embedded_size, tree_content_size, tree_size, scratch_size, policy_size}
 use Rattle.policy_text.specs.Hex.{hex_digit, hex_pair, hex_bytes}
-use Rattle.policy_text.specs.Parts.{holds_byte}
-use Rattle.policy_text.specs.Paths.{Placed, is_path}
+use Rattle.path_names.specs.Parts.{holds_byte}
+use Rattle.path_names.specs.Paths.{Placed, is_path}
 use Rattle.policy_toml.specs.declared.env.Env.{Env}
 use Rattle.policy_toml.specs.declared.fs.Fs.{Fs}
 use Rattle.policy_toml.specs.declared.policy.Front.{Front}

@@ -9,7 +9,7 @@ use Rattle.policy_data.specs.declared.data.Embedded.{Embedded}
 use Rattle.policy_data.specs.declared.data.Link.{Link}
 use Rattle.policy_toml.specs.Reading.{Gives, and_then}
 use Rattle.policy_toml.specs.Keys.{optional}
-use Rattle.policy_text.specs.Paths.{Placed}
+use Rattle.path_names.specs.Paths.{Placed}
 use Rattle.policy_toml.specs.Trees.{embedded_of, file_placed, files_in, folder_placed, folders_in, links_in}
 use Rattle.policy_toml.proofs.Placing.{any_more, folders_same, links_same, gives_stop}
 

@@ -1,5 +1,5 @@
 -- The table `fs`.
-use Rattle.std.specs.Prelude.{ℕ, List, [], ◌∷◌, ◌++◌, Bool, true, false, Option, Some, None, Result, Ok, Err, length, map, codes, if◌then◌else◌}
+use Rattle.std.specs.Prelude.{ℕ, List, [], ◌∷◌, ◌++◌, Bool, true, false, Option, Some, None, Result, Ok, Err, length, codes, if◌then◌else◌}
 use Rattle.toml.specs.Data.{Data, array, no_items, Members, get_member}
 use Rattle.policy_data.specs.declared.fault.ReadPolicyFault.{ReadPolicyFault}
 use Rattle.policy_data.specs.declared.fault.ReadPolicyFault.TheVariants.{BadValue}
@@ -8,6 +8,7 @@ use Rattle.policy_data.specs.declared.words.HostFiles.{HostFiles}
 use Rattle.policy_data.specs.declared.words.HostFiles.TheVariants.{All, Deny}
 use Rattle.policy_data.specs.declared.data.Pass.{Pass}
 use Rattle.policy_data.specs.declared.data.Scratch.{Scratch}
+pub use Rattle.policy_data.specs.Limits.{shown_names}
 use Rattle.policy_toml.specs.declared.fs.Fs.{Fs}
 use Rattle.policy_toml.specs.Reading.{and_then}
 use Rattle.policy_toml.specs.Keys.{below, nth, optional, required, table_in}
@@ -19,9 +20,6 @@ use Rattle.policy_toml.specs.Trees.{new_name, tree_at, tree_names}
 
 abbrev pub pass_keys : List (List ℕ)
 pass_keys = codes "host" ∷ codes "as" ∷ []
-
-abbrev pub shown_names : List Pass → List (List ℕ)
-shown_names passes = map (λ pass. pass.shown) passes
 
 abbrev pub pass_of : List Pass → List ℕ → Members → Result Pass ReadPolicyFault
 pass_of seen path ms = and_then (required path (codes "host") any_text ms)

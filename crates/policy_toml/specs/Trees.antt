@@ -1,5 +1,5 @@
 -- An item of `fs.tree`.
-use Rattle.std.specs.Prelude.{ℕ, List, [], ◌∷◌, ◌++◌, true, false, not, Option, Some, None, Result, Ok, Err, length, nat_lt, ◌==◌, ◌||◌, map, codes, if◌then◌else◌}
+use Rattle.std.specs.Prelude.{ℕ, List, [], ◌∷◌, ◌++◌, not, Option, Some, None, Result, Ok, Err, length, nat_lt, ◌==◌, ◌||◌, map, codes, if◌then◌else◌}
 use Rattle.std.specs.List.{list_any}
 use Rattle.toml.specs.Data.{Data, string, array, table, Members, get_member}
 use Rattle.policy_data.specs.declared.fault.ReadPolicyFault.{ReadPolicyFault}
@@ -12,11 +12,12 @@ use Rattle.policy_data.specs.declared.data.Embedded.{Embedded}
 use Rattle.policy_data.specs.declared.data.TreeContent.{TreeContent}
 use Rattle.policy_data.specs.declared.data.TreeContent.TheVariants.{Mount, Embedded as Written}
 use Rattle.policy_data.specs.declared.data.TreeSource.{TreeSource}
+pub use Rattle.policy_data.specs.Limits.{file_placed, folder_placed, link_placed, tree_names}
 use Rattle.policy_toml.specs.Reading.{and_then, each_item, each_member}
 use Rattle.policy_toml.specs.Keys.{below, nth, is_known, optional, required, table_in}
 use Rattle.policy_toml.specs.Values.{any_text, text_such}
-use Rattle.policy_text.specs.Parts.{holds_byte}
-use Rattle.policy_text.specs.Paths.{Placed, clashes, is_path}
+use Rattle.path_names.specs.Parts.{holds_byte}
+use Rattle.path_names.specs.Paths.{Placed, clashes, is_path}
 use Rattle.policy_toml.specs.Contents.{content_keys, content_of}
 
 -- what is read at `path` may stand beside what is there
@@ -24,9 +25,6 @@ abbrev pub placed_at : List ℕ → Placed → List Placed → Result (Unit {0})
 placed_at path p there = if list_any (clashes p) there then Err (BadValue path) else Ok tt
 
 -- ---- files, in byte order of their paths
-
-abbrev pub file_placed : EmbeddedFile → Placed
-file_placed file = record { path = file.path; leaf = true }
 
 abbrev pub file_of : List ℕ → List ℕ → Data → Result EmbeddedFile ReadPolicyFault
 file_of path key d =
@@ -43,9 +41,6 @@ files_in path _ = Err (BadValue path)
 
 -- ---- folders, in the order of the text
 
-abbrev pub folder_placed : List ℕ → Placed
-folder_placed folder = record { path = folder; leaf = false }
-
 abbrev pub folder_of : List ℕ → Data → Result (List ℕ) ReadPolicyFault
 folder_of path (string folder) = if is_path folder then Ok folder else Err (BadName path)
 folder_of path _ = Err (BadValue path)
@@ -59,9 +54,6 @@ folders_in there path (array ds) = each_item (folder_at path there) [] ds
 folders_in there path _ = Err (BadValue path)
 
 -- ---- links, in byte order of their paths
-
-abbrev pub link_placed : Link → Placed
-link_placed link = record { path = link.path; leaf = true }
 
 -- 1 to 4096 bytes without NUL
 abbrev pub target_in : List ℕ → Data → Result (List ℕ) ReadPolicyFault
@@ -123,9 +115,6 @@ abbrev pub tree_of : List (List ℕ) → List ℕ → Members → Result TreeSou
 tree_of taken path ms = and_then (required path (codes "name") (new_name taken) ms)
     (λ name. and_then (content_by path (get_member (codes "mount") ms) ms)
     (λ content. Ok (record { name = name; content = content })))
-
-abbrev pub tree_names : List TreeSource → List (List ℕ)
-tree_names trees = map (λ tree. tree.name) trees
 
 -- the tree at a place, whose name no passed folder and no earlier tree has
 abbrev pub tree_at : Version → List (List ℕ) → List ℕ → List TreeSource → Data → Result TreeSource ReadPolicyFault

@@ -3,7 +3,7 @@ use Rattle.std.specs.Prelude.{ℕ, suc, List, [], Bool, not, Option, Some, None,
 use Rattle.toml.specs.Data.{Data, string, integer, boolean, array, Items, no_items, item, Members, no_members, member}
 use Rattle.policy_data.specs.declared.fault.ReadPolicyFault.{ReadPolicyFault}
 use Rattle.policy_data.specs.declared.fault.ReadPolicyFault.TheVariants.{BadValue, OverLimit}
-use Rattle.policy_text.specs.Parts.{holds_byte}
+use Rattle.path_names.specs.Parts.{holds_byte}
 use Rattle.policy_toml.specs.Keys.{nth}
 use Rattle.policy_toml.specs.Reading.{each_item}
 

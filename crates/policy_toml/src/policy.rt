@@ -1,5 +1,6 @@
 ghost use Rattle.std.specs.Prelude.{◌≡◌, ◌≤◌, length, IfOk};
 ghost use Rattle.toml.specs.View.{table_view};
+ghost use Rattle.policy_data.specs.Limits.{KeepsLimits};
 ghost use Rattle.policy_data.specs.Sizes.{policy_size};
 ghost use Rattle.policy_toml.specs.Reading.{Gives};
 ghost use Rattle.policy_toml.specs.Policy.{GivesPolicy, back_of, front_of, policy_from, policy_of};
@@ -131,11 +132,12 @@ fn policy_of(alloc: Global, table: &Table) -> Result<Policy, ReadPolicyFault>
 }
 
 /// The policy that a text stands for, or its first fault. Tables are read depth first: a table's unknown keys are tested
-/// as it is reached, the least in byte order first, and then its keys in the order of `Policy`'s fields. The policy's
-/// strings and embedded bytes are together no longer than the text.
+/// as it is reached, the least in byte order first, and then its keys in the order of `Policy`'s fields. A policy
+/// keeps the limits and checks of its text, and its strings and embedded bytes are together no longer than the text.
 #[tactic(auto, using(crate::proofs::PolicySizes::policy_bounded))]
 pub fn read_policy(alloc: Global, text: &[u8]) -> Result<Policy, ReadPolicyFault>
     ensures gives { GivesPolicy text.now result }
+    ensures kept { IfOk result KeepsLimits }
     ensures bounded { IfOk result (λ policy. policy_size policy ≤ length text.now) }
 {
     match toml::table_from_slice(alloc, text) {

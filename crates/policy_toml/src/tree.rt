@@ -4,17 +4,18 @@ ghost use Rattle.toml.specs.Data.{get_member};
 ghost use Rattle.toml.specs.View.{array_view, table_view, view};
 ghost use Rattle.policy_toml.specs.Reading.{Gives, each_item, each_member};
 ghost use Rattle.policy_toml.specs.Keys.{optional};
-ghost use Rattle.policy_text.specs.Paths.{Placed};
+ghost use Rattle.path_names.specs.Paths.{Placed};
 ghost use Rattle.policy_toml.specs.Trees.{absent, embedded_of, content_by, file_at, file_of, file_placed, files_in, folder_at, folder_of, folder_placed, folders_in, link_at, link_of, links_in, mount_of, placed_at, target_in};
 
 use crate::contents::ContentReader;
 use crate::keys::{bad_name, bad_value, member_of, nth_of, over_limit, path_of};
 use crate::reader::{Known, Reader};
 use crate::values::any_text;
+use path_names::{holds_byte, is_path};
 use policy_data::{
     Embedded, EmbeddedFile, EmbeddedFiles, Link, Links, ReadPolicyFault, Texts, TreeContent,
 };
-use policy_text::{Paths, holds_byte, is_path};
+use policy_text::Paths;
 use std::alloc::Global;
 use toml::value::Array;
 use toml::{Table, Value};

@@ -5,8 +5,8 @@ ghost use Rattle.policy_toml.specs.Values.{any_text, boolean_in, is_plain, is_va
 
 use crate::keys::{bad_value, over_limit};
 use crate::reader::Reader;
+use path_names::holds_byte;
 use policy_data::{ReadPolicyFault, Word};
-use policy_text::holds_byte;
 use std::alloc::Global;
 use std::marker::PhantomData;
 use toml::Value;

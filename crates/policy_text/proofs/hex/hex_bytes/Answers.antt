@@ -1,6 +1,6 @@
 use Rattle.std.proofs.Common.{◌∙◌, ap, sym}
 use Rattle.policy_text.specs.Hex.{hex_bytes}
-use Rattle.policy_text.proofs.PathNames.{hex_turn, in_front}
+use Rattle.policy_text.proofs.HexTurns.{hex_turn, in_front}
 use Rattle.policy_text.proofs.hex.hex_bytes.Goals as goal
 
 pub loop-high-preserved : goal.loop-high-preserved

@@ -1,6 +1,6 @@
 use Rattle.std.proofs.Common.{◌≡◌, length}
 use Rattle.policy_text.specs.Hex.{hex_bytes}
-use Rattle.policy_text.proofs.PathNames.{in_front}
+use Rattle.policy_text.proofs.HexTurns.{in_front}
 use Rattle.policy_text.proofs.hex.hex_bytes.Given as goal
 
 abbrev pub invariant-loop-high : goal.invariant-loop-high

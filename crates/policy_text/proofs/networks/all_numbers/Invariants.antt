@@ -1,7 +1,7 @@
 use Rattle.std.proofs.Common.{◌≡◌, length}
-use Rattle.policy_text.specs.Parts.{parts_of}
+use Rattle.path_names.specs.Parts.{parts_of}
 use Rattle.policy_text.specs.Networks.{all_numbers, number_of}
-use Rattle.policy_text.proofs.PathNames.{in_front}
+use Rattle.policy_text.proofs.HexTurns.{in_front}
 use Rattle.policy_text.proofs.networks.all_numbers.Given as goal
 
 abbrev pub invariant-loop-part : goal.invariant-loop-part

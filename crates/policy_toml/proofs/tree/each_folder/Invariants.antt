@@ -2,7 +2,7 @@ use Rattle.std.proofs.Common.{◌≡◌, ◌++◌, [], Bool, map, drop}
 use Rattle.std.specs.List.{list_any}
 use Rattle.toml.specs.View.{array_view, items_view}
 use Rattle.policy_toml.specs.Reading.{each_item}
-use Rattle.policy_text.specs.Paths.{Placed}
+use Rattle.path_names.specs.Paths.{Placed}
 use Rattle.policy_toml.specs.Trees.{folder_at, folder_placed}
 use Rattle.policy_toml.proofs.tree.each_folder.Given as goal
 

@@ -2,7 +2,7 @@ use Rattle.std.proofs.Common.{◌≡◌, ◌++◌, [], Bool, map}
 use Rattle.std.specs.List.{list_any}
 use Rattle.toml.specs.View.{table_view, members_view}
 use Rattle.policy_toml.specs.Reading.{each_member}
-use Rattle.policy_text.specs.Paths.{Placed}
+use Rattle.path_names.specs.Paths.{Placed}
 use Rattle.policy_toml.specs.Trees.{link_at, link_placed}
 use Rattle.policy_toml.proofs.tree.each_link.Given as goal
 

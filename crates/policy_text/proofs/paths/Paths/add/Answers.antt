@@ -1,7 +1,7 @@
 use Rattle.std.proofs.Common.{◌≡◌, ◌∙◌, ap, sym, ℕ, List, Bool, true, false, not, map}
 use Rattle.std.specs.Prelude.{◌||◌}
 use Rattle.std.specs.List.{list_any}
-use Rattle.policy_text.specs.Paths.{Placed, clashes, is_clear}
+use Rattle.path_names.specs.Paths.{Placed, clashes, is_clear}
 use Rattle.policy_text.specs.PathKeys.{placed_of, rank, unrank}
 use Rattle.policy_text.proofs.PathOrder.{unrank_all}
 use Rattle.policy_text.proofs.PathEntries.{Entry, any-insert, is_clear-insert}

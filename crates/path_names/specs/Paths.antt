@@ -2,7 +2,7 @@
 use Rattle.std.specs.Prelude.{ℕ, List, [], ◌∷◌, Bool, true, false, not, ◌==◌, ◌&&◌, ◌||◌, length, nat_le, codes}
 use Rattle.std.specs.List.{list_any, list_all}
 use Rattle.std.specs.Str.{bytes_eq}
-use Rattle.policy_text.specs.Parts.{holds_byte, parts_of}
+use Rattle.path_names.specs.Parts.{holds_byte, parts_of}
 
 -- ---- what a path is
 
@@ -40,3 +40,7 @@ clashes p q = (p.leaf && covers p.path q.path) || (q.leaf && covers q.path p.pat
 abbrev pub is_clear : List Placed → Bool
 is_clear [] = true
 is_clear (p ∷ ps) = not (list_any (clashes p) ps) && is_clear ps
+
+-- what a link leads to: a text of 1 to 4096 bytes without NUL
+abbrev pub is_target : List ℕ → Bool
+is_target target = (not (length target == 0) && not (holds_byte 0 target)) && nat_le (length target) 4096

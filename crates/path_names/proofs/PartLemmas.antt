@@ -1,12 +1,10 @@
--- The parts of a text, as the code finds them one by one, and hexadecimal digits pair by pair.
-use Rattle.std.proofs.Common.{◌≡◌, ◌∙◌, refl, ap, sym, ℕ, ◌+◌, ◌*◌, ◌-◌, ◌<◌, ◌≤◌, List, [], ◌∷◌, ◌++◌, Bool, true, false, length, take, drop, cond, arith}
-use Rattle.std.specs.Prelude.{Option, Some, None, ◌==◌, nat_lt, position}
+-- The parts of a text, as the code finds them one by one.
+use Rattle.std.proofs.Common.{◌≡◌, ◌∙◌, refl, ap, ℕ, ◌+◌, ◌-◌, ◌<◌, ◌≤◌, List, [], ◌∷◌, Bool, true, false, length, take, drop, cond, arith}
+use Rattle.std.specs.Prelude.{Some, None, ◌==◌, nat_lt, position}
 use Rattle.std.specs.List.{position_or_len}
-use Rattle.std.proofs.Math.Seq.{append_snoc}
 use Rattle.std.proofs.lemmas.Grind.{common_steps}
 use Rattle.std.proofs.lemmas.Bool.Decides.{nat_tests}
-use Rattle.policy_text.specs.Parts.{parts_of}
-use Rattle.policy_text.specs.Hex.{hex_bytes, hex_digit, hex_pair}
+use Rattle.path_names.specs.Parts.{parts_of}
 
 parts_split : (joiner : ℕ) (rest : List ℕ) → position_or_len (λ b. b == joiner) rest < length rest
     → parts_of joiner rest ≡ take (position_or_len (λ b. b == joiner) rest) rest ∷ parts_of joiner (drop (position_or_len (λ b. b == joiner) rest + 1) rest)
@@ -40,23 +38,3 @@ last_part joiner rest h =
 
 pub all_behind : (xs : List ℕ) (k : ℕ) → take (length xs - k) (drop k xs) ≡ drop k xs
 all_behind xs k = grind (arith, common_steps)
-
--- bytes in front of those that digits spell
-abbrev pub in_front : List ℕ → Option (List ℕ) → Option (List ℕ)
-in_front bytes None = None
-in_front bytes (Some more) = Some (bytes ++ more)
-
-pair_in_front : (bytes : List ℕ) (high low : ℕ) (more : Option (List ℕ))
-    → in_front bytes (hex_pair (Some high) (Some low) more) ≡ in_front (bytes ++ (high * 16 + low) ∷ []) more
-pair_in_front bytes high low None = refl
-pair_in_front bytes high low (Some more) = ap Some (sym (append_snoc bytes (high * 16 + low) more))
-
--- two more digits that spell a byte
-pub hex_turn : (bytes : List ℕ) (s s1 s2 : List ℕ) (x y high low : ℕ) → s ≡ x ∷ s1 → s1 ≡ y ∷ s2
-    → hex_digit x ≡ Some high → hex_digit y ≡ Some low
-    → in_front bytes (hex_bytes s) ≡ in_front (bytes ++ (high * 16 + low) ∷ []) (hex_bytes s2)
-hex_turn bytes s s1 s2 x y high low e f h l =
-    ap (λ t. in_front bytes (hex_bytes t)) (e ∙ ap (λ t. x ∷ t) f)
-    ∙ (ap (λ o. in_front bytes (hex_pair o (hex_digit y) (hex_bytes s2))) h
-    ∙ (ap (λ o. in_front bytes (hex_pair (Some high) o (hex_bytes s2))) l
-    ∙ pair_in_front bytes high low (hex_bytes s2)))

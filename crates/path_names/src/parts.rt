@@ -1,5 +1,5 @@
 ghost use Rattle.std.specs.Prelude.{◌≡◌, ◌==◌, ◌<◌, IfSome, length, option_map, position};
-ghost use Rattle.policy_text.specs.Parts.{cut, holds_byte, parts_of, parts_with};
+ghost use Rattle.path_names.specs.Parts.{cut, holds_byte, parts_of, parts_with};
 
 /// Whether a text has such a byte.
 pub fn holds_byte(text: &[u8], byte: u8) -> bool

@@ -1,8 +1,8 @@
 use Rattle.std.proofs.Common.{◌∙◌, ap, sym, take, drop, ◌∷◌}
 use Rattle.std.specs.Prelude.{Some, option_map, ◌+◌}
-use Rattle.policy_text.specs.Parts.{parts_of}
-use Rattle.policy_text.proofs.PathNames.{all_behind, part_ends, last_part}
-use Rattle.policy_text.proofs.parts.cut.Goals as goal
+use Rattle.path_names.specs.Parts.{parts_of}
+use Rattle.path_names.proofs.PartLemmas.{all_behind, part_ends, last_part}
+use Rattle.path_names.proofs.parts.cut.Goals as goal
 
 pub returns-in-None-clause-parts : goal.returns-in-None-clause-parts
 returns-in-None-clause-parts c = last_part c.args.byte c.args.text.now (sym c.place_of.ensures.place ∙ c.in-None.is)
