@@ -3,7 +3,7 @@ use Rattle.std.specs.Prelude.{ℕ, Option, Some, None}
 use Rattle.wit_types.specs.declared.value.Value.{Value}
 use Rattle.wit_types.specs.declared.types.Fields.{Fields, out-Fields}
 use Rattle.wit_types.specs.Plain.{Name, Plain, Parts, fields_of, plain_result}
-use Rattle.wit_types.specs.PlainValue.{PlainValue, PlainValues, plain_value, values_of}
+use Rattle.wit_types.specs.PlainValue.{PlainValue, PlainValues, plain_value, plain_values}
 use Rattle.host_port.specs.declared.call.HostCall.{HostCall}
 use Rattle.host_port.specs.declared.call.Resource.{Resource}
 use Rattle.host_port.specs.declared.answer.Answer.{Answer}
@@ -39,7 +39,7 @@ abbrev pub fields_in : Fields → Parts
 fields_in fields = fields_of (out-Fields fields).items.items
 
 abbrev pub plain_call : HostCall → PlainCall
-plain_call c = record { interface = c.interface; function = c.function; params = fields_in c.params; args = values_of c.args.items.items; answer = plain_result c.result }
+plain_call c = record { interface = c.interface; function = c.function; params = fields_in c.params; args = plain_values c.args; answer = plain_result c.result }
 
 abbrev pub plain_option : Option Value → Option PlainValue
 plain_option None = None

@@ -2,23 +2,12 @@
 
 ghost use Rattle.std.specs.Prelude.{◌≡◌, IfOk};
 ghost use Rattle.wit_types.specs.Plain.{fields_of, plain_result};
-ghost use Rattle.wit_types.specs.PlainValue.{values_of};
 ghost use Rattle.host_port.specs.Calls.{plain_call, fields_in};
 
 use crate::call::{HostCall, Resource};
 use std::alloc::Global;
 use virt_base::NoMemory;
-use wit_types::{Field, Fields, Value, Values, WitType, copy_type, copy_value};
-
-fn copy_values(alloc: Global, values: &[Value]) -> Result<Values, NoMemory>
-    ensures { IfOk result (λ copy. values_of copy.items.items ≡ values_of values.now) }
-{
-    let mut items = Vec::new(alloc);
-    for value in values {
-        items.push(copy_value(alloc, value)?)?;
-    }
-    Ok(Values { items })
-}
+use wit_types::{Field, Fields, WitType, copy_type, copy_values};
 
 fn copy_fields(alloc: Global, fields: &[Field]) -> Result<Fields, NoMemory>
     ensures { IfOk result (λ copy. fields_in copy ≡ fields_of fields.now) }
@@ -48,7 +37,7 @@ pub fn copy_call(alloc: Global, call: &HostCall) -> Result<HostCall, NoMemory>
     let interface = call.interface.copy(alloc)?;
     let function = call.function.copy(alloc)?;
     let params = copy_fields(alloc, &call.params.items)?;
-    let args = copy_values(alloc, &call.args.items)?;
+    let args = copy_values(alloc, &call.args)?;
     let result = copy_result(alloc, &call.result)?;
     Ok(HostCall {
         interface,

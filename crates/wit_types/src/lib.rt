@@ -11,4 +11,4 @@ pub use type_copies::{copy_func, copy_type};
 pub use types::{Case, Cases, Field, Fields, FuncType, Labels, Types, WitType};
 pub use typing::has_type;
 pub use value::{Value, Values};
-pub use value_copies::copy_value;
+pub use value_copies::{copy_value, copy_values};

@@ -28,8 +28,9 @@ fn copy_each(alloc: Global, values: &[Value]) -> Result<Vec<Value>, NoMemory>
     Ok(items)
 }
 
+/// Equal values.
 #[cycle(copy_value)]
-fn copy_values(alloc: Global, values: &Values) -> Result<Values, NoMemory>
+pub fn copy_values(alloc: Global, values: &Values) -> Result<Values, NoMemory>
     ensures { IfOk result (λ copy. plain_values copy ≡ plain_values values.now) }
 {
     match values {
