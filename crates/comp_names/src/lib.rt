@@ -7,4 +7,4 @@ mod seen;
 
 pub use labels::is_label;
 pub use names::{Annotation, annotation_of, is_legal};
-pub use seen::SeenNames;
+pub use seen::{SeenNames, SeenTexts};

@@ -1,6 +1,7 @@
 ghost use Rattle.std.specs.Prelude.{◌≡◌, ◌||◌, not, false, List, ℕ, IfOk, OnOk, OnErr};
 ghost use Rattle.comp_names.specs.Same.{is_same_name};
-ghost use Rattle.comp_names.specs.Seen.{holds};
+ghost use Rattle.comp_names.specs.Seen.{holds, holds_text};
+ghost use Rattle.std.specs.Str.{bytes_eq};
 
 use std::alloc::Global;
 use std::collections::BTreeMap;
@@ -30,6 +31,33 @@ impl SeenNames {
     {
         let key = name.to_ascii_lowercase(alloc)?;
         let old = self.seen.insert(key, true)?;
+        Ok(old.is_none())
+    }
+}
+
+/// Names that were met, where only the same name is alike.
+#[derive(Drop)]
+pub struct SeenTexts<'a> {
+    seen: BTreeMap<&'a str, bool>,
+}
+
+impl<'a> SeenTexts<'a> {
+    /// No name so far.
+    pub fn new(alloc: Global) -> SeenTexts<'a>
+        ensures { (q : List ℕ) → holds_text result q ≡ false }
+    {
+        SeenTexts {
+            seen: BTreeMap::new(alloc),
+        }
+    }
+
+    /// Adds a name. Whether it was not there.
+    pub fn add(&mut self, name: &'a str) -> Result<bool, NoMemory>
+        ensures new { IfOk result (λ new. new ≡ not (holds_text self.old name.now)) }
+        ensures added { OnOk result ((q : List ℕ) → holds_text self.new q ≡ (bytes_eq name.now q || holds_text self.old q)) }
+        ensures err { OnErr result ((q : List ℕ) → holds_text self.new q ≡ holds_text self.old q) }
+    {
+        let old = self.seen.insert(name, true)?;
         Ok(old.is_none())
     }
 }

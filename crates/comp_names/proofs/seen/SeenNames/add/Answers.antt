@@ -5,17 +5,8 @@ use Rattle.std.specs.Str.{bytes_eq}
 use Rattle.std.proofs.lemmas.Map.Text.{btree_map_updates_text}
 use Rattle.comp_names.specs.Same.{folded}
 use Rattle.comp_names.specs.Seen.{holds}
+use Rattle.comp_names.proofs.SeenLemmas.{turned, either}
 use Rattle.comp_names.proofs.seen.SeenNames.add.Goals as goal
-
-turned : (a r l : Bool) → a ≡ not r → a ≡ l → r ≡ not l
-turned a true true e f = let never : true ≡ false = sym f ∙ e in cc
-turned a true false e f = refl
-turned a false true e f = refl
-turned a false false e f = let never : false ≡ true = sym f ∙ e in cc
-
-either : (b : Bool) (o : Option Bool) → is_some (cond b (Some true) o) ≡ (b || is_some o)
-either true o = refl
-either false o = refl
 
 pub returns-in_err-old-clause-err : goal.returns-in_err-old-clause-err
 unfolding holds
