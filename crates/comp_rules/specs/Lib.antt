@@ -1,0 +1,11 @@
+pub mod Declarations
+pub mod Spaces
+pub mod Resources
+pub mod Types
+pub mod Flat
+pub mod CoreMatching
+pub mod Definitions
+pub mod Added
+pub mod Rules
+pub mod Validity
+pub mod Faults

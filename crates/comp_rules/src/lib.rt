@@ -1,0 +1,16 @@
+//! When components are valid, and what their types are (Component Model, Binary.md and Explainer.md): definitions and laws alone.
+#![tactic(auto)]
+
+ghost use Rattle.std.specs.Prelude.{◌≡◌, ℕ};
+ghost use Rattle.comp_grammar.specs.Trees.{Tree};
+ghost use Rattle.comp_rules.specs.Validity.{BreaksComponent, IsValidComponent};
+
+/// The law that a valid component breaks no rule. It does nothing when it runs.
+pub fn valid_breaks_nothing()
+    ensures { (tree : Tree) → (rule section : ℕ) → IsValidComponent tree → BreaksComponent tree rule section → ⊥ }
+{}
+
+/// The law that a component breaks one rule in one section alone. It does nothing when it runs.
+pub fn fault_is_one()
+    ensures { (tree : Tree) → (a b m n : ℕ) → BreaksComponent tree a m → BreaksComponent tree b n → (a ≡ b) × (m ≡ n) }
+{}
