@@ -266,3 +266,7 @@ moved source old new to from len v (Err NoMemory) le e w =
 
 pub moved_past : (source : List ℕ) (m : Linear) (to from len : ℕ) → length source < from + len → Moves source m m to from len (Err Trap)
 moved_past source m to from len lt = (inl lt, refl)
+
+-- the bytes of a place, by the pages
+pub linear_range : (ps : List Content) (max : Option ℕ) (m : Linear) (at len : ℕ) → linear ps max ≡ m → take len (drop at (bytes_in ps)) ≡ range m at len
+linear_range ps max m at len e = ap (λ (v : Linear). range v at len) e

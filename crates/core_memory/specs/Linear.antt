@@ -77,6 +77,12 @@ made_of m = count_by (λ made. made) m.made
 abbrev pub range : Linear → ℕ → ℕ → List ℕ
 range m at len = take len (drop at m.bytes)
 
+-- What reading bytes answered: those from the place on; or the place and the length pass the end; or memory ran out.
+abbrev pub Reads : Linear → ℕ → ℕ → Result (List ℕ) StoreFault → Type 0
+Reads m at len (Ok bytes) = (at + len ≤ length m.bytes) × (bytes ≡ range m at len)
+Reads m at len (Err Trap) = length m.bytes < at + len
+Reads m at len (Err NoMemory) = at + len ≤ length m.bytes
+
 -- What a copy from a list of bytes did: the source and the target are within, and the source's bytes are at the target; or one of them passes the end, and nothing changed; or memory ran out.
 abbrev pub Moves : List ℕ → Linear → Linear → ℕ → ℕ → ℕ → Result (Unit {0}) StoreFault → Type 0
 Moves source old new to from len (Ok done) = (from + len ≤ length source) × (to + len ≤ length old.bytes) × (new ≡ written old to (take len (drop from source)))

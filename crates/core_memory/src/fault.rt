@@ -1,7 +1,7 @@
 use std::alloc::{AllocError, AllocFailed};
 use virt_base::{NoMemory, Trap};
 
-/// Why a call that writes did not.
+/// Why a call that reads or writes many bytes did not.
 #[derive(Debug, Clone, Copy, PartialEq, Eq)]
 pub enum StoreFault {
     /// A place and a length together pass the end.

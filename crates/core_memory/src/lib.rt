@@ -7,6 +7,7 @@ mod memory;
 mod number;
 mod page;
 mod pages;
+mod reading;
 
 pub use fault::StoreFault;
 pub use memory::Memory;

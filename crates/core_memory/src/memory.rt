@@ -2,16 +2,17 @@ ghost use Rattle.std.specs.Prelude.{◌≡◌, ◌+◌, ◌*◌, ◌≤◌, ◌<
 ghost use Rattle.std.specs.Bool.{OnTrue, OnFalse};
 ghost use Rattle.core_memory.specs.Number.{IsWidth, bytes_of};
 ghost use Rattle.core_memory.specs.Replaced.{repeated};
-ghost use Rattle.core_memory.specs.Linear.{fresh, loaded, size, Grows, made_of, Writes, Copies, Moves};
+ghost use Rattle.core_memory.specs.Linear.{fresh, loaded, size, Grows, made_of, Writes, Copies, Moves, Reads};
 
 use crate::bulk::{copy_all, fill_all, make_pages, write_all};
 use crate::fault::StoreFault;
 use crate::number::number_at;
 use crate::page::{PAGE, Page};
 use crate::pages::{add_pages, count_made, most_pages, read_slowly};
+use crate::reading::read_all;
 use std::alloc::Global;
 use std::marker::Model;
-use virt_base::{NoMemory, Trap};
+use virt_base::{Bytes, Items, NoMemory, Trap};
 
 /// A linear memory, whose pages of 65,536 bytes are made at the first write that touches them.
 #[derive(Drop)]
@@ -81,6 +82,17 @@ impl Memory {
             return Err(Trap);
         }
         Ok(read_slowly(&self.pages, at as usize, width))
+    }
+
+    /// So many bytes from a place on. `Trap` comes exactly where they pass the end.
+    #[tactic(auto, using(crate::proofs::Memories::linear_bytes, crate::proofs::Memories::linear_range, crate::proofs::Memories::linear_few))]
+    pub fn read(&self, alloc: Global, at: u64, len: u64) -> Result<Bytes, StoreFault>
+        ensures { Reads self.now at len result }
+    {
+        if !self.holds(at, len) {
+            return Err(StoreFault::Trap);
+        }
+        Ok(Items::new(read_all(&self.pages, alloc, at as usize, len as usize)?))
     }
 
     /// Writes the lowest `width` bytes of an integer at a place. `Trap` comes exactly where they pass the end.
