@@ -19,7 +19,7 @@ pub use locals::Locals;
 pub use makers::{
     add_elements, add_function, add_global, add_instance, add_memory, add_segment, add_table,
 };
-pub use memories::{copy, drop_segment, fill, grow, init, load, size, store_at};
+pub use memories::{copy, drop_segment, fill, grow, init, load, read, size, store_at, write};
 pub use shared::Shared;
 pub use state::{Store, function, functions, instances, spaces};
 pub use tables::{

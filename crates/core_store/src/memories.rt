@@ -1,7 +1,7 @@
 ghost use Rattle.std.specs.Prelude.{◌≡◌, ◌*◌, ◌<◌, ◌^◌, [], IfOk, length, slice_set};
 ghost use Rattle.core_memory.specs.Number.{IsWidth, bytes_of};
 ghost use Rattle.core_memory.specs.Replaced.{repeated};
-ghost use Rattle.core_memory.specs.Linear.{loaded, size as size_of, Writes, Copies, Moves, Grows};
+ghost use Rattle.core_memory.specs.Linear.{loaded, size as size_of, Reads, Writes, Copies, Moves, Grows};
 ghost use Rattle.core_store.specs.State.{memory_at, segment_at, InMemory};
 
 use crate::state::Store;
@@ -36,6 +36,24 @@ pub fn store_at(
 {
     let alloc = store.alloc;
     store.memories[memory as usize].store(alloc, at, width, value)
+}
+
+/// So many bytes of a memory from a place on. `Trap` comes exactly where they pass the end.
+pub fn read(store: &Store, memory: u32, at: u64, len: u64) -> Result<Bytes, StoreFault>
+    requires { memory < length store.now.memories }
+    ensures { Reads (memory_at store.now memory) at len result }
+{
+    store.memories[memory as usize].read(store.alloc, at, len)
+}
+
+/// Writes bytes at a place of a memory. `Trap` comes exactly where they pass the end.
+/// Pages that are not made are made first. Where memory runs out each byte is as before.
+pub fn write(store: &mut Store, memory: u32, at: u64, bytes: &[u8]) -> Result<(), StoreFault>
+    requires { memory < length store.old.memories }
+    ensures { InMemory store.old store.new memory (λ old new. Writes old new at bytes.now result) }
+{
+    let alloc = store.alloc;
+    store.memories[memory as usize].write(alloc, at, bytes)
 }
 
 /// Sets bytes of a memory to one value. `Trap` comes exactly where they pass the end.
