@@ -1,7 +1,7 @@
 -- The value of a type that lies at a place of a memory (Component Model, CanonicalABI.md, "Loading"), and the one that flat values
 -- stand for ("Flat Lifting"); none where that traps. A memory is its bytes. A handle is the index that lies there: which handle
 -- of the instance's table it names is not decided here.
-use Rattle.std.specs.Prelude.{ℕ, zero, suc, ◌≡◌, ◌+◌, ◌*◌, ◌%◌, ◌^◌, Bool, true, ◌&&◌, nat_eq, nat_le, if◌then◌else◌, List, length, take, drop, slice_index, Option, Some, None, option_map, option_and_then}
+use Rattle.std.specs.Prelude.{ℕ, zero, suc, ◌≡◌, ◌+◌, ◌*◌, ◌%◌, ◌^◌, Bool, true, false, ◌&&◌, ◌||◌, nat_eq, nat_le, if◌then◌else◌, List, length, take, drop, slice_index, Option, Some, None, option_map, option_and_then}
 use Rattle.std.specs.Str.{is_utf8}
 use Rattle.core_memory.specs.Number.{number}
 use Rattle.wit_types.specs.Plain.{Plain, Parts, BoolType, SignedType, UnsignedType, CharType, StringType, ListType, RecordType, VariantType, FlagsType, OwnType, BorrowType, End, More, Bare}
@@ -115,6 +115,26 @@ abbrev mutual
   lift_case memory End n words k = None
   lift_case memory (More _ ty rest) n words k = first_or_later (option_map With (lift_flat memory ty words k)) (λ m. lift_case memory rest m words k) n
   lift_case memory (Bare _ rest) n words k = first_or_later (Some Without) (λ m. lift_case memory rest m words k) n
+
+abbrev mutual
+  -- A value of the type may hold a string or a list, which lie in memory also where the value is passed by flat values.
+  pub has_ranges : Plain → Bool
+  has_ranges BoolType = false
+  has_ranges (SignedType _) = false
+  has_ranges (UnsignedType _) = false
+  has_ranges CharType = false
+  has_ranges StringType = true
+  has_ranges (ListType _) = true
+  has_ranges (RecordType _ fields) = parts_have_ranges fields
+  has_ranges (VariantType _ cases) = parts_have_ranges cases
+  has_ranges (FlagsType _) = false
+  has_ranges (OwnType _) = false
+  has_ranges (BorrowType _) = false
+
+  pub parts_have_ranges : Parts → Bool
+  parts_have_ranges End = false
+  parts_have_ranges (More _ ty rest) = has_ranges ty || parts_have_ranges rest
+  parts_have_ranges (Bare _ rest) = parts_have_ranges rest
 
 -- What is loaded, and what is lifted, has the type.
 abbrev pub LoadedHasType : Type 0

@@ -11,4 +11,7 @@ pub use flat_types::Flat;
 pub use flattening::flatten;
 pub use laws::{loaded_values_have_types, renumbered_values_keep};
 pub use limits::is_small;
-pub use memory::{Layout, align, layout_of, size};
+pub use memory::{
+    Layout, align, align_to, discriminant_width, flags_width, layout_of, layout_of_cases,
+    layout_of_payload, payload_offset, size,
+};

@@ -4,6 +4,7 @@ ghost use Rattle.std.specs.Prelude.{◌≡◌, ◌<◌, ◌^◌, ◌≤◌, ◌+
 ghost use Rattle.wit_types.specs.Plain.{plain, payload_of, case_part, fields_of, types_of, cases_of, End};
 ghost use Rattle.wit_types.specs.Layout.{alignment, greatest_alignment, flags_size, discriminant_size, align_to, size, end_of, greatest_size, variant_size, align_of, size_of};
 ghost use Rattle.wit_types.specs.Limits.{parts, all_parts, IsSmall};
+ghost use Rattle.core_memory.specs.Number.{IsWidth};
 
 use std::rc::Rc;
 use wit_types::{Case, Field, WitType};
@@ -15,9 +16,10 @@ pub struct Layout {
     pub align: u32,
 }
 
-/// The bytes of the number of a case.
-fn discriminant_size(cases: usize) -> u32
+/// The bytes of the number of a case, of so many cases.
+pub fn discriminant_width(cases: usize) -> u8
     ensures value { result ≡ discriminant_size cases }
+    ensures width { IsWidth result }
     ensures least { 1 ≤ result }
     ensures most { result ≤ 4 }
 {
@@ -30,9 +32,10 @@ fn discriminant_size(cases: usize) -> u32
     }
 }
 
-/// The bytes of flags.
-fn flags_size(labels: usize) -> u32
+/// The bytes of so many flags.
+pub fn flags_width(labels: usize) -> u8
     ensures value { result ≡ flags_size labels }
+    ensures width { IsWidth result }
     ensures least { 1 ≤ result }
     ensures most { result ≤ 4 }
 {
@@ -46,13 +49,23 @@ fn flags_size(labels: usize) -> u32
 }
 
 /// The least multiple of the alignment that is not below the place.
-fn align_to(at: u32, align: u32) -> u32
+pub fn align_to(at: u32, align: u32) -> u32
     requires aligned { 1 ≤ align }
     requires fits { at + align < 2 ^ 32 }
     ensures value { result ≡ align_to at align }
     ensures near { result ≤ at + (align - 1) }
 {
     (at + (align - 1)) / align * align
+}
+
+/// Where the payload of a variant of so many cases lies in it, by the greatest alignment of the payloads.
+pub fn payload_offset(cases: usize, align: u32) -> u32
+    requires least { 1 ≤ align }
+    requires aligned { align ≤ 8 }
+    ensures value { result ≡ align_to (discriminant_size cases) align }
+    ensures most { result ≤ 11 }
+{
+    align_to(discriminant_width(cases) as u32, align)
 }
 
 /// What is aligned to its own size.
@@ -73,7 +86,7 @@ fn variant(cases: usize, payloads: Layout) -> Layout
     ensures least { 1 ≤ result.align }
     ensures aligned { result.align ≤ 8 }
 {
-    let tag = discriminant_size(cases);
+    let tag = discriminant_width(cases) as u32;
     let align = u32::max(tag, payloads.align);
     let size = align_to(align_to(tag, payloads.align) + payloads.size, align);
     Layout { size, align }
@@ -90,8 +103,9 @@ fn greater(one: Layout, other: Layout) -> Layout
     }
 }
 
+/// The size and the alignment of a payload; without one they are 0 and 1.
 #[cycle(layout_of)]
-fn layout_of_payload(ty: &Option<Rc<WitType>>) -> Layout
+pub fn layout_of_payload(ty: &Option<Rc<WitType>>) -> Layout
     requires { all_parts (case_part [] (payload_of ty.now) End) ≤ 1000000 }
     ensures size { result.size ≡ greatest_size (case_part [] (payload_of ty.now) End) }
     ensures align { result.align ≡ greatest_alignment (case_part [] (payload_of ty.now) End) }
@@ -149,9 +163,10 @@ fn layout_of_types(types: &[WitType]) -> Layout
     }
 }
 
+/// The greatest size and the greatest alignment of the payloads of cases.
 #[cycle(layout_of)]
 #[tactic(auto, using(crate::proofs::LayoutLemmas::bounds))]
-fn layout_of_cases(cases: &[Case]) -> Layout
+pub fn layout_of_cases(cases: &[Case]) -> Layout
     requires { all_parts (cases_of cases.now) ≤ 1000000 }
     ensures size { result.size ≡ greatest_size (cases_of cases.now) }
     ensures align { result.align ≡ greatest_alignment (cases_of cases.now) }
@@ -186,8 +201,8 @@ pub fn layout_of(ty: &WitType) -> Layout
         WitType::Record(fields) => layout_of_fields(&fields.items),
         WitType::Tuple(types) => layout_of_types(&types.items),
         WitType::Variant(cases) => variant(cases.items.len(), layout_of_cases(&cases.items)),
-        WitType::Flags(labels) => natural(flags_size(labels.len())),
-        WitType::Enum(labels) => natural(discriminant_size(labels.len())),
+        WitType::Flags(labels) => natural(flags_width(labels.len()) as u32),
+        WitType::Enum(labels) => natural(discriminant_width(labels.len()) as u32),
         WitType::Option(some) => variant(2, layout_of(some)),
         WitType::Result(ok, err) => {
             variant(2, greater(layout_of_payload(ok), layout_of_payload(err)))
