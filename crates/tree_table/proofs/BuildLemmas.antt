@@ -268,6 +268,7 @@ module _ (trees : List NamedTree) (order : List Key) (parents first : List ℕ) 
 
     pub holds : Holds trees (record { roots = length trees; rows = rows_upto trees order parents first (length order) })
     holds = record {
+      forest = is_sound;
       roots = refl;
       count = size ∙ o.size;
       entries = λ i w. entry-is i (omega (arith, size));

@@ -5,7 +5,8 @@ use Rattle.std.proofs.Math.Nat.{mul-le-mul_right}
 use Rattle.std.specs.Borrow.{Bor}
 use Rattle.std.proofs.lemmas.List.{append-nil, take_more, take_more_set}
 use Rattle.tree_table.specs.declared.entries.Node.{Node}
-use Rattle.tree_table.specs.Paths.{Answer, Fails, loop, not_permitted, parts_of, before_part, is_empty, is_rooted, resolve_parts, follow_link}
+use Rattle.path_names.specs.Parts.{in_first}
+use Rattle.tree_table.specs.Paths.{Answer, Fails, loop, not_permitted, parts_of, is_empty, is_rooted, resolve_parts, follow_link}
 use Rattle.tree_table.specs.Turns.{stacked}
 
 -- the parts of what is left of a text
@@ -18,7 +19,7 @@ pub some_part : (text : List ℕ) → is_empty (parts_of text) ≡ false
 some_part [] = refl
 some_part (b ∷ text) = by (nat_eq b 47) (parts_of text)
   where
-    by : (t : Bool) (parts : List (List ℕ)) → is_empty (cond t ([] ∷ parts) (before_part b parts)) ≡ false
+    by : (t : Bool) (parts : List (List ℕ)) → is_empty (cond t ([] ∷ parts) (in_first b parts)) ≡ false
     by true parts = refl
     by false [] = refl
     by false (part ∷ parts) = refl

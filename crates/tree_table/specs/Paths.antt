@@ -1,5 +1,6 @@
 -- A path map, and what a path leads to. A path is the list of its names, the innermost first.
 use Rattle.std.specs.Prelude.{ℕ, zero, suc, Bool, true, false, not, ◌&&◌, List, [], ◌∷◌, ◌++◌, Option, Some, None, nat_eq, if◌then◌else◌}
+use Rattle.path_names.specs.Paths.{names_of}
 use Rattle.tree_table.specs.declared.entries.Node.{Node}
 use Rattle.tree_table.specs.declared.entries.Node.TheVariants.{Folder, File, Link}
 
@@ -31,13 +32,8 @@ abbrev pub not_permitted : ℕ
 not_permitted = 31
 
 -- the parts of a text, between its slashes
-abbrev pub before_part : ℕ → List (List ℕ) → List (List ℕ)
-before_part b [] = (b ∷ []) ∷ []
-before_part b (part ∷ parts) = (b ∷ part) ∷ parts
-
 abbrev pub parts_of : List ℕ → List (List ℕ)
-parts_of [] = [] ∷ []
-parts_of (b ∷ text) = if nat_eq b 47 then [] ∷ parts_of text else before_part b (parts_of text)
+parts_of text = names_of text
 
 -- what a part asks for: an empty one and `.` to stay, `..` to go to the parent, any other to go to the child of that name
 pub data Part : Type 0 where

@@ -104,6 +104,8 @@ pub record IsEntry (trees : List NamedTree) (f : Forest) (i : ℕ) : Type 0 wher
 
 -- the table has the nodes of these trees
 pub record Holds (trees : List NamedTree) (f : Forest) : Type 0 where
+  -- the roots come first, each folder's children are a range of numbers, and each other node is in one folder
+  pub forest : IsSound f
   pub roots : tree_count f ≡ length trees
   pub count : count_of f ≡ node_count trees
   pub entries : (i : ℕ) → i < count_of f → IsEntry trees f i

@@ -1,10 +1,11 @@
 -- What trees have to be, and the path map of each.
-use Rattle.std.specs.Prelude.{◌≡◌, ◌≢◌, ℕ, ◌+◌, ◌<◌, ◌≤◌, Bool, true, false, ◌&&◌, List, [], ◌∷◌, ◌++◌, reverse, length, All, Contains, Option, Some, None, slice_get, IsUtf8, if◌then◌else◌}
+use Rattle.std.specs.Prelude.{◌≡◌, ℕ, ◌+◌, ◌<◌, ◌≤◌, Bool, true, false, ◌&&◌, List, [], ◌∷◌, ◌++◌, reverse, length, All, Option, Some, None, slice_get, if◌then◌else◌}
 use Rattle.std.specs.Option.{option_map_or}
 use Rattle.std.specs.Ordering.{nat_cmp, is_eq}
 use Rattle.std.specs.declared.cmp.Ordering.{Ordering}
 use Rattle.std.specs.Cmp.Lexicographic.{slice_cmp}
 use Rattle.std.specs.declared.cmp.Ordering.TheVariants.{Less}
+use Rattle.path_names.specs.Paths.{is_name, is_target}
 use Rattle.tree_table.specs.declared.entries.Node.{Node}
 use Rattle.tree_table.specs.declared.entries.Node.TheVariants.{Folder, File, Link}
 use Rattle.tree_table.specs.declared.entries.Entry.{Entry}
@@ -13,22 +14,6 @@ use Rattle.tree_table.specs.declared.entries.NamedTree.{NamedTree}
 -- the tree's order: part by part in byte order, a folder before what is in it
 abbrev pub path_cmp : List (List ℕ) → List (List ℕ) → Ordering
 path_cmp = slice_cmp (slice_cmp nat_cmp)
-
--- a name has 1 to 255 bytes, holds no `/` or NUL, and isn't `.` or `..`
-pub record IsName (name : List ℕ) : Type 0 where
-  pub some : 0 < length name
-  pub short : length name ≤ 255
-  pub no_slash : ¬ (Contains name 47)
-  pub no_nul : ¬ (Contains name 0)
-  pub no_dot : name ≢ 46 ∷ []
-  pub no_dots : name ≢ 46 ∷ 46 ∷ []
-
--- a target is a text of 1 to 4,096 bytes without NUL
-pub record IsTarget (target : List ℕ) : Type 0 where
-  pub some : 0 < length target
-  pub short : length target ≤ 4096
-  pub no_nul : ¬ (Contains target 0)
-  pub utf8 : IsUtf8 target
 
 abbrev pub IsShort : List ℕ → Type 0
 IsShort name = length name ≤ 255
@@ -76,9 +61,9 @@ entries_of trees t = option_map_or (λ tree. tree.entries) (slice_get trees t) [
 
 -- The limits of trees that a policy gives. In each entry `e` at the place `i` of the tree `t`:
 pub record KeepLimits (trees : List NamedTree) : Type 0 where
-  pub names : (t i : ℕ) (e : Entry) → slice_get (entries_of trees t) i ≡ Some e → All IsName e.path
+  pub names : (t i : ℕ) (e : Entry) → slice_get (entries_of trees t) i ≡ Some e → All (λ name. is_name name ≡ true) e.path
   pub deep : (t i : ℕ) (e : Entry) → slice_get (entries_of trees t) i ≡ Some e → length e.path ≤ 64
-  pub targets : (t i : ℕ) (e : Entry) (target : List ℕ) → slice_get (entries_of trees t) i ≡ Some e → e.node ≡ Link target → IsTarget target
+  pub targets : (t i : ℕ) (e : Entry) (target : List ℕ) → slice_get (entries_of trees t) i ≡ Some e → e.node ≡ Link target → is_target target ≡ true
   pub files : total file_length trees ≤ 67108864
   pub links : total target_length trees ≤ 16777216
 

@@ -1,5 +1,5 @@
 use Rattle.std.proofs.Common.{◌≡◌, ◌+◌, ◌-◌, ◌*◌, ◌<◌, [], ◌++◌, length, take, set, get_or, sym, ap, ◌∙◌, arith, length-set}
-use Rattle.tree_table.specs.Paths.{Fails, parts_of, resolve_parts, follow_link, resolve}
+use Rattle.tree_table.specs.Paths.{parts_of, resolve_parts, follow_link, resolve}
 use Rattle.tree_table.specs.Turns.{stacked}
 use Rattle.tree_table.proofs.WalkLemmas.{rest_parts, cut, stacked-pop, stacked-wait, pay, pay_link, owed-link, too_many, rooted, followed, turned}
 use Rattle.tree_table.proofs.walking.walk_parts.Goals as goal
