@@ -8,3 +8,5 @@ pub mod Tables
 pub mod Slots
 pub mod Orders
 pub mod Linked
+pub mod Checks
+pub mod Scratches
