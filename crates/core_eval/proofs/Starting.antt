@@ -1,21 +1,21 @@
 -- Stores without functions of a module are fine.
-use Rattle.std.proofs.Common.{◌≡◌, ℕ, zero, suc, ◌+◌, [], ◌∷◌, ◌++◌, length, Some, refl, sym, subst, arith}
+use Rattle.std.proofs.Common.{◌≡◌, ℕ, zero, suc, ◌+◌, [], ◌∷◌, ◌++◌, length, Some, refl, sym, subst, arith, Option}
 use Rattle.std.proofs.lemmas.List.{append-nil}
 use Rattle.std.specs.Prelude.{slice_get}
 use Rattle.wasm_ast.specs.declared.module.CoreFunc.{CoreFunc}
 use Rattle.core_store.specs.declared.value.StoreFunc.{StoreFunc}
 use Rattle.core_store.specs.declared.value.StoreFunc.TheVariants.{Outside}
-use Rattle.core_store.specs.State.{empty}
+use Rattle.core_store.specs.State.{empty_with}
 use Rattle.core_eval.specs.Scene.{Scene, Grows, scene_of}
 use Rattle.core_eval.specs.Fine.{FineFunction}
 use Rattle.core_eval.specs.Laws.{EmptyStoresAreFine, EmbeddersFunctionsAreFine}
 use Rattle.core_eval.proofs.Growing.{fine_store}
 
-none_there : (f : ℕ) (g : StoreFunc) → slice_get empty.functions f ≡ Some g → ⊥
-none_there f g e = cc
+none_there : (deepest : Option ℕ) (f : ℕ) (g : StoreFunc) → slice_get (empty_with deepest).functions f ≡ Some g → ⊥
+none_there deepest f g e = cc
 
 pub empty_fine : EmptyStoresAreFine
-empty_fine = record { each = λ f g e. absurd (none_there f g e) }
+empty_fine deepest = record { each = λ f g e. absurd (none_there deepest f g e) }
 
 one_outside : (w : Scene) (ty : CoreFunc) (number k i : ℕ) (g : StoreFunc) → slice_get (Outside ty number ∷ []) i ≡ Some g → FineFunction w k g
 one_outside w ty number k zero g e = let same : Outside ty number ≡ g = cc in subst (FineFunction w k) same tt
@@ -34,5 +34,6 @@ outside_fine s ty number fine =
       memories = omega arith;
       segments = omega arith;
       elements = omega arith;
+      deepest = refl;
     } in
     fine_store (scene_of s) w more fine (λ i g e. one_outside w ty number (length s.functions + i) i g e)

@@ -1,6 +1,7 @@
 -- The nesting allowed to turns and calls does not matter, since each takes a step.
 use Rattle.std.proofs.Common.{length, drop, ◌≡◌, ℕ, zero, suc, ◌-◌, ◌<◌, ◌≤◌, List, [], ◌∷◌, Option, Some, None, Bool, true, false, refl, ap, ◌∙◌, arith}
-use Rattle.std.specs.Prelude.{slice_get, nat_lt, Result, Ok, Err}
+use Rattle.std.specs.Prelude.{slice_get, Result, Ok, Err}
+use Rattle.virt_base.specs.declared.core_type.CoreType.{CoreType}
 use Rattle.virt_base.specs.declared.fault.Trap.{Trap}
 use Rattle.wasm_ast.specs.declared.module.CoreFunc.{CoreFunc}
 use Rattle.wasm_ast.specs.declared.instr.BlockType.{BlockType}
@@ -11,48 +12,57 @@ use Rattle.core_code.specs.Tree.{Seq, Stop, Then, InBlock, InLoop, InIf, tree}
 use Rattle.core_store.specs.declared.value.CoreRef.{CoreRef}
 use Rattle.core_store.specs.declared.value.CoreRef.TheVariants.{Null, Func}
 use Rattle.core_store.specs.declared.value.CoreSpaces.{CoreSpaces}
+use Rattle.core_store.specs.declared.value.CoreValue.{CoreValue}
 use Rattle.core_store.specs.declared.value.StoreFunc.{StoreFunc}
 use Rattle.core_store.specs.declared.value.StoreFunc.TheVariants.{Inside, Outside}
 use Rattle.core_store.specs.Table.{got}
-use Rattle.core_store.specs.State.{table_at}
-use Rattle.core_eval.specs.Words.{i32_in}
-use Rattle.core_eval.specs.Config.{Config, Reply, Out, Next, Break, Back, Over, then_do, with_stack, type_at, block_params, block_results}
+use Rattle.core_store.specs.State.{State, can_enter, table_at}
+use Rattle.core_eval.specs.Words.{words, i32_in}
+use Rattle.core_eval.specs.Config.{Config, Reply, Outcome, Done, Trapped, Asks, Spent, TooDeep, Out, Next, Break, Back, Over, then_do, with_stack, type_at, block_params, block_results}
 use Rattle.core_eval.specs.Plain.{plain}
-use Rattle.core_eval.specs.Eval.{function_type, block_end, step_then, loop_end, call_end, More, Turn, Enter, advance, pop, choose, target, same_func, enter_if, call_ref, call_place, indirect, single, exec, replied, enter_within, begun, entered, more, go}
+use Rattle.core_eval.specs.Laws.{Within as IsWithin, NoMoreStepsAreLeft}
+use Rattle.core_eval.specs.Eval.{function_type, block_end, step_then, loop_end, call_end, More, Turn, Enter, advance, pop, choose, target, same_func, enter_if, call_ref, call_place, indirect, single, exec, replied, deep, enter_within, begun, entered, more, go, finish, outside, eval}
 
 -- no more than n steps are left
-abbrev Within : ℕ → Out → Type 0
+abbrev pub Within : ℕ → Out → Type 0
 Within n (Next m c) = m ≤ n
 Within n (Break k m c) = m ≤ n
 Within n (Back m c) = m ≤ n
-Within n (Over o) = Unit {0}
+Within n (Over o) = IsWithin n o
 
-within_more : (m n : ℕ) (o : Out) → m ≤ n → Within m o → Within n o
+over_more : (m n : ℕ) (o : Outcome) → m ≤ n → IsWithin m o → IsWithin n o
+over_more m n (Done values s left) le h = omega arith
+over_more m n Trapped le h = tt
+over_more m n (Asks number args s left) le h = omega arith
+over_more m n Spent le h = tt
+over_more m n TooDeep le h = tt
+
+pub within_more : (m n : ℕ) (o : Out) → m ≤ n → Within m o → Within n o
 within_more m n (Next i c) le h = omega arith
 within_more m n (Break k i c) le h = omega arith
 within_more m n (Back i c) le h = omega arith
-within_more m n (Over o) le h = tt
+within_more m n (Over o) le h = over_more m n o le h
 
-advance_within : (n : ℕ) (o : Option Config) → Within n (advance o n)
+pub advance_within : (n : ℕ) (o : Option Config) → Within n (advance o n)
 advance_within n None = tt
 advance_within n (Some c) = omega arith
 
 -- what takes turns and calls leaves no more steps
-abbrev Falls : (More → ℕ → Config → Out) → Type 0
+abbrev pub Falls : (More → ℕ → Config → Out) → Type 0
 Falls f = (m : More) (n : ℕ) (c : Config) → Within n (f m n c)
 
 then_within : (n : ℕ) (o : Out) (f : ℕ → Config → Out) → Within n o → ((m : ℕ) (c : Config) → Within m (f m c)) → Within n (then_do o f)
 then_within n (Next m c) f h each = within_more m n (f m c) h (each m c)
 then_within n (Break k m c) f h each = h
 then_within n (Back m c) f h each = h
-then_within n (Over o) f h each = tt
+then_within n (Over o) f h each = h
 
 block_within : (a h n : ℕ) (o : Out) → Within n o → Within n (block_end a h o)
 block_within a h n (Next m c) b = b
 block_within a h n (Break zero m c) b = b
 block_within a h n (Break (suc k) m c) b = b
 block_within a h n (Back m c) b = b
-block_within a h n (Over o) b = tt
+block_within a h n (Over o) b = b
 
 choose_within : (w n : ℕ) (a b : Out) → Within n a → Within n b → Within n (choose w a b)
 choose_within zero n a b ha hb = ha
@@ -208,30 +218,34 @@ loop_within p h n f (Next m c) b each = b
 loop_within p h n f (Break zero m c) b each = step_within n m f (with_stack c _) b each
 loop_within p h n f (Break (suc k) m c) b each = b
 loop_within p h n f (Back m c) b each = b
-loop_within p h n f (Over o) b each = tt
+loop_within p h n f (Over o) b each = b
 
 call_within : (r n : ℕ) (stack locals : List ℕ) (sp : CoreSpaces) (o : Out) → Within n o → Within n (call_end r stack locals sp o)
 call_within r n stack locals sp (Next m c) b = b
 call_within r n stack locals sp (Break zero m c) b = b
 call_within r n stack locals sp (Break (suc k) m c) b = tt
 call_within r n stack locals sp (Back m c) b = b
-call_within r n stack locals sp (Over o) b = tt
+call_within r n stack locals sp (Over o) b = b
 
 replied_within : (ty : CoreFunc) (k n : ℕ) (c : Config) (rs : List Reply) → Within n (replied ty k n c rs)
-replied_within ty k n c [] = tt
+replied_within ty k n c [] = omega arith
 replied_within ty k n c (r ∷ rs) = omega arith
+
+deep_within : (n : ℕ) → Within n (Over (deep n))
+deep_within zero = tt
+deep_within (suc n) = tt
 
 enter_within_within : (b : Bool) (n : ℕ) (o : Out) → Within n o → Within n (enter_within b n o)
 enter_within_within true n o h = h
-enter_within_within false n o h = tt
+enter_within_within false n o h = deep_within n
 
 entered_within : (f : More → ℕ → Config → Out) → Falls f → (g : Option StoreFunc) (n : ℕ) (c : Config) → Within n (entered f g n c)
 entered_within f falls None n c = tt
 entered_within f falls (Some (Inside ty instance locals body)) n c =
-    enter_within_within (nat_lt c.store.nesting 65536) n _ (call_within (length ty.results) n (drop (length ty.params) c.stack) c.locals c.spaces _ (exec_within f falls (tree body) n (begun ty instance (length locals) c)))
+    enter_within_within (can_enter c.store) n _ (call_within (length ty.results) n (drop (length ty.params) c.stack) c.locals c.spaces _ (exec_within f falls (tree body) n (begun ty instance (length locals) c)))
 entered_within f falls (Some (Outside ty number)) n c = replied_within ty number n c c.replies
 
-more_falls : (d : ℕ) → Falls (more d)
+pub more_falls : (d : ℕ) → Falls (more d)
 more_falls zero m n c = tt
 more_falls (suc d) (Turn t body) n c =
     loop_within _ _ n (more d (Turn t body)) (exec (more d) body n c) (exec_within (more d) (more_falls d) body n c) (more_falls d (Turn t body))
@@ -257,10 +271,10 @@ turn_same f g falls t body p h n c same =
 entered_same : (f g : More → ℕ → Config → Out) → Falls f → (o : Option StoreFunc) (n : ℕ) (c : Config) → Agree n f g → entered f o n c ≡ entered g o n c
 entered_same f g falls None n c same = refl
 entered_same f g falls (Some (Inside ty instance locals body)) n c same =
-    ap (λ o. enter_within (nat_lt c.store.nesting 65536) n (call_end (length ty.results) (drop (length ty.params) c.stack) c.locals c.spaces o)) (exec_same f g falls (tree body) n (begun ty instance (length locals) c) same)
+    ap (λ o. enter_within (can_enter c.store) n (call_end (length ty.results) (drop (length ty.params) c.stack) c.locals c.spaces o)) (exec_same f g falls (tree body) n (begun ty instance (length locals) c) same)
 entered_same f g falls (Some (Outside ty number)) n c same = refl
 
-more_same : (d e : ℕ) (a : More) (n : ℕ) (c : Config) → n < d → n < e → more d a n c ≡ more e a n c
+pub more_same : (d e : ℕ) (a : More) (n : ℕ) (c : Config) → n < d → n < e → more d a n c ≡ more e a n c
 more_same zero e a n c lt lt' = absurd (omega arith)
 more_same (suc d) zero a n c lt lt' = absurd (omega arith)
 more_same (suc d) (suc e) (Turn t body) n c lt lt' =
@@ -277,3 +291,14 @@ go_turn t body n c =
 pub go_enter : (f n : ℕ) (c : Config) → go (Enter f) n c ≡ entered go (slice_get c.store.functions f) n c
 go_enter f n c =
     entered_same (more n) go (more_falls n) (slice_get c.store.functions f) n c (λ a m u below. more_same n (suc m) a m u below (omega arith))
+
+-- a call from outside
+finish_within : (ts : List CoreType) (n : ℕ) (o : Out) → Within n o → IsWithin n (finish ts o)
+finish_within ts n (Next m c) h = h
+finish_within ts n (Break k m c) h = tt
+finish_within ts n (Back m c) h = tt
+finish_within ts n (Over o) h = h
+
+pub within : NoMoreStepsAreLeft
+within s f args rs n =
+    finish_within (function_type (slice_get s.functions f)).results n _ (more_falls (suc n) (Enter f) n (outside (words args) s rs))

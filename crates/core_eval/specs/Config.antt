@@ -21,15 +21,15 @@ pub record Config : Type 0 where
   pub store : State
   pub replies : List Reply
 
--- how an evaluation ends
+-- how an evaluation ends, with the steps that are left where it is done and where it asks
 pub data Outcome : Type 0 where
-  Done : (values : List CoreValue) (store : State) → Outcome
+  Done : (values : List CoreValue) (store : State) (left : ℕ) → Outcome
   Trapped : Outcome
   -- the replies are used up where a function of the embedder is called, which has this number
-  Asks : (number : ℕ) (args : List CoreValue) (store : State) → Outcome
+  Asks : (number : ℕ) (args : List CoreValue) (store : State) (left : ℕ) → Outcome
   -- an instruction is due, or a call too deep, and no step is left
   Spent : Outcome
-  -- the 65,537th call in progress is due
+  -- a call more is due than the store's limit allows
   TooDeep : Outcome
 
 -- how a piece of code ends, with the steps that are left: it goes on behind its end, to a label, or out of its function; or all ends

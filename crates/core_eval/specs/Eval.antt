@@ -1,6 +1,6 @@
 -- Core evaluation, by recursion on the structured syntax (WebAssembly Core 2.0, sections 4.4.8 to 4.4.10). Each instruction takes a step, but for `else`
 -- and `end`. The steps are those of the modules' own instructions: what happens in a call of the embedder is counted by the one who answers it.
-use Rattle.std.specs.Prelude.{ℕ, zero, suc, ◌+◌, ◌-◌, nat_lt, ◌&&◌, Bool, true, false, List, [], ◌∷◌, ◌++◌, length, take, drop, reverse, replicate, slice_get, slice_index_or, Option, Some, None, Result, Ok, Err}
+use Rattle.std.specs.Prelude.{ℕ, zero, suc, ◌+◌, ◌-◌, ◌&&◌, Bool, true, false, List, [], ◌∷◌, ◌++◌, length, take, drop, reverse, replicate, slice_get, slice_index_or, Option, Some, None, Result, Ok, Err}
 use Rattle.std.specs.Int.{w64, cast_unsigned}
 use Rattle.virt_base.specs.declared.fault.Trap.{Trap}
 use Rattle.virt_base.specs.declared.core_type.CoreType.{CoreType}
@@ -19,7 +19,7 @@ use Rattle.core_store.specs.declared.value.CoreSpaces.{CoreSpaces}
 use Rattle.core_store.specs.declared.value.StoreFunc.{StoreFunc}
 use Rattle.core_store.specs.declared.value.StoreFunc.TheVariants.{Inside, Outside}
 use Rattle.core_store.specs.Table.{got}
-use Rattle.core_store.specs.State.{State, table_at}
+use Rattle.core_store.specs.State.{State, can_enter, table_at}
 use Rattle.core_eval.specs.Words.{words, i32_in, values_in}
 use Rattle.core_eval.specs.Config.{Config, Reply, Outcome, Done, Trapped, Asks, Spent, TooDeep, Out, Next, Break, Back, Over, then_do, with_stack, kept, bare, spaces_of, untyped, type_at, block_params, block_results}
 use Rattle.core_eval.specs.Plain.{plain}
@@ -173,11 +173,11 @@ arguments s ty stack = values_in (length s.functions) ty.params (reverse (take (
 
 -- a function of the embedder: its reply, or the question where the replies are used up
 abbrev pub replied : CoreFunc → ℕ → ℕ → Config → List Reply → Out
-replied ty number n c [] = Over (Asks number (arguments c.store ty c.stack) c.store)
+replied ty number n c [] = Over (Asks number (arguments c.store ty c.stack) c.store n)
 replied ty number n c (r ∷ rs) =
     Next n (record { stack = reverse (words r.results) ++ drop (length ty.params) c.stack; locals = c.locals; spaces = c.spaces; store = r.store; replies = rs })
 
--- a call that is too deep
+-- a call more than the store's limit allows
 abbrev pub deep : ℕ → Outcome
 deep zero = Spent
 deep (suc n) = TooDeep
@@ -199,7 +199,7 @@ begun ty instance locals c = record {
 abbrev pub entered : (More → ℕ → Config → Out) → Option StoreFunc → ℕ → Config → Out
 entered more None n c = Over Trapped
 entered more (Some (Inside ty instance locals body)) n c =
-    enter_within (nat_lt c.store.nesting 65536) n
+    enter_within (can_enter c.store) n
     (call_end (length ty.results) (drop (length ty.params) c.stack) c.locals c.spaces (exec more (tree body) n (begun ty instance (length locals) c)))
 entered more (Some (Outside ty number)) n c = replied ty number n c c.replies
 
@@ -216,7 +216,7 @@ go m n c = more (suc n) m n c
 
 -- how a call from outside ends, whose results have these types
 abbrev pub finish : List CoreType → Out → Outcome
-finish ts (Next n c) = Done (values_in (length c.store.functions) ts (reverse c.stack)) c.store
+finish ts (Next n c) = Done (values_in (length c.store.functions) ts (reverse c.stack)) c.store n
 finish ts (Break k n c) = Trapped
 finish ts (Back n c) = Trapped
 finish ts (Over o) = o

@@ -1,4 +1,4 @@
--- What of a store no instruction changes: its functions and instances, and how many other items there are.
+-- What of a store no instruction changes: its functions and instances, how many other items there are, and how deep calls may nest.
 use Rattle.std.specs.Prelude.{ℕ, ◌≡◌, ◌<◌, ◌≤◌, List, [], ◌++◌, Option, Some, None, length, slice_get}
 use Rattle.virt_base.specs.declared.core_type.CoreType.{CoreType}
 use Rattle.wasm_ast.specs.declared.instr.Instr.{Instr}
@@ -17,6 +17,7 @@ pub record Scene : Type 0 where
   pub memories : ℕ
   pub segments : ℕ
   pub elements : ℕ
+  pub deepest : Option ℕ
 
 abbrev pub scene_of : State → Scene
 scene_of s = record {
@@ -27,6 +28,7 @@ scene_of s = record {
   memories = length s.memories;
   segments = length s.segments;
   elements = length s.elements;
+  deepest = s.deepest;
 }
 
 abbrev pub code_of : Option StoreFunc → List Instr
@@ -66,3 +68,13 @@ pub record Grows (w v : Scene) : Type 0 where
   pub memories : w.memories ≤ v.memories
   pub segments : w.segments ≤ v.segments
   pub elements : w.elements ≤ v.elements
+  pub deepest : w.deepest ≡ v.deepest
+
+-- a store only grew: functions and instances were appended, no other item was taken away, and calls may nest as deep as before
+abbrev pub Grew : State → State → Type 0
+Grew s t = Grows (scene_of s) (scene_of t)
+
+-- a store only grew, and as many calls are in progress as before: those that were begun in between came back
+pub record CameBack (s t : State) : Type 0 where
+  pub grew : Grew s t
+  pub nesting : s.nesting ≡ t.nesting

@@ -50,3 +50,18 @@ value_like functions (values.Ref r) w = values.Ref (ref_in functions w)
 -- what a test leaves
 abbrev pub word_of_bool : ℕ → ℕ
 word_of_bool w = if w == 0 then 1 else 0
+
+-- a value of this type
+abbrev pub HasType : CoreType → CoreValue → Type 0
+HasType I32 (values.I32 n) = Unit {0}
+HasType I64 (values.I64 n) = Unit {0}
+HasType Funcref (values.Ref r) = Unit {0}
+HasType Externref (values.Ref r) = Unit {0}
+HasType t v = ⊥
+
+-- values of these types, one each
+abbrev pub HaveTypes : List CoreType → List CoreValue → Type 0
+HaveTypes [] [] = Unit {0}
+HaveTypes [] (v ∷ vs) = ⊥
+HaveTypes (t ∷ ts) [] = ⊥
+HaveTypes (t ∷ ts) (v ∷ vs) = HasType t v × HaveTypes ts vs

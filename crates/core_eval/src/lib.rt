@@ -3,17 +3,7 @@
 
 mod laws;
 
-pub use laws::{calls_are_bodies, fine_stores_grow, stores_begin_fine, turns_are_bodies};
-
-#[cfg(test)]
-mod tests {
-    use super::{calls_are_bodies, fine_stores_grow, stores_begin_fine, turns_are_bodies};
-
-    #[test]
-    fn laws() {
-        turns_are_bodies();
-        calls_are_bodies();
-        fine_stores_grow();
-        stores_begin_fine();
-    }
-}
+pub use laws::{
+    calls_are_bodies, fine_stores_grow, growth_adds_up, nesting_comes_back, replies_are_asked_for,
+    steps_are_counted, store_calls_grow, stores_begin_fine, stores_come_back, turns_are_bodies,
+};

@@ -26,6 +26,7 @@ made s m names v = record {
   elements = s.elements ++ map (refs_of names) m.elements;
   instances = s.instances ++ v ∷ [];
   nesting = s.nesting;
+  deepest = s.deepest;
 }
 
 pub chain : (s : State) (m : Module) (imports : List Extern) (names : Names) (v : CoreSpaces) (a b c d e f g : State)

@@ -43,7 +43,7 @@ longer : {A B : Type 0} (xs : List A) (ys : List B) (f : B → A) → length xs 
 longer xs ys f = omega (arith, length-append xs (map f ys))
 
 -- allocation adds items
-grows : (s : State) (m : Module) (imports : List Extern) → Grows (scene_of s) (scene_of (allocated s m imports))
+pub grows : (s : State) (m : Module) (imports : List Extern) → Grows (scene_of s) (scene_of (allocated s m imports))
 grows s m imports = record {
   new_functions = functions_from m (length s.instances) 0 m.code;
   functions = refl;
@@ -54,6 +54,7 @@ grows s m imports = record {
   memories = longer s.memories m.memories (λ (l : Limits). fresh l.min l.max);
   segments = longer s.segments m.segments bytes_of;
   elements = longer s.elements m.elements (refs_of (names_of s m imports));
+  deepest = refl;
 }
 
 framed : (w : Scene) (f n : ℕ) (g : StoreFunc) → slice_get w.functions f ≡ Some g →

@@ -15,3 +15,4 @@ pub mod DecideLemmas
 pub mod SuitLemmas
 pub mod FineLemmas
 pub mod CountLemmas
+pub mod ExportLemmas

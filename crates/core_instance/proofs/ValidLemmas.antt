@@ -21,11 +21,11 @@ use Rattle.core_sound.specs.Sound.{AllMet}
 use Rattle.core_instance.specs.Instantiation.{IsClosed}
 use Rattle.core_instance.proofs.EndLemmas.{valid_ends}
 
-behind : (c : Context) (xs ys : List Item) → AllHold c (xs ++ ys) → AllHold c ys
+pub behind : (c : Context) (xs ys : List Item) → AllHold c (xs ++ ys) → AllHold c ys
 behind c [] ys h = h
 behind c (x ∷ xs) ys h = behind c xs ys h.1
 
-before : (c : Context) (xs ys : List Item) → AllHold c (xs ++ ys) → AllHold c xs
+pub before : (c : Context) (xs ys : List Item) → AllHold c (xs ++ ys) → AllHold c xs
 before c [] ys h = tt
 before c (x ∷ xs) ys h = (h.0, before c xs ys h.1)
 

@@ -68,6 +68,7 @@ allocated s m imports = record {
   elements = s.elements ++ map (refs_of (names_of s m imports)) m.elements;
   instances = s.instances ++ record (places_of s m imports) { types = m.types } ∷ [];
   nesting = s.nesting;
+  deepest = s.deepest;
 }
 
 -- ---- segments: the store behind them, or the store in which one traps

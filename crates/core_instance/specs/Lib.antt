@@ -2,3 +2,4 @@ pub mod Spaces
 pub mod Constants
 pub mod Instantiation
 pub mod Matching
+pub mod Exported

@@ -4,6 +4,7 @@ ghost use Rattle.core_validate.specs.Validity.{IsValidModule};
 ghost use Rattle.core_instance.specs.Spaces.{IsThere, places_of};
 ghost use Rattle.core_instance.specs.Instantiation.{Answers, IsClosed, allocated, names_of};
 ghost use Rattle.core_instance.specs.Matching.{StaysFine};
+ghost use Rattle.core_instance.specs.Exported.{GivesExports, OnlyGrew};
 
 use crate::allocate::{
     add_functions, add_globals, add_memories, add_references, add_segments, add_tables,
@@ -89,6 +90,7 @@ fn allocate(
 ///
 /// `Trap` comes exactly where a segment passes the end of its table or memory; what was written before it stays, and the
 /// instance's place is taken. The caller runs the start function. After `NoMemory` nothing is said of the store.
+/// The exports are those of the module's type: each is there, and a function has the type that it has there.
 pub fn instantiate(
     alloc: Global,
     store: &mut Store,
@@ -99,6 +101,8 @@ pub fn instantiate(
     requires imports { All (IsThere store.old) imports.now }
     ensures answers { Answers store.old module.now imports.now store.new result }
     ensures fine { StaysFine store.old module.now imports.now store.new result }
+    ensures grew { OnlyGrew store.old store.new result }
+    ensures exports { IfOk result (GivesExports store.old module.now imports.now store.new) }
 {
     let number = instances(store);
     let Allocated { places, names } = allocate(alloc, store, module, imports)?;

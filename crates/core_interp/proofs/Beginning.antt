@@ -1,7 +1,7 @@
 -- The first call, and a call over all its pauses.
-use Rattle.std.proofs.Common.{◌≡◌, ℕ, zero, suc, ◌+◌, ◌<◌, List, [], ◌∷◌, ◌++◌, length, take, drop, Some, Option, Bool, refl, sym, ap, ◌∙◌, subst, arith, append_assoc, length-append}
+use Rattle.std.proofs.Common.{◌≡◌, ℕ, zero, suc, ◌+◌, ◌-◌, ◌<◌, ◌≤◌, List, [], ◌∷◌, ◌++◌, length, take, drop, Some, Option, Bool, true, false, refl, sym, ap, ◌∙◌, subst, arith, length-append}
 use Rattle.std.specs.Prelude.{reverse, replicate, slice_get}
-use Rattle.std.proofs.lemmas.List.{append-nil, drop_all, length-reverse, length-take-le, length-replicate}
+use Rattle.std.proofs.lemmas.List.{drop_all, length-drop, length-reverse, length-take-le, length-replicate}
 use Rattle.virt_base.specs.declared.core_type.CoreType.{CoreType}
 use Rattle.wasm_ast.specs.declared.module.CoreFunc.{CoreFunc}
 use Rattle.wasm_ast.specs.declared.instr.Instr.{Instr}
@@ -9,10 +9,10 @@ use Rattle.core_code.specs.Tree.{tree, parts}
 use Rattle.core_store.specs.declared.value.CoreValue.{CoreValue}
 use Rattle.core_store.specs.declared.value.StoreFunc.{StoreFunc}
 use Rattle.core_store.specs.declared.value.StoreFunc.TheVariants.{Inside, Outside}
-use Rattle.core_store.specs.State.{State}
-use Rattle.core_eval.specs.Words.{words, values_in}
+use Rattle.core_store.specs.State.{State, can_enter}
+use Rattle.core_eval.specs.Words.{words, values_in, HaveTypes}
 use Rattle.core_eval.specs.Config.{Reply, Done, Asks, bare, spaces_of}
-use Rattle.core_eval.specs.Eval.{arguments, function_type, go, exec, finish, eval, entered, enter_within, call_end, entered_store, begun}
+use Rattle.core_eval.specs.Eval.{arguments, function_type, go, exec, finish, entered, enter_within, call_end, entered_store, begun}
 use Rattle.core_eval.proofs.Steps.{go_enter}
 use Rattle.core_slots.specs.Stacked.{Stacked, opened}
 use Rattle.core_interp.specs.declared.control.Control.{Control}
@@ -25,13 +25,11 @@ use Rattle.core_eval.specs.Scene.{Scene, scene_of, code_of, instance_of, results
 use Rattle.core_interp.specs.Rest.{config_of, goes_with, goes_at}
 use Rattle.core_eval.specs.Fine.{frame_at, Fine, IsFine, params_of}
 use Rattle.core_interp.specs.Valid.{IsReady}
-use Rattle.core_interp.specs.Run.{progress, calls, ReadyAt}
-use Rattle.core_interp.specs.Session.{results_due, goes_on, IsFirst, CanRun, resumed, PauseLeads, granted, Follows, Says, asking, AsksBy, Dues}
-use Rattle.core_interp.proofs.Changes.{lt_true, lt_false}
+use Rattle.core_interp.specs.Run.{progress, calls, entries, ReadyAt}
+use Rattle.core_interp.specs.Session.{results_due, goes_on, IsFirst, CanRun, IsAnswer, resumed, PauseLeads, granted, asking, AsksBy, Dues}
 use Rattle.core_interp.proofs.Given.{pushed}
 use Rattle.core_eval.proofs.Growing.{functions_longer}
-use Rattle.core_interp.proofs.Extending.{grows}
-use Rattle.core_interp.proofs.Pauses.{goes_at_stage, staged_at, at_stage, due_leads, asked_same, asks_only, due_more, asked_for}
+use Rattle.core_interp.proofs.Pauses.{goes_at_stage, staged_at, at_stage, due_leads, asked_same, asks_only, due_more, asked_for, arguments_typed, words_len}
 
 pub first_of : (m : Machine) (s : State) → m.stage ≡ Starts → CanRun m s → IsFirst m s
 first_of m s e can = staged_at m s Starts e can.staged
@@ -53,7 +51,7 @@ begins m s g rs n e there =
 none_below : (m : Machine) (s : State) (g : StoreFunc) → IsFirst m s → slice_get s.functions m.entry ≡ Some g → drop (params_of g) m.running.slots.operands ≡ []
 none_below m s g x e = let n = first_count m s g x e in drop_all (params_of g) m.running.slots.operands (omega arith)
 
-module _ (m k : Machine) (s t : State) (i : ℕ) (ty : CoreFunc) (locals : List CoreType) (body : List Instr) (stage : m.stage ≡ Starts) (x : IsFirst m s) (there : slice_get s.functions m.entry ≡ Some (Inside ty i locals body)) (went : (s.nesting < 65536) × (t ≡ entered_store s)) (entry : k.entry ≡ m.entry) (runs : k.stage ≡ Runs) (function : k.running.function ≡ m.running.function) (at : k.running.at ≡ m.running.at) (slots : k.running.slots ≡ opened (length ty.params) (length locals) m.running.slots) (controls : k.running.controls.items ≡ m.running.controls.items ++ Entry (length ty.results) ∷ []) where
+module _ (m k : Machine) (s t : State) (i : ℕ) (ty : CoreFunc) (locals : List CoreType) (body : List Instr) (stage : m.stage ≡ Starts) (x : IsFirst m s) (there : slice_get s.functions m.entry ≡ Some (Inside ty i locals body)) (went : (can_enter s ≡ true) × (t ≡ entered_store s)) (entry : k.entry ≡ m.entry) (runs : k.stage ≡ Runs) (function : k.running.function ≡ m.running.function) (at : k.running.at ≡ m.running.at) (slots : k.running.slots ≡ opened (length ty.params) (length locals) m.running.slots) (controls : k.running.controls.items ≡ m.running.controls.items ++ Entry (length ty.results) ∷ []) where
   in_progress : progress k.running ≡ Entry (length ty.results) ∷ []
   in_progress = pushed m.running.controls.items k.running.controls.items _ controls ∙ ap (λ (xs : List Control). Entry (length ty.results) ∷ reverse xs) x.controls
 
@@ -76,7 +74,7 @@ module _ (m k : Machine) (s t : State) (i : ℕ) (ty : CoreFunc) (locals : List 
       let A = opened (length ty.params) (length locals) m.running.slots in
       let o = exec go (tree body) n (config_of (opened (length ty.params) (length locals) m.running.slots) (spaces_of s.instances i) (entered_store s) rs) in
       begins m s (Inside ty i locals body) rs n stage there
-      ∙ ap (λ (b : Bool). finish (results_due m s) (enter_within b n (call_end (length ty.results) (drop (length ty.params) m.running.slots.operands) m.running.slots.locals bare o))) (lt_true s.nesting 65536 went.0)
+      ∙ ap (λ (b : Bool). finish (results_due m s) (enter_within b n (call_end (length ty.results) (drop (length ty.params) m.running.slots.operands) m.running.slots.locals bare o))) went.0
       ∙ ap (λ xs. finish (results_due m s) (call_end (length ty.results) xs m.running.slots.locals bare o)) (none_below m s (Inside ty i locals body) x there)
       ∙ ap (λ xs. finish (results_due m s) (call_end (length ty.results) [] xs bare o)) x.locals
       ∙ ap (λ (h : Option StoreFunc). finish (results_due m s) (goes_with (scene_of s) (spaces_of s.instances (instance_of h)) (code_of h) (parts (drop 0 (code_of h))) A (Entry (length ty.results) ∷ []) (entered_store s) rs n)) (sym there)
@@ -108,22 +106,26 @@ module _ (m k : Machine) (s t : State) (i : ℕ) (ty : CoreFunc) (locals : List 
       } in
       let nest : t.nesting ≡ s.nesting + 1 = ap (λ (v : State). v.nesting) went.1 in
       let there_too : k.entry < length t.functions = subst (λ (fs : List StoreFunc). k.entry < length fs) (sym (ap (λ (v : State). v.functions) went.1)) (omega arith) in
-      at_stage k t Runs runs there_too (record {
-        at = back_at_start (λ f j a cs. ReadyAt (scene_of t) f j a cs) (subst (λ (w : Scene). ReadyAt w m.entry 0 A (Entry (length ty.results) ∷ [])) (sym same_scene) start);
-        counted = omega (arith, ap calls in_progress);
-      })
+      let due : length ty.results ≡ length (results_due k t) = results ∙ ap (λ (w : Scene). length (results_at w m.entry)) (sym same_scene) ∙ ap (λ f. length (results_at (scene_of t) f)) (sym entry) in
+      at_stage k t Runs runs there_too (
+        record {
+          at = back_at_start (λ f j a cs. ReadyAt (scene_of t) f j a cs) (subst (λ (w : Scene). ReadyAt w m.entry 0 A (Entry (length ty.results) ∷ [])) (sym same_scene) start);
+          counted = omega (arith, ap calls in_progress);
+        },
+        ap entries in_progress ∙ ap (λ n. n ∷ []) due,
+      )
 
 -- the first call is too deep
-pub first_deep : (m k : Machine) (s : State) (i a : ℕ) (ty : CoreFunc) (locals : List CoreType) (body : List Instr) (p : Pause) → m.stage ≡ Starts → k.stage ≡ Due → k.entry ≡ m.entry → CanRun m s → slice_get s.functions m.entry ≡ Some (Inside ty i locals body) → s.nesting ≡ 65536 → Dues a p → PauseLeads (granted (goes_on m s) a) a p k s
+pub first_deep : (m k : Machine) (s : State) (i a : ℕ) (ty : CoreFunc) (locals : List CoreType) (body : List Instr) (p : Pause) → m.stage ≡ Starts → k.stage ≡ Due → k.entry ≡ m.entry → CanRun m s → slice_get s.functions m.entry ≡ Some (Inside ty i locals body) → can_enter s ≡ false → Dues a p → PauseLeads (granted (goes_on m s) (a - a)) a p k s
 first_deep m k s i a ty locals body p e e' en can there full h =
     let lt = can.entry in
-    due_leads (granted (goes_on m s) a) a p k s e' (omega arith)
-    (λ rs n. begins m s (Inside ty i locals body) rs (a + n) e there
-    ∙ ap (λ (b : Bool). finish (results_due m s) (enter_within b (a + n) (call_end (length ty.results) (drop (length ty.params) m.running.slots.operands) m.running.slots.locals bare (exec go (tree body) (a + n) (begun ty i (length locals) (config_of m.running.slots bare s rs)))))) (lt_false s.nesting 65536 (omega arith)))
+    due_leads (granted (goes_on m s) (a - a)) a p k s e' (omega arith)
+    (λ rs n. (let q : a - a + n ≡ n = omega arith in ap (goes_on m s rs) q) ∙ begins m s (Inside ty i locals body) rs n e there
+    ∙ ap (λ (b : Bool). finish (results_due m s) (enter_within b n (call_end (length ty.results) (drop (length ty.params) m.running.slots.operands) m.running.slots.locals bare (exec go (tree body) n (begun ty i (length locals) (config_of m.running.slots bare s rs)))))) full)
     h
 
 -- the first call is the embedder's
-pub first_asks : (m mid k : Machine) (s : State) (a number : ℕ) (ty : CoreFunc) (p : Pause) → m.stage ≡ Starts → mid.stage ≡ Answered → mid.entry ≡ m.entry → mid.running.slots ≡ m.running.slots → CanRun m s → slice_get s.functions m.entry ≡ Some (Outside ty number) → AsksBy (slice_get s.functions m.entry) s mid k p → PauseLeads (granted (goes_on m s) a) a p k s
+pub first_asks : (m mid k : Machine) (s : State) (a number : ℕ) (ty : CoreFunc) (p : Pause) → m.stage ≡ Starts → mid.stage ≡ Answered → mid.entry ≡ m.entry → mid.running.slots ≡ m.running.slots → CanRun m s → slice_get s.functions m.entry ≡ Some (Outside ty number) → AsksBy (slice_get s.functions m.entry) s mid k p → PauseLeads (granted (goes_on m s) (a - a)) a p k s
 first_asks m mid k s a number ty p e em en same can there by = cases p by (asks_only (slice_get s.functions m.entry) s mid k p by)
   where
     x : IsFirst m s
@@ -134,6 +136,12 @@ first_asks m mid k s a number ty p e em en same can there by = cases p by (asks_
 
     none : drop (length ty.params) mid.running.slots.operands ≡ []
     none = ap (λ (z : Stacked). drop (length ty.params) z.operands) same ∙ none_below m s (Outside ty number) x there
+
+    fits : length ty.params ≤ length mid.running.slots.operands
+    fits = let n = first_count m s (Outside ty number) x there in let q : length mid.running.slots.operands ≡ length m.running.slots.operands = ap (λ (z : Stacked). length z.operands) same in omega arith
+
+    none_taken : (rs : List Reply) (n : ℕ) → granted (goes_on m s) (a - a) rs n ≡ goes_on m s rs n
+    none_taken rs n = let q : a - a + n ≡ n = omega arith in ap (goes_on m s rs) q
 
     left : (vs : List CoreValue) → length vs ≡ length ty.results → (resumed (asking ty mid) vs).running.slots.operands ≡ reverse (words vs) ++ drop (length ty.params) m.running.slots.operands
     left vs n =
@@ -146,41 +154,34 @@ first_asks m mid k s a number ty p e em en same can there by = cases p by (asks_
         drop_exactly (suc k) [] ys q = absurd (omega arith)
         drop_exactly (suc k) (y ∷ xs) ys q = drop_exactly k xs ys (omega arith)
 
-    host : (j : ℕ) (args : List CoreValue) → AsksBy (slice_get s.functions m.entry) s mid k (pauses.AtHost j args) → PauseLeads (granted (goes_on m s) a) a (pauses.AtHost j args) k s
+    -- the results are all the operands
+    all_there : (r : Reply) → IsAnswer (length ty.results) s r → length (resumed (asking ty mid) r.results).running.slots.operands ≡ length (results_due (resumed (asking ty mid) r.results) r.store)
+    all_there r ans =
+        ap length (left r.results ans.results)
+        ∙ (let n = first_count m s (Outside ty number) x there in let c = ans.results in omega (arith, length-append (reverse (words r.results)) (drop (length ty.params) m.running.slots.operands), length-reverse (words r.results), words_len r.results, length-drop (length ty.params) m.running.slots.operands))
+        ∙ ap (λ (o : Option StoreFunc). length (function_type o).results) (sym there)
+        ∙ ap (λ f. length (results_at (scene_of s) f)) (sym en)
+        ∙ ap length (sym (due_more mid s r.store ans.back.grew lt))
+
+    host : (j : ℕ) (args : List CoreValue) → AsksBy (slice_get s.functions m.entry) s mid k (pauses.AtHost j args) → PauseLeads (granted (goes_on m s) (a - a)) a (pauses.AtHost j args) k s
     host j args h =
         let q = asked_same s m.entry number j ty mid k args there h in
-        let goal : PauseLeads (granted (goes_on m s) a) a (pauses.AtHost j args) (asking ty mid) s = (
-          λ n. begins m s (Outside ty number) [] (a + n) e there
-              ∙ ap (λ i. Asks i (arguments s ty m.running.slots.operands) s) (sym q.0)
-              ∙ ap (λ (z : Stacked). Asks j (arguments s ty z.operands) s) (sym same)
-              ∙ ap (λ v. Asks j v s) (sym q.1),
+        let goal : PauseLeads (granted (goes_on m s) (a - a)) a (pauses.AtHost j args) (asking ty mid) s = (
+          λ n. none_taken [] n ∙ begins m s (Outside ty number) [] n e there
+              ∙ ap (λ i. Asks i (arguments s ty m.running.slots.operands) s n) (sym q.0)
+              ∙ ap (λ (z : Stacked). Asks j (arguments s ty z.operands) s n) (sym same)
+              ∙ ap (λ v. Asks j v s n) (sym q.1),
           λ r ans. (
-            λ rs n. begins m s (Outside ty number) (r ∷ rs) (a + n) e there
-                ∙ ap (λ ts. Done (values_in (length r.store.functions) ts (reverse (reverse (words r.results) ++ drop (length ty.params) m.running.slots.operands))) r.store) (ap (results_at (scene_of s)) (sym en) ∙ sym (due_more mid s r.store ans.extends lt))
-                ∙ ap (λ xs. Done (values_in (length r.store.functions) (results_due mid r.store) (reverse xs)) r.store) (sym (left r.results ans.count))
-                ∙ sym (goes_at_stage (resumed (asking ty mid) r.results) r.store Answered rs (a + n) em),
-            at_stage (resumed (asking ty mid) r.results) r.store Answered em (let longer = functions_longer _ _ (grows s r.store ans.extends) in let l = lt in omega arith) tt,
+            λ rs n. none_taken (r ∷ rs) n ∙ begins m s (Outside ty number) (r ∷ rs) n e there
+                ∙ ap (λ ts. Done (values_in (length r.store.functions) ts (reverse (reverse (words r.results) ++ drop (length ty.params) m.running.slots.operands))) r.store n) (ap (results_at (scene_of s)) (sym en) ∙ sym (due_more mid s r.store ans.back.grew lt))
+                ∙ ap (λ xs. Done (values_in (length r.store.functions) (results_due mid r.store) (reverse xs)) r.store n) (sym (left r.results ans.results))
+                ∙ sym (goes_at_stage (resumed (asking ty mid) r.results) r.store Answered rs n em),
+            at_stage (resumed (asking ty mid) r.results) r.store Answered em (let longer = functions_longer _ _ ans.back.grew in let l = lt in omega arith) (all_there r ans),
           ),
-          asked_for m.entry j ty mid s (subst (λ i. slice_get s.functions m.entry ≡ Some (Outside ty i)) (sym q.0) there),
+          asked_for m.entry j ty mid s args (subst (λ i. slice_get s.functions m.entry ≡ Some (Outside ty i)) (sym q.0) there) (subst (HaveTypes ty.params) (sym q.1) (arguments_typed s ty mid.running.slots.operands fits)),
+          lt,
         ) in
-        subst (λ z. PauseLeads (granted (goes_on m s) a) a (pauses.AtHost j args) z s) (sym q.2) goal
+        subst (λ z. PauseLeads (granted (goes_on m s) (a - a)) a (pauses.AtHost j args) z s) (sym q.2) goal
 
-    cases : (p : Pause) → AsksBy (slice_get s.functions m.entry) s mid k p → (j : ℕ) × (args : List CoreValue) × (p ≡ pauses.AtHost j args) → PauseLeads (granted (goes_on m s) a) a p k s
-    cases p h w = subst (λ z. PauseLeads (granted (goes_on m s) a) a z k s) (sym w.2) (host w.0 w.1 (subst (AsksBy (slice_get s.functions m.entry) s mid k) w.2 h))
-
--- what a pause says of the call from its start
-pub says : (first : State) (f : ℕ) (args : List CoreValue) (used : List Reply) (given a b : ℕ) (m m' : Machine) (s t : State) (p : Pause) → Follows first f args used given a m s → PauseLeads (granted (goes_on m s) a) b p m' t → Says first f args used given b p m' t
-says first f args used given a b m m' s t (pauses.Done v) x l = λ rs n. x.so_far rs n ∙ l rs n
-says first f args used given a b m m' s t pauses.Trapped x l = λ rs n. x.so_far rs n ∙ l rs n
-says first f args used given a b m m' s t pauses.TooDeep x l = (l.0, λ rs n. x.so_far rs n ∙ l.1 rs n)
-says first f args used given a b m m' s t (pauses.AtHost k v) x l = (
-  λ n. ap (λ us. eval first f args us (given + n)) (sym (append-nil used)) ∙ x.so_far [] n ∙ l.0 n,
-  λ r ans. record { so_far = λ rs n. ap (λ us. eval first f args us (given + n)) (append_assoc used (r ∷ []) rs) ∙ x.so_far (r ∷ rs) n ∙ (l.1 r ans).0 rs n },
-)
-says first f args used given a b m m' s t pauses.Spent x l =
-    let e : given + 0 ≡ given = omega arith in
-    let up : (n : ℕ) → n ≡ 0 + n = λ n. omega arith in (
-      l.0,
-      λ rs. ap (eval first f args (used ++ rs)) (sym e) ∙ x.so_far rs 0 ∙ l.1 rs,
-      record { so_far = λ rs n. x.so_far rs n ∙ l.2 rs n ∙ ap (goes_on m' t rs) (up n) },
-    )
+    cases : (p : Pause) → AsksBy (slice_get s.functions m.entry) s mid k p → (j : ℕ) × (args : List CoreValue) × (p ≡ pauses.AtHost j args) → PauseLeads (granted (goes_on m s) (a - a)) a p k s
+    cases p h w = subst (λ z. PauseLeads (granted (goes_on m s) (a - a)) a z k s) (sym w.2) (host w.0 w.1 (subst (AsksBy (slice_get s.functions m.entry) s mid k) w.2 h))

@@ -16,7 +16,7 @@ use Rattle.core_store.specs.declared.value.CoreValue.{CoreValue}
 use Rattle.core_store.specs.declared.value.StoreFunc.{StoreFunc}
 use Rattle.core_store.specs.declared.value.StoreFunc.TheVariants.{Inside, Outside}
 use Rattle.core_store.specs.Table.{got}
-use Rattle.core_store.specs.State.{State, table_at}
+use Rattle.core_store.specs.State.{State, can_enter, table_at}
 use Rattle.core_eval.specs.Words.{words, i32_in}
 use Rattle.core_eval.specs.Config.{Reply, Config, Over, Asks, Trapped, then_do, spaces_of, type_at}
 use Rattle.core_eval.specs.Eval.{type_of, function_type, same_type, same_types, same_func, enter_if, call_ref, call_place, indirect, Enter, exec, go, entered, enter_within, call_end, begun, entered_store, deep, arguments}
@@ -30,7 +30,6 @@ use Rattle.core_eval.specs.Fine.{Frame, Place, frame_at, Fine, IsFine, params_of
 use Rattle.core_interp.specs.Valid.{arities, Stands, IsReady}
 use Rattle.core_interp.specs.Jumping.{IsEntering, enters}
 use Rattle.core_interp.specs.Run.{answered}
-use Rattle.core_interp.proofs.Changes.{lt_true, lt_false}
 use Rattle.core_interp.proofs.Moves.{conts_later, stands_later, over_after}
 
 -- a call is what its function does
@@ -39,13 +38,13 @@ entered_goes w sp code qs a cs s rs f n g e =
     ap (λ o. after (conts w code cs qs a.callers) (then_do o (exec go (first qs).here))) (go_enter f n (config_of a sp s rs) ∙ ap (λ (k : Option StoreFunc). entered go k n (config_of a sp s rs)) e)
 
 -- a function of a module is entered, from function `own`, where `to` is the place behind the call
-pub inside_goes : (own f to i : ℕ) (ty : CoreFunc) (locals : List CoreType) (body : List Instr) (qs : List Part) (a : Stacked) (cs : List Control) (s : State) (rs : List Reply) (n : ℕ) → slice_get s.functions f ≡ Some (Inside ty i locals body) → s.nesting < 65536 → parts (drop to (code_at (scene_of s) own)) ≡ qs → enters (scene_of s) (spaces_at (scene_of s) own) (code_at (scene_of s) own) qs a cs s rs f n ≡ goes_with (scene_of s) (spaces_of s.instances i) body (parts (drop 0 body)) (opened (length ty.params) (length locals) a) (Called own to (length ty.results) ∷ cs) (entered_store s) rs n
+pub inside_goes : (own f to i : ℕ) (ty : CoreFunc) (locals : List CoreType) (body : List Instr) (qs : List Part) (a : Stacked) (cs : List Control) (s : State) (rs : List Reply) (n : ℕ) → slice_get s.functions f ≡ Some (Inside ty i locals body) → can_enter s ≡ true → parts (drop to (code_at (scene_of s) own)) ≡ qs → enters (scene_of s) (spaces_at (scene_of s) own) (code_at (scene_of s) own) qs a cs s rs f n ≡ goes_with (scene_of s) (spaces_of s.instances i) body (parts (drop 0 body)) (opened (length ty.params) (length locals) a) (Called own to (length ty.results) ∷ cs) (entered_store s) rs n
 inside_goes own f to i ty locals body qs a cs s rs n e shallow at =
     let w = scene_of s in
     let o = exec go (tree body) n (config_of (opened (length ty.params) (length locals) a) (spaces_of s.instances i) (entered_store s) rs) in
     let ended = call_end (length ty.results) (drop (length ty.params) a.operands) a.locals (spaces_at w own) o in
     entered_goes w (spaces_at w own) (code_at w own) qs a cs s rs f n (Inside ty i locals body) e
-    ∙ ap (λ (b : Bool). after (conts w (code_at w own) cs qs a.callers) (then_do (enter_within b n ended) (exec go (first qs).here))) (lt_true s.nesting 65536 shallow)
+    ∙ ap (λ (b : Bool). after (conts w (code_at w own) cs qs a.callers) (then_do (enter_within b n ended) (exec go (first qs).here))) shallow
     ∙ ap (λ (xs : List Part). after (AfterCall (length ty.results) (drop (length ty.params) a.operands) a.locals (spaces_at w own) (first xs).here ∷ conts w (code_at w own) cs xs a.callers) o) (sym at)
 
 pub inside_ready : (own f to i : ℕ) (ty : CoreFunc) (locals : List CoreType) (body : List Instr) (qs : List Part) (a : Stacked) (cs : List Control) (w : Scene) → IsFine w → IsInside w (slice_get w.functions own) → slice_get w.functions f ≡ Some (Inside ty i locals body) → parts (drop to (code_at w own)) ≡ qs → IsEntering w (frame_at w own (length a.locals)) (code_at w own) qs a cs f → IsReady w (frame_at w f (length (opened (length ty.params) (length locals) a).locals)) body (parts (drop 0 body)) (opened (length ty.params) (length locals) a) (Called own to (length ty.results) ∷ cs)
@@ -92,14 +91,14 @@ enters_fits w fr code qs a cs f g e x =
     let there = x.there in omega arith
 
 -- a call that is too deep
-pub deep_goes : (w : Scene) (fr : Frame) (sp : CoreSpaces) (code : List Instr) (f i : ℕ) (ty : CoreFunc) (locals : List CoreType) (body : List Instr) (qs : List Part) (a : Stacked) (cs : List Control) (s : State) (rs : List Reply) (n : ℕ) → slice_get s.functions f ≡ Some (Inside ty i locals body) → 65536 ≤ s.nesting → IsEntering w fr code qs a cs f → enters w sp code qs a cs s rs f n ≡ Over (deep n)
+pub deep_goes : (w : Scene) (fr : Frame) (sp : CoreSpaces) (code : List Instr) (f i : ℕ) (ty : CoreFunc) (locals : List CoreType) (body : List Instr) (qs : List Part) (a : Stacked) (cs : List Control) (s : State) (rs : List Reply) (n : ℕ) → slice_get s.functions f ≡ Some (Inside ty i locals body) → can_enter s ≡ false → IsEntering w fr code qs a cs f → enters w sp code qs a cs s rs f n ≡ Over (deep n)
 deep_goes w fr sp code f i ty locals body qs a cs s rs n e full x =
     entered_goes w sp code qs a cs s rs f n (Inside ty i locals body) e
-    ∙ ap (λ (b : Bool). after (conts w code cs qs a.callers) (then_do (enter_within b n (call_end (length ty.results) (drop (length ty.params) a.operands) a.locals sp (exec go (tree body) n (begun ty i (length locals) (config_of a sp s rs))))) (exec go (first qs).here))) (lt_false s.nesting 65536 full)
+    ∙ ap (λ (b : Bool). after (conts w code cs qs a.callers) (then_do (enter_within b n (call_end (length ty.results) (drop (length ty.params) a.operands) a.locals sp (exec go (tree body) n (begun ty i (length locals) (config_of a sp s rs))))) (exec go (first qs).here))) full
     ∙ over_after w fr code cs qs a.callers x.floor x.ends (deep n) x.below
 
 -- a function of the embedder
-pub outside_asks : (w : Scene) (fr : Frame) (sp : CoreSpaces) (code : List Instr) (f number : ℕ) (ty : CoreFunc) (qs : List Part) (a : Stacked) (cs : List Control) (s : State) (n : ℕ) → slice_get s.functions f ≡ Some (Outside ty number) → IsEntering w fr code qs a cs f → enters w sp code qs a cs s [] f n ≡ Over (Asks number (arguments s ty a.operands) s)
+pub outside_asks : (w : Scene) (fr : Frame) (sp : CoreSpaces) (code : List Instr) (f number : ℕ) (ty : CoreFunc) (qs : List Part) (a : Stacked) (cs : List Control) (s : State) (n : ℕ) → slice_get s.functions f ≡ Some (Outside ty number) → IsEntering w fr code qs a cs f → enters w sp code qs a cs s [] f n ≡ Over (Asks number (arguments s ty a.operands) s n)
 outside_asks w fr sp code f number ty qs a cs s n e x =
     entered_goes w sp code qs a cs s [] f n (Outside ty number) e
     ∙ over_after w fr code cs qs a.callers x.floor x.ends _ x.below

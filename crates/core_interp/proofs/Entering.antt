@@ -14,7 +14,7 @@ use Rattle.core_store.specs.declared.value.CoreSpaces.{CoreSpaces}
 use Rattle.core_store.specs.declared.value.StoreFunc.{StoreFunc}
 use Rattle.core_store.specs.declared.value.StoreFunc.TheVariants.{Inside, Outside}
 use Rattle.core_store.specs.Table.{got}
-use Rattle.core_store.specs.State.{State, table_at}
+use Rattle.core_store.specs.State.{State, can_enter, table_at}
 use Rattle.core_eval.specs.Words.{i32_in}
 use Rattle.core_eval.specs.Config.{Reply, Out, Over, Outcome, Trapped, Asks, then_do, spaces_of, type_at}
 use Rattle.core_eval.specs.Eval.{call_ref, exec, go, type_of, same_func, entered_store, deep, arguments}
@@ -33,7 +33,7 @@ use Rattle.core_interp.specs.Run.{progress, calls, ReadyAt, IsBefore, LeadsTo, A
 use Rattle.core_interp.proofs.Calling.{inside_goes, inside_ready, deep_goes, outside_asks, outside_goes, outside_ready, enters_fits, call_goes, call_entering, call_there, indirect_goes, indirect_enters, indirect_traps, indirect_entering, indirect_below, indirect_needs, other_type}
 use Rattle.core_interp.proofs.Given.{code_in, spaces_in, frame_in, ready_own, steps_own, pushed, arrive}
 
-pub enter_inside : (m : Running) (s t : State) (f i : ℕ) (ty : CoreFunc) (locals : List CoreType) (body : List Instr) (b : Stacked) (ys : List Control) → Enters m s f → IsFine (scene_of s) → slice_get s.functions f ≡ Some (Inside ty i locals body) → (s.nesting < 65536) × (t ≡ entered_store s) → b ≡ opened (length ty.params) (length locals) m.slots → ys ≡ m.controls.items ++ Called m.function (m.at + 1) (length ty.results) ∷ [] → LeadsTo (entry m s f) f 0 b (reverse ys) t
+pub enter_inside : (m : Running) (s t : State) (f i : ℕ) (ty : CoreFunc) (locals : List CoreType) (body : List Instr) (b : Stacked) (ys : List Control) → Enters m s f → IsFine (scene_of s) → slice_get s.functions f ≡ Some (Inside ty i locals body) → (can_enter s ≡ true) × (t ≡ entered_store s) → b ≡ opened (length ty.params) (length locals) m.slots → ys ≡ m.controls.items ++ Called m.function (m.at + 1) (length ty.results) ∷ [] → LeadsTo (entry m s f) f 0 b (reverse ys) t
 enter_inside m s t f i ty locals body b ys x fine e went opens push =
     let W = scene_of s in
     let A = opened (length ty.params) (length locals) m.slots in
@@ -59,9 +59,9 @@ enter_within m s f x = slice_get_within s.functions f x.entering.callee x.enteri
 pub enter_fits : (m : Running) (s : State) (f i : ℕ) (ty : CoreFunc) (locals : List CoreType) (body : List Instr) → Enters m s f → slice_get s.functions f ≡ Some (Inside ty i locals body) → length ty.params ≤ length m.slots.operands
 enter_fits m s f i ty locals body x e = enters_fits (scene_of s) (frame_in m s m.slots) (code_in m s) (next_parts m s) m.slots (progress m) f _ e x.entering
 
-pub enter_deep : (m : Running) (s : State) (f i : ℕ) (ty : CoreFunc) (locals : List CoreType) (body : List Instr) (rs : List Reply) (n : ℕ) → Enters m s f → slice_get s.functions f ≡ Some (Inside ty i locals body) → s.nesting ≡ 65536 → entry m s f rs n ≡ Over (deep n)
+pub enter_deep : (m : Running) (s : State) (f i : ℕ) (ty : CoreFunc) (locals : List CoreType) (body : List Instr) (rs : List Reply) (n : ℕ) → Enters m s f → slice_get s.functions f ≡ Some (Inside ty i locals body) → can_enter s ≡ false → entry m s f rs n ≡ Over (deep n)
 enter_deep m s f i ty locals body rs n x e full =
-    deep_goes (scene_of s) (frame_in m s m.slots) (spaces_in m s) (code_in m s) f i ty locals body (next_parts m s) m.slots (progress m) s rs n e (omega arith) x.entering
+    deep_goes (scene_of s) (frame_in m s m.slots) (spaces_in m s) (code_in m s) f i ty locals body (next_parts m s) m.slots (progress m) s rs n e full x.entering
 
 pub enter_outside : (m : Running) (s : State) (f number : ℕ) (ty : CoreFunc) (k : Running) → Enters m s f → slice_get s.functions f ≡ Some (Outside ty number) → k.function ≡ m.function → k.at ≡ m.at + 1 → k.slots ≡ m.slots → progress k ≡ progress m → AsksFor (entry m s f) f k s
 enter_outside m s f number ty k x e same_f same_at same_a same_c =
@@ -71,14 +71,14 @@ enter_outside m s f number ty k x e same_f same_at same_a same_c =
       number = number;
       callee_is = e;
       fits = subst (λ (z : Stacked). length ty.params ≤ length z.operands) (sym same_a) (enters_fits W (frame_in m s m.slots) (code_in m s) (next_parts m s) m.slots (progress m) f _ e x.entering);
-      asks = λ n. subst (λ (z : Stacked). entry m s f [] n ≡ Over (asked z)) (sym same_a) (outside_asks W (frame_in m s m.slots) (spaces_in m s) (code_in m s) f number ty (next_parts m s) m.slots (progress m) s n e x.entering);
+      asks = λ n. subst (λ (z : Stacked). entry m s f [] n ≡ Over (asked z n)) (sym same_a) (outside_asks W (frame_in m s m.slots) (spaces_in m s) (code_in m s) f number ty (next_parts m s) m.slots (progress m) s n e x.entering);
       goes = λ r rs n. outside_goes W (spaces_in m s) (code_in m s) f number ty (next_parts m s) m.slots (progress m) s r rs n e ∙ sym (moved (λ g at a cs. goes_at W g at (answered ty a r.results) cs r.store rs n));
       ready = λ results len. back (λ g at a cs. ReadyAt W g at (answered ty a results) cs) (record { inside = x.inside; ready = outside_ready W (frame_in m s m.slots) (code_in m s) f number ty (next_parts m s) m.slots (progress m) results e len x.entering });
       counted = subst (λ cs. calls cs ≤ s.nesting) (sym same_c) x.counted;
     }
   where
-    asked : Stacked → Outcome
-    asked z = Asks number (arguments s ty z.operands) s
+    asked : Stacked → ℕ → Outcome
+    asked z n = Asks number (arguments s ty z.operands) s n
 
     moved : {A : Type 0} (P : ℕ → ℕ → Stacked → List Control → A) → P k.function k.at k.slots (progress k) ≡ P m.function (m.at + 1) m.slots (progress m)
     moved P = ap (λ g. P g k.at k.slots (progress k)) same_f ∙ ap (λ at. P m.function at k.slots (progress k)) same_at ∙ ap (λ a. P m.function (m.at + 1) a (progress k)) same_a ∙ ap (λ cs. P m.function (m.at + 1) m.slots cs) same_c

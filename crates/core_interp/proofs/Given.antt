@@ -183,7 +183,7 @@ leave_entry m s t r ys e stop x left =
     )
 
 -- a branch to label k of `xs`, after which `zs` is what is left of `xs` down to that label's
-dropped : (xs zs : List Control) (k : ℕ) → k ≤ length xs → zs ≡ take (length xs - k) xs → reverse zs ≡ drop k (reverse xs)
+pub dropped : (xs zs : List Control) (k : ℕ) → k ≤ length xs → zs ≡ take (length xs - k) xs → reverse zs ≡ drop k (reverse xs)
 dropped xs zs k le e =
     let n = length xs - k in
     let back : reverse xs ≡ reverse (drop n xs) ++ reverse (take n xs) = ap reverse (sym (take-append-drop n xs)) ∙ reverse-append (take n xs) (drop n xs) in

@@ -9,9 +9,11 @@ pub mod Calling
 pub mod Given
 pub mod Alike
 pub mod Entering
+pub mod Entries
 pub mod Stepping
 pub mod Extending
 pub mod Asking
 pub mod Pauses
+pub mod Saying
 pub mod Beginning
 pub mod AtHand

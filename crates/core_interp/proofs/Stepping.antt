@@ -27,7 +27,7 @@ use Rattle.core_interp.specs.Rest.{after, conts, config_of, goes_with}
 use Rattle.core_eval.specs.Fine.{Frame, frame_at, FineOne, Names, takes, gives}
 use Rattle.core_interp.specs.Valid.{IsReady}
 use Rattle.core_interp.specs.Plains.{Does}
-use Rattle.core_interp.specs.Run.{progress, goes, own_parts, Ready, IsBefore, LeadsTo, Leads, RunLeads, ahead, steps, next_parts, Branches, branches, Returns, backs, IsCounted, Performs, HasTable, TakesLabel, Steps}
+use Rattle.core_interp.specs.Run.{progress, goes, own_parts, Ready, IsBefore, LeadsTo, Leads, RunLeads, ahead, TrapsBehind, steps, AsksFor, next_parts, Branches, branches, Returns, backs, IsCounted, Performs, HasTable, TakesLabel, Steps}
 use Rattle.core_interp.proofs.Moves.{parts_at, conts_later, stands_later, over_after, then_goes, then_traps, then_ready, fine_one}
 use Rattle.core_interp.proofs.Given.{code_in, spaces_in, frame_in, at_own, ready_own, steps_own, arrive}
 
@@ -237,20 +237,24 @@ return_goes m s rs n x =
     steps_own Return m s rs n x
     ∙ ap (λ ks. after ks (Back n (config_of m.slots (spaces_in m s) s rs))) (conts_later (scene_of s) (code_in m s) (progress m) (placed Return (next_parts m s)) (next_parts m s) m.slots.callers refl)
 
+-- where a question leads that is asked by another run too
+pub asks_from : (X Y : List Reply → ℕ → Out) (f : ℕ) (m : Running) (s : State) → ((rs : List Reply) (n : ℕ) → Y rs n ≡ X rs n) → AsksFor X f m s → AsksFor Y f m s
+asks_from X Y f m s up x = record { ty = x.ty; number = x.number; callee_is = x.callee_is; fits = x.fits; asks = λ n. up [] n ∙ x.asks n; goes = λ r rs n. up (r ∷ rs) n ∙ x.goes r rs n; ready = x.ready; counted = x.counted }
+
 -- a step, and what takes none, from the budget
-pub shifted : (X Y : List Reply → ℕ → Out) (flow : Flow) (b : ℕ) (m : Running) (s : State) → ((rs : List Reply) (n : ℕ) → Y rs n ≡ X rs (b + n)) → Leads X flow m s → RunLeads Y b flow m s
-shifted X Y On b m s up x = (λ rs n. up rs n ∙ x.goes rs (b + n), record { at = x.ready; counted = x.counted })
-shifted X Y (Ended r) b m s up x = (x.0, λ rs n. up rs n ∙ x.1 rs (b + n))
-shifted X Y Failed b m s up x = λ rs n. up rs n ∙ x rs (b + n)
-shifted X Y (Asking f) b m s up x = (X, up, x)
-shifted X Y Deep b m s up x = λ rs n. up rs n ∙ x rs (b + n)
+pub shifted : (X Y : List Reply → ℕ → Out) (flow : Flow) (b : ℕ) (m : Running) (s : State) → ((rs : List Reply) (n : ℕ) → Y rs n ≡ X rs n) → Leads X flow m s → RunLeads Y b flow m s
+shifted X Y On b m s up x = (λ rs n. up rs n ∙ x.goes rs n, record { at = x.ready; counted = x.counted })
+shifted X Y (Ended r) b m s up x = (x.0, λ rs n. up rs n ∙ x.1 rs n)
+shifted X Y Failed b m s up x = λ rs n. up rs n ∙ x rs n
+shifted X Y (Asking f) b m s up x = asks_from X Y f m s up x
+shifted X Y Deep b m s up x = λ rs n. up rs n ∙ x rs n
 shifted X Y Exhausted b m s up x = absurd x
 
-pub stepped : (m m' : Running) (s t : State) (a b : ℕ) (flow : Flow) → a ≡ b + 1 → Leads (steps m s) flow m' t → RunLeads (ahead (goes m s) a) b flow m' t
-stepped m m' s t a b flow e l = shifted (steps m s) (ahead (goes m s) a) flow b m' t (λ rs n. let q : a + n ≡ suc (b + n) = omega arith in ap (goes m s rs) q) l
+pub stepped : (m m' : Running) (s t : State) (a b : ℕ) (flow : Flow) → a ≡ b + 1 → Leads (steps m s) flow m' t → RunLeads (ahead (goes m s) (a - b)) b flow m' t
+stepped m m' s t a b flow e l = shifted (steps m s) (ahead (goes m s) (a - b)) flow b m' t (λ rs n. let q : a - b + n ≡ suc n = omega arith in ap (goes m s rs) q) l
 
-pub free : (m m' : Running) (s t : State) (b : ℕ) (flow : Flow) → Leads (goes m s) flow m' t → RunLeads (ahead (goes m s) b) b flow m' t
-free m m' s t b flow l = shifted (goes m s) (ahead (goes m s) b) flow b m' t (λ rs n. refl) l
+pub free : (m m' : Running) (s t : State) (b : ℕ) (flow : Flow) → Leads (goes m s) flow m' t → RunLeads (ahead (goes m s) (b - b)) b flow m' t
+free m m' s t b flow l = shifted (goes m s) (ahead (goes m s) (b - b)) flow b m' t (λ rs n. let q : b - b + n ≡ n = omega arith in ap (goes m s rs) q) l
 
 -- with no step left, an instruction that takes one is not begun
 spent_with : (w : Scene) (fr : Frame) (i : Instr) (m : Running) (s : State) (rs : List Reply) → IsCounted i → IsReady w fr (code_in m s) (placed i (next_parts m s)) m.slots (progress m) → (w ≡ scene_of s) → goes_with (scene_of s) (spaces_in m s) (code_in m s) (placed i (next_parts m s)) m.slots (progress m) s rs 0 ≡ after (conts (scene_of s) (code_in m s) (progress m) (placed i (next_parts m s)) m.slots.callers) (Over Spent)
@@ -270,14 +274,21 @@ spent_with w fr Return m s rs p x q = refl
 spent_with w fr (Call f) m s rs p x q = refl
 spent_with w fr (CallIndirect ty t) m s rs p x q = refl
 
--- one run after another
-pub then_leads : (X : List Reply → ℕ → Out) (m m' : Running) (s t : State) (a b : ℕ) (flow : Flow) → ((rs : List Reply) (n : ℕ) → X rs n ≡ goes m s rs (a + n)) → RunLeads (ahead (goes m s) a) b flow m' t → RunLeads X b flow m' t
-then_leads X m m' s t a b On e x = (λ rs n. e rs n ∙ x.0 rs n, x.1)
-then_leads X m m' s t a b (Ended r) e x = (x.0, λ rs n. e rs n ∙ x.1 rs n)
-then_leads X m m' s t a b Failed e x = λ rs n. e rs n ∙ x rs n
-then_leads X m m' s t a b (Asking f) e x = (x.0, λ rs n. e rs n ∙ x.1 rs n, x.2)
-then_leads X m m' s t a b Deep e x = λ rs n. e rs n ∙ x rs n
-then_leads X m m' s t a b Exhausted e x = (x.0, λ rs. e rs 0 ∙ x.1 rs, λ rs n. e rs n ∙ x.2 rs n, x.3)
+-- one run after another, the first of c - a steps
+pub then_leads : (X : List Reply → ℕ → Out) (m m' : Running) (s t : State) (c a b : ℕ) (flow : Flow) → b ≤ a → a ≤ c → ((rs : List Reply) (n : ℕ) → ahead X (c - a) rs n ≡ goes m s rs n) → RunLeads (ahead (goes m s) (a - b)) b flow m' t → RunLeads (ahead X (c - b)) b flow m' t
+then_leads X m m' s t c a b flow lt le e x = on_from (ahead (goes m s) (a - b)) (ahead X (c - b)) flow b m' t (λ rs n. let q : c - b + n ≡ c - a + (a - b + n) = omega arith in ap (X rs) q ∙ e rs (a - b + n)) x
+  where
+    on_from : (X Y : List Reply → ℕ → Out) (flow : Flow) (b : ℕ) (m : Running) (s : State) → ((rs : List Reply) (n : ℕ) → Y rs n ≡ X rs n) → RunLeads X b flow m s → RunLeads Y b flow m s
+    on_from X Y On b m s up x = (λ rs n. up rs n ∙ x.0 rs n, x.1)
+    on_from X Y (Ended r) b m s up x = (x.0, λ rs n. up rs n ∙ x.1 rs n)
+    on_from X Y Failed b m s up x = λ rs n. up rs n ∙ x rs n
+    on_from X Y (Asking f) b m s up x = asks_from X Y f m s up x
+    on_from X Y Deep b m s up x = λ rs n. up rs n ∙ x rs n
+    on_from X Y Exhausted b m s up x = (x.0, λ rs. up rs 0 ∙ x.1 rs, λ rs n. up rs n ∙ x.2 rs n, x.3)
+
+-- the same, where the run goes on
+pub then_on : (X : List Reply → ℕ → Out) (m m' : Running) (s t : State) (c a b : ℕ) (rs : List Reply) (n : ℕ) → b ≤ a → a ≤ c → ((rs : List Reply) (n : ℕ) → ahead X (c - a) rs n ≡ goes m s rs n) → RunLeads (ahead (goes m s) (a - b)) b On m' t → ahead X (c - b) rs n ≡ goes m' t rs n
+then_on X m m' s t c a b rs n lt le e x = (then_leads X m m' s t c a b On lt le e x).0 rs n
 
 -- the instruction that the machine read
 pub before_at : (i : Instr) (m : Running) (s : State) → slice_get (code_in m s) m.at ≡ Some i → m.at + 1 < 18446744073709551616 → Ready m s → IsBefore i m s
@@ -326,17 +337,25 @@ some_instr : (i j : Instr) → Some i ≡ Some j → i ≡ j
 some_instr i j e = cc
 
 -- with no step left, the instruction at hand is not begun
-pub spent_all : (m : Running) (s : State) (a : ℕ) → a ≡ 0 → Steps m s → RunLeads (ahead (goes m s) a) a Exhausted m s
-spent_all m s a e x =
+pub spent_now : (m : Running) (s : State) (rs : List Reply) → Steps m s → goes m s rs 0 ≡ Over Spent
+spent_now m s rs x =
     let there = slice_get-get_or (code_in m s) m.at End x.within in
-    let z : a + 0 ≡ 0 = omega arith in
-    let up : (n : ℕ) → a + n ≡ n = λ n. omega arith in
-    let ready : IsReady (scene_of s) (frame_in m s m.slots) (code_in m s) (placed (get_or (code_in m s) m.at End) (next_parts m s)) m.slots (progress m) = subst (λ ps. IsReady (scene_of s) (frame_in m s m.slots) (code_in m s) ps m.slots (progress m)) (parts_at (code_in m s) m.at (get_or (code_in m s) m.at End) there) x.ready.at.ready in (
-      e,
-      λ rs. ap (goes m s rs) z
-          ∙ ap (λ ps. goes_with (scene_of s) (spaces_in m s) (code_in m s) ps m.slots (progress m) s rs 0) (parts_at (code_in m s) m.at (get_or (code_in m s) m.at End) there)
-          ∙ spent_with (scene_of s) (frame_in m s m.slots) (get_or (code_in m s) m.at End) m s rs (x.counted _ there) ready refl
-          ∙ over_after (scene_of s) (frame_in m s m.slots) (code_in m s) (progress m) (placed (get_or (code_in m s) m.at End) (next_parts m s)) m.slots.callers ready.floor ready.ends Spent ready.below,
-      λ rs n. ap (goes m s rs) (up n),
-      x.ready,
-    )
+    let ready : IsReady (scene_of s) (frame_in m s m.slots) (code_in m s) (placed (get_or (code_in m s) m.at End) (next_parts m s)) m.slots (progress m) = subst (λ ps. IsReady (scene_of s) (frame_in m s m.slots) (code_in m s) ps m.slots (progress m)) (parts_at (code_in m s) m.at (get_or (code_in m s) m.at End) there) x.ready.at.ready in
+    ap (λ ps. goes_with (scene_of s) (spaces_in m s) (code_in m s) ps m.slots (progress m) s rs 0) (parts_at (code_in m s) m.at (get_or (code_in m s) m.at End) there)
+    ∙ spent_with (scene_of s) (frame_in m s m.slots) (get_or (code_in m s) m.at End) m s rs (x.counted _ there) ready refl
+    ∙ over_after (scene_of s) (frame_in m s m.slots) (code_in m s) (progress m) (placed (get_or (code_in m s) m.at End) (next_parts m s)) m.slots.callers ready.floor ready.ends Spent ready.below
+
+pub spent_all : (m : Running) (s : State) (a : ℕ) → a ≡ 0 → Steps m s → RunLeads (ahead (goes m s) (a - a)) a Exhausted m s
+spent_all m s a e x =
+    let z : a - a + 0 ≡ 0 = omega arith in
+    let up : (n : ℕ) → a - a + n ≡ n = λ n. omega arith in
+    (e, λ rs. ap (goes m s rs) z ∙ spent_now m s rs x, λ rs n. ap (goes m s rs) (up n), x.ready)
+
+-- an instruction that traps takes its step before
+pub step_traps : (m : Running) (s : State) (a b : ℕ) (flow : Flow) → a ≡ b + 1 → Steps m s → TrapsBehind (goes m s) (a - b) flow
+step_traps m s a b On e x = tt
+step_traps m s a b (Ended r) e x = tt
+step_traps m s a b Failed e x = (omega arith, λ rs. (let q : a - b - 1 ≡ 0 = omega arith in ap (goes m s rs) q) ∙ spent_now m s rs x)
+step_traps m s a b (Asking f) e x = tt
+step_traps m s a b Deep e x = tt
+step_traps m s a b Exhausted e x = tt

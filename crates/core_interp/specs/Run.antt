@@ -1,5 +1,5 @@
 -- What a run says.
-use Rattle.std.specs.Prelude.{ℕ, suc, ◌≡◌, ◌+◌, ◌<◌, ◌≤◌, ◌^◌, List, [], ◌∷◌, ◌++◌, Option, Some, None, length, reverse, slice_get, drop, take}
+use Rattle.std.specs.Prelude.{ℕ, suc, ◌≡◌, ◌+◌, ◌-◌, ◌<◌, ◌≤◌, ◌^◌, List, [], ◌∷◌, ◌++◌, Option, Some, None, length, reverse, slice_get, drop, take}
 use Rattle.wasm_ast.specs.declared.module.CoreFunc.{CoreFunc}
 use Rattle.wasm_ast.specs.declared.instr.Instr.{Instr}
 use Rattle.wasm_ast.specs.declared.instr.Instr.TheVariants.{Plain, SelectTyped, BrTable, End, Else}
@@ -74,7 +74,7 @@ pub record AsksFor (X : List Reply → ℕ → Out) (callee : ℕ) (m : Running)
   pub number : ℕ
   pub callee_is : slice_get s.functions callee ≡ Some (Outside ty number)
   pub fits : length ty.params ≤ length m.slots.operands
-  pub asks : (n : ℕ) → X [] n ≡ Over (Asks number (arguments s ty m.slots.operands) s)
+  pub asks : (n : ℕ) → X [] n ≡ Over (Asks number (arguments s ty m.slots.operands) s n)
   pub goes : (r : Reply) (rs : List Reply) (n : ℕ) → X (r ∷ rs) n ≡ goes_at (scene_of s) m.function m.at (answered ty m.slots r.results) (progress m) r.store rs n
   pub ready : (results : List CoreValue) → length results ≡ length ty.results → ReadyAt (scene_of s) m.function m.at (answered ty m.slots results) (progress m)
   pub counted : calls (progress m) ≤ s.nesting
@@ -102,19 +102,47 @@ IsCounted End = ⊥
 IsCounted Else = ⊥
 IsCounted i = Unit {0}
 
--- X with more steps
+-- X with so many steps more
 abbrev pub ahead : (List Reply → ℕ → Out) → ℕ → List Reply → ℕ → Out
 ahead X b rs n = X rs (b + n)
 
--- where the rest of a run, X, leads, with b steps left in the budget
+-- where the rest of a run, X, leads behind the steps that were taken, with b steps left in the budget
 abbrev pub RunLeads : (List Reply → ℕ → Out) → ℕ → Flow → Running → State → Type 0
-RunLeads X b On m s = ((rs : List Reply) (n : ℕ) → X rs n ≡ goes m s rs (b + n)) × Ready m s
-RunLeads X b (Ended r) m s = (r ≤ length m.slots.operands) × ((rs : List Reply) (n : ℕ) → X rs n ≡ Next (b + n) (ended r m.slots s rs))
+RunLeads X b On m s = ((rs : List Reply) (n : ℕ) → X rs n ≡ goes m s rs n) × Ready m s
+RunLeads X b (Ended r) m s = (r ≤ length m.slots.operands) × ((rs : List Reply) (n : ℕ) → X rs n ≡ Next n (ended r m.slots s rs))
 RunLeads X b Failed m s = (rs : List Reply) (n : ℕ) → X rs n ≡ Over Trapped
-RunLeads X b (Asking f) m s = (Y : List Reply → ℕ → Out) × ((rs : List Reply) (n : ℕ) → X rs n ≡ Y rs (b + n)) × AsksFor Y f m s
-RunLeads X b Deep m s = (rs : List Reply) (n : ℕ) → X rs n ≡ Over (deep (b + n))
+RunLeads X b (Asking f) m s = AsksFor X f m s
+RunLeads X b Deep m s = (rs : List Reply) (n : ℕ) → X rs n ≡ Over (deep n)
 RunLeads X b Exhausted m s =
     (b ≡ 0) × ((rs : List Reply) → X rs 0 ≡ Over Spent) × ((rs : List Reply) (n : ℕ) → X rs n ≡ goes m s rs n) × Ready m s
+
+-- a run that traps does so behind its last step: with one less it is spent
+abbrev pub TrapsBehind : (List Reply → ℕ → Out) → ℕ → Flow → Type 0
+TrapsBehind X taken Failed = (0 < taken) × ((rs : List Reply) → X rs (taken - 1) ≡ Over Spent)
+TrapsBehind X taken w = Unit {0}
+
+abbrev pub IsNoTrap : Flow → Type 0
+IsNoTrap Failed = ⊥
+IsNoTrap w = Unit {0}
+
+-- the results that calls from outside have: of one in progress there is one
+abbrev pub entries : List Control → List ℕ
+entries [] = []
+entries (Label to a h ∷ cs) = entries cs
+entries (Called f to r ∷ cs) = entries cs
+entries (Entry r ∷ cs) = r ∷ entries cs
+
+abbrev pub outermost : Running → List ℕ
+outermost m = entries (progress m)
+
+-- the call from outside stays in progress, or ends with its results
+abbrev pub Remains : Flow → Running → Running → Type 0
+Remains On old new = outermost new ≡ outermost old
+Remains (Ended r) old new = r ∷ outermost new ≡ outermost old
+Remains Failed old new = Unit {0}
+Remains (Asking f) old new = outermost new ≡ outermost old
+Remains Deep old new = Unit {0}
+Remains Exhausted old new = outermost new ≡ outermost old
 
 -- how long a run can go on without a step
 abbrev pub Falls : Flow → ℕ → ℕ → Type 0

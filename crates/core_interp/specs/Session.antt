@@ -1,5 +1,5 @@
 -- A machine over its pauses.
-use Rattle.std.specs.Prelude.{ℕ, ◌≡◌, ◌+◌, ◌<◌, ◌≤◌, List, [], ◌∷◌, ◌++◌, Option, Some, None, length, drop, reverse, replicate, slice_get}
+use Rattle.std.specs.Prelude.{ℕ, ◌≡◌, ◌+◌, ◌-◌, ◌<◌, ◌≤◌, List, [], ◌∷◌, ◌++◌, Option, Some, None, length, drop, reverse, replicate, slice_get}
 use Rattle.virt_base.specs.declared.core_type.CoreType.{CoreType}
 use Rattle.core_store.specs.declared.value.CoreValue.{CoreValue}
 use Rattle.core_store.specs.declared.value.CoreSpaces.{CoreSpaces}
@@ -7,7 +7,7 @@ use Rattle.core_store.specs.declared.value.StoreFunc.{StoreFunc}
 use Rattle.core_store.specs.declared.value.StoreFunc.TheVariants.{Inside, Outside}
 use Rattle.wasm_ast.specs.declared.module.CoreFunc.{CoreFunc}
 use Rattle.core_store.specs.State.{State}
-use Rattle.core_eval.specs.Words.{words, values_in}
+use Rattle.core_eval.specs.Words.{words, values_in, HaveTypes}
 use Rattle.core_eval.specs.Config.{Reply, Outcome, Done, Trapped, Asks, Spent, TooDeep, bare}
 use Rattle.core_eval.specs.Eval.{Enter, arguments, function_type, deep, go, finish, eval}
 use Rattle.core_slots.specs.Stacked.{Stacked, with_operands}
@@ -16,10 +16,11 @@ use Rattle.core_interp.specs.declared.machine.Stage.TheVariants.{Starts, Runs, A
 use Rattle.core_interp.specs.declared.machine.Machine.{Machine}
 use Rattle.core_interp.specs.declared.machine.Pause.{Pause}
 use Rattle.core_interp.specs.declared.machine.Pause.TheVariants as pauses
-use Rattle.core_eval.specs.Scene.{scene_of, results_at}
+use Rattle.core_eval.specs.Scene.{Grew, CameBack, scene_of, results_at}
+use Rattle.core_eval.specs.Laws.{Answers}
 use Rattle.core_interp.specs.Rest.{config_of}
 use Rattle.core_eval.specs.Fine.{params_of}
-use Rattle.core_interp.specs.Run.{goes, Ready}
+use Rattle.core_interp.specs.Run.{goes, Ready, outermost}
 
 -- the types of the results that are due
 abbrev pub results_due : Machine → State → List CoreType
@@ -28,7 +29,7 @@ results_due m s = results_at (scene_of s) m.entry
 abbrev pub goes_staged : Stage → Machine → State → List Reply → ℕ → Outcome
 goes_staged Starts m s rs n = finish (results_due m s) (go (Enter m.entry) n (config_of m.running.slots bare s rs))
 goes_staged Runs m s rs n = finish (results_due m s) (goes m.running s rs n)
-goes_staged Answered m s rs n = Done (values_in (length s.functions) (results_due m s) (reverse m.running.slots.operands)) s
+goes_staged Answered m s rs n = Done (values_in (length s.functions) (results_due m s) (reverse m.running.slots.operands)) s n
 goes_staged Due m s rs n = deep n
 
 -- how a machine goes on
@@ -48,8 +49,8 @@ pub record IsFirst (m : Machine) (s : State) : Type 0 where
 
 abbrev pub IsStaged : Stage → Machine → State → Type 0
 IsStaged Starts m s = IsFirst m s
-IsStaged Runs m s = Ready m.running s
-IsStaged Answered m s = Unit {0}
+IsStaged Runs m s = Ready m.running s × (outermost m.running ≡ length (results_due m s) ∷ [])
+IsStaged Answered m s = length m.running.slots.operands ≡ length (results_due m s)
 IsStaged Due m s = Unit {0}
 
 -- a machine can run over a store
@@ -57,23 +58,14 @@ pub record CanRun (m : Machine) (s : State) : Type 0 where
   pub entry : m.entry < length s.functions
   pub staged : IsStaged m.stage m s
 
--- a store changed by other calls, and with as many calls in progress: items were added, and none taken away
-pub record Extends (s t : State) : Type 0 where
-  pub new_functions : List StoreFunc
-  pub functions : t.functions ≡ s.functions ++ new_functions
-  pub new_instances : List CoreSpaces
-  pub instances : t.instances ≡ s.instances ++ new_instances
-  pub globals : length s.globals ≤ length t.globals
-  pub tables : length s.tables ≤ length t.tables
-  pub memories : length s.memories ≤ length t.memories
-  pub segments : length s.segments ≤ length t.segments
-  pub elements : length s.elements ≤ length t.elements
-  pub nesting : s.nesting ≡ t.nesting
+-- how many results a machine awaits of the call that it asked for
+abbrev pub awaited : Machine → ℕ
+awaited m = m.awaits
 
--- an answer to the question of a machine that has so many results
-pub record IsAnswer (awaits : ℕ) (s : State) (r : Reply) : Type 0 where
-  pub count : length r.results ≡ awaits
-  pub extends : Extends s r.store
+-- an answer to the question of a machine that has so many results: the store only grew in between, and the calls that were begun came back
+pub record IsAnswer (count : ℕ) (s : State) (r : Reply) : Type 0 where
+  pub results : length r.results ≡ count
+  pub back : CameBack s r.store
 
 abbrev pub answered_slots : Stacked → List CoreValue → Stacked
 answered_slots a results = with_operands a (reverse (words results) ++ drop (length results) a.operands)
@@ -84,46 +76,73 @@ resumed m results = record m { running = record m.running { slots = answered_slo
 
 -- a machine has room for so many results of the call that it asked for
 pub record IsAwaited (m : Machine) (count : ℕ) : Type 0 where
-  pub due : count ≡ m.awaits
+  pub due : count ≡ awaited m
   pub room : count ≤ length m.running.slots.operands
 
--- it asked for a call of a function of this number, and awaits that function's results
-pub record Asked (number : ℕ) (m : Machine) (s : State) : Type 0 where
+-- it asked for a call of a function of this number with these arguments, which have the types of its parameters, and awaits its results
+pub record Asked (number : ℕ) (args : List CoreValue) (m : Machine) (s : State) : Type 0 where
   pub function : ℕ
   pub ty : CoreFunc
   pub function_is : slice_get s.functions function ≡ Some (Outside ty number)
+  pub typed : HaveTypes ty.params args
   pub awaited : IsAwaited m (length ty.results)
 
--- where a pause leads, X being the rest of the run, with b steps left in the budget and n more to come
+-- X with so many steps more
+abbrev pub granted : (List Reply → ℕ → Outcome) → ℕ → List Reply → ℕ → Outcome
+granted X taken rs n = X rs (taken + n)
+
+-- where a pause leads, X being the rest of the run behind the steps that were taken, with b steps left in the budget
 abbrev pub PauseLeads : (List Reply → ℕ → Outcome) → ℕ → Pause → Machine → State → Type 0
-PauseLeads X b (pauses.Done values) m s = (rs : List Reply) (n : ℕ) → X rs n ≡ Done values s
+PauseLeads X b (pauses.Done values) m s = ((rs : List Reply) (n : ℕ) → X rs n ≡ Done values s n) × HaveTypes (results_due m s) values
 PauseLeads X b pauses.Trapped m s = (rs : List Reply) (n : ℕ) → X rs n ≡ Trapped
 PauseLeads X b (pauses.AtHost number args) m s =
-    ((n : ℕ) → X [] n ≡ Asks number args s)
-    × ((r : Reply) → IsAnswer m.awaits s r → ((rs : List Reply) (n : ℕ) → X (r ∷ rs) n ≡ goes_on (resumed m r.results) r.store rs (b + n)) × CanRun (resumed m r.results) r.store)
-    × Asked number m s
+    ((n : ℕ) → X [] n ≡ Asks number args s n)
+    × ((r : Reply) → IsAnswer (awaited m) s r → ((rs : List Reply) (n : ℕ) → X (r ∷ rs) n ≡ goes_on (resumed m r.results) r.store rs n) × CanRun (resumed m r.results) r.store)
+    × Asked number args m s
+    × (m.entry < length s.functions)
 PauseLeads X b pauses.Spent m s =
-    (b ≡ 0) × ((rs : List Reply) → X rs 0 ≡ Spent) × ((rs : List Reply) (n : ℕ) → X rs n ≡ goes_on m s rs n) × ((t : State) → Extends s t → CanRun m t)
-PauseLeads X b pauses.TooDeep m s = (0 < b) × ((rs : List Reply) (n : ℕ) → X rs n ≡ TooDeep)
+    (b ≡ 0) × ((rs : List Reply) → X rs 0 ≡ Spent) × ((rs : List Reply) (n : ℕ) → X rs n ≡ goes_on m s rs n) × ((t : State) → CameBack s t → CanRun m t)
+PauseLeads X b pauses.TooDeep m s = (0 < b) × ((rs : List Reply) (n : ℕ) → X rs n ≡ deep n)
 
--- X with more steps
-abbrev pub granted : (List Reply → ℕ → Outcome) → ℕ → List Reply → ℕ → Outcome
-granted X b rs n = X rs (b + n)
+-- a machine that traps does so behind its last step: with one less it is spent
+abbrev pub PauseTraps : (List Reply → ℕ → Outcome) → ℕ → Pause → Type 0
+PauseTraps X taken pauses.Trapped = (0 < taken) × ((rs : List Reply) → X rs (taken - 1) ≡ Spent)
+PauseTraps X taken p = Unit {0}
 
--- this call, of which these replies are used and `given` steps are granted, is at this machine and store with `left` steps in hand
-pub record Follows (first : State) (f : ℕ) (args : List CoreValue) (used : List Reply) (given left : ℕ) (m : Machine) (s : State) : Type 0 where
-  pub so_far : (rs : List Reply) (n : ℕ) → eval first f args (used ++ rs) (given + n) ≡ goes_on m s rs (left + n)
+-- This call, of which these replies are used and so many steps are taken, is at this machine and store: with so many steps more
+-- it goes on as the machine does. The store only grew since the call began, and came back for each question that was answered.
+pub record Follows (first : State) (f : ℕ) (args : List CoreValue) (used : List Reply) (taken : ℕ) (m : Machine) (s : State) : Type 0 where
+  pub can : CanRun m s
+  pub so_far : (rs : List Reply) (n : ℕ) → eval first f args (used ++ rs) (taken + n) ≡ goes_on m s rs n
+  pub answers : (n : ℕ) → Answers CameBack (λ us. eval first f args us n) used
+  pub grew : Grew first s
+  pub due : results_due m s ≡ results_at (scene_of first) f
 
--- what a pause says of the call
+-- what a pause says of the call, of which so many steps are taken, with so many left in the budget
 abbrev pub Says : State → ℕ → List CoreValue → List Reply → ℕ → ℕ → Pause → Machine → State → Type 0
-Says first f args used given left (pauses.Done values) m s = (rs : List Reply) (n : ℕ) → eval first f args (used ++ rs) (given + n) ≡ Done values s
-Says first f args used given left pauses.Trapped m s = (rs : List Reply) (n : ℕ) → eval first f args (used ++ rs) (given + n) ≡ Trapped
-Says first f args used given left (pauses.AtHost number asked) m s =
-    ((n : ℕ) → eval first f args used (given + n) ≡ Asks number asked s)
-    × ((r : Reply) → IsAnswer m.awaits s r → Follows first f args (used ++ r ∷ []) given left (resumed m r.results) r.store)
-Says first f args used given left pauses.Spent m s =
-    (left ≡ 0) × ((rs : List Reply) → eval first f args (used ++ rs) given ≡ Spent) × Follows first f args used given 0 m s
-Says first f args used given left pauses.TooDeep m s = (0 < left) × ((rs : List Reply) (n : ℕ) → eval first f args (used ++ rs) (given + n) ≡ TooDeep)
+Says first f args used taken left (pauses.Done values) m s =
+    ((rs : List Reply) (n : ℕ) → eval first f args (used ++ rs) (taken + n) ≡ Done values s n)
+    × HaveTypes (results_at (scene_of first) f) values
+    × CameBack first s
+Says first f args used taken left pauses.Trapped m s =
+    ((rs : List Reply) (n : ℕ) → eval first f args (used ++ rs) (taken + n) ≡ Trapped)
+    × (0 < taken)
+    × ((rs : List Reply) → eval first f args (used ++ rs) (taken - 1) ≡ Spent)
+Says first f args used taken left (pauses.AtHost number asked) m s =
+    ((n : ℕ) → eval first f args used (taken + n) ≡ Asks number asked s n)
+    × Asked number asked m s
+    × ((r : Reply) → IsAnswer (awaited m) s r → Follows first f args (used ++ r ∷ []) taken (resumed m r.results) r.store)
+Says first f args used taken left pauses.Spent m s =
+    (left ≡ 0) × ((rs : List Reply) → eval first f args (used ++ rs) taken ≡ Spent) × Follows first f args used taken m s × ((t : State) → CameBack s t → CanRun m t)
+Says first f args used taken left pauses.TooDeep m s = (0 < left) × ((rs : List Reply) (n : ℕ) → eval first f args (used ++ rs) (taken + n) ≡ deep n)
+
+-- What a call of `run` did: the budget went down by the steps that it took, no item of the store was added or taken away, and
+-- the pause says this of whatever call the machine was at.
+pub record Pauses (old : Machine) (s : State) (before : ℕ) (pause : Pause) (new : Machine) (t : State) (after : ℕ) : Type 0 where
+  pub budget : after ≤ before
+  pub scene : scene_of s ≡ scene_of t
+  pub says : (first : State) (f : ℕ) (args : List CoreValue) (used : List Reply) (taken : ℕ) →
+      Follows first f args used taken old s → Says first f args used (taken + (before - after)) after pause new t
 
 -- a function that takes so many arguments
 abbrev pub IsCallable : Option StoreFunc → ℕ → Type 0

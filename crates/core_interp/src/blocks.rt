@@ -1,7 +1,7 @@
 //! Blocks, loops and choices begin.
 
 ghost use Rattle.std.specs.Prelude.{◌≡◌, ◌+◌, ◌≤◌, IfOk, length};
-ghost use Rattle.core_interp.specs.Run.{IsBefore, Leads, steps};
+ghost use Rattle.core_interp.specs.Run.{IsBefore, Leads, Remains, steps};
 ghost use Rattle.core_eval.specs.Scene.{scene_of, code_at, spaces_at};
 
 use crate::control::{Control, Flow};
@@ -26,6 +26,7 @@ impl Running {
         requires code { code.now ≡ code_at (scene_of store.now) self.old.function }
         requires spaces { spaces.now ≡ spaces_at (scene_of store.now) self.old.function }
         ensures leads { IfOk result (λ flow. Leads (steps self.old store.now) flow self.new store.now) }
+        ensures entry { IfOk result (λ flow. Remains flow self.old self.new) }
         ensures grows { IfOk result (λ _. length self.new.controls.items ≤ length self.old.controls.items + 1) }
     {
         let params = block_params(spaces, ty);
@@ -47,6 +48,7 @@ impl Running {
         requires before { IsBefore (Instr.Loop ty) self.old store.now }
         requires spaces { spaces.now ≡ spaces_at (scene_of store.now) self.old.function }
         ensures leads { IfOk result (λ flow. Leads (steps self.old store.now) flow self.new store.now) }
+        ensures entry { IfOk result (λ flow. Remains flow self.old self.new) }
         ensures grows { IfOk result (λ _. length self.new.controls.items ≤ length self.old.controls.items + 1) }
     {
         let arity = block_params(spaces, ty);
@@ -69,6 +71,7 @@ impl Running {
         requires code { code.now ≡ code_at (scene_of store.now) self.old.function }
         requires spaces { spaces.now ≡ spaces_at (scene_of store.now) self.old.function }
         ensures leads { IfOk result (λ flow. Leads (steps self.old store.now) flow self.new store.now) }
+        ensures entry { IfOk result (λ flow. Remains flow self.old self.new) }
         ensures grows { IfOk result (λ _. length self.new.controls.items ≤ length self.old.controls.items + 1) }
     {
         let params = block_params(spaces, ty);

@@ -3,7 +3,7 @@
 ghost use Rattle.std.specs.Prelude.{◌≡◌, ◌+◌, ◌≤◌, IfOk, length};
 ghost use Rattle.core_eval.specs.Scene.{scene_of, spaces_at};
 ghost use Rattle.core_eval.specs.Fine.{IsFine};
-ghost use Rattle.core_interp.specs.Run.{IsBefore, Leads, Enters, entry, steps};
+ghost use Rattle.core_interp.specs.Run.{IsBefore, Leads, Remains, Enters, entry, steps};
 ghost use Rattle.core_eval.specs.Eval.{same_type as are_same, same_types as all_same, same_func as is_same, type_of as type_of_function};
 
 use crate::control::{Control, Flow};
@@ -20,6 +20,7 @@ impl Running {
         requires enters { Enters self.old store.old callee }
         requires fine { IsFine (scene_of store.old) }
         ensures leads { IfOk result (λ flow. Leads (entry self.old store.old callee) flow self.new store.new) }
+        ensures entry { IfOk result (λ flow. Remains flow self.old self.new) }
         ensures scene { IfOk result (λ _. scene_of store.old ≡ scene_of store.new) }
         ensures grows { IfOk result (λ _. length self.new.controls.items ≤ length self.old.controls.items + 1) }
     {
@@ -68,6 +69,7 @@ impl Running {
         requires spaces { spaces.now ≡ spaces_at (scene_of store.old) self.old.function }
         requires fine { IsFine (scene_of store.old) }
         ensures leads { IfOk result (λ flow. Leads (steps self.old store.old) flow self.new store.new) }
+        ensures entry { IfOk result (λ flow. Remains flow self.old self.new) }
         ensures scene { IfOk result (λ _. scene_of store.old ≡ scene_of store.new) }
         ensures grows { IfOk result (λ _. length self.new.controls.items ≤ length self.old.controls.items + 1) }
     {
@@ -88,6 +90,7 @@ impl Running {
         requires spaces { spaces.now ≡ spaces_at (scene_of store.old) self.old.function }
         requires fine { IsFine (scene_of store.old) }
         ensures leads { IfOk result (λ flow. Leads (steps self.old store.old) flow self.new store.new) }
+        ensures entry { IfOk result (λ flow. Remains flow self.old self.new) }
         ensures scene { IfOk result (λ _. scene_of store.old ≡ scene_of store.new) }
         ensures grows { IfOk result (λ _. length self.new.controls.items ≤ length self.old.controls.items + 1) }
     {

@@ -4,7 +4,7 @@ ghost use Rattle.std.specs.Prelude.{◌≡◌, ◌+◌, ◌≤◌, ◌<◌, ◌�
 ghost use Rattle.core_code.specs.Tree.{first, later, parts, Stop};
 ghost use Rattle.core_eval.specs.Scene.{scene_of, code_at};
 ghost use Rattle.core_interp.specs.Jumping.{beyond};
-ghost use Rattle.core_interp.specs.Run.{Ready, Leads, Branches, branches, Returns, backs, goes, own_parts};
+ghost use Rattle.core_interp.specs.Run.{Ready, Leads, Remains, IsNoTrap, Branches, branches, Returns, backs, goes, own_parts};
 
 use crate::control::{Control, Flow};
 use crate::running::Running;
@@ -18,6 +18,8 @@ impl Running {
         requires stop { (first (own_parts self.old store.old)).here ≡ Stop }
         requires next { parts (drop next (code_at (scene_of store.old) self.old.function)) ≡ later (own_parts self.old store.old) }
         ensures leads { Leads (goes self.old store.old) result self.new store.new }
+        ensures entry { Remains result self.old self.new }
+        ensures no_trap { IsNoTrap result }
         ensures scene { scene_of store.old ≡ scene_of store.new }
         ensures shrinks { length self.new.controls.items + 1 ≡ length self.old.controls.items }
     {
@@ -58,6 +60,7 @@ impl Running {
     pub fn branch(&mut self, store: &mut Store, label: u32) -> Flow
         requires { Branches self.old store.old label }
         ensures leads { Leads (branches self.old store.old label) result self.new store.new }
+        ensures entry { Remains result self.old self.new }
         ensures scene { scene_of store.old ≡ scene_of store.new }
         ensures grows { length self.new.controls.items ≤ length self.old.controls.items }
     {
@@ -93,6 +96,7 @@ impl Running {
     pub fn back(&mut self, store: &mut Store) -> Flow
         requires { Returns self.old store.old }
         ensures leads { Leads (backs self.old store.old) result self.new store.new }
+        ensures entry { Remains result self.old self.new }
         ensures scene { scene_of store.old ≡ scene_of store.new }
         ensures grows { length self.new.controls.items ≤ length self.old.controls.items }
     {

@@ -19,6 +19,3 @@ mod variables;
 
 pub use core_slots::CoreValues;
 pub use machine::{Machine, Pause};
-
-#[cfg(test)]
-mod embedder_tests;

@@ -1,6 +1,6 @@
 //! The machine, from pause to pause.
 
-ghost use Rattle.std.specs.Prelude.{◌≡◌, ◌<◌, ◌≤◌, ◌++◌, [], ℕ, List, IfOk, OnOk, length, slice_get, reverse, take, replicate};
+ghost use Rattle.std.specs.Prelude.{◌≡◌, ◌-◌, ◌<◌, ◌≤◌, ◌++◌, [], ℕ, List, IfOk, OnOk, length, slice_get, reverse, take, replicate};
 ghost use Rattle.core_store.specs.State.{State};
 ghost use Rattle.core_store.specs.declared.value.CoreValue.{CoreValue};
 ghost use Rattle.core_eval.specs.Words.{values_in};
@@ -8,7 +8,7 @@ ghost use Rattle.core_eval.specs.Config.{Reply};
 ghost use Rattle.core_slots.specs.Stacked.{with_operands};
 ghost use Rattle.core_eval.specs.Scene.{scene_of};
 ghost use Rattle.core_eval.specs.Fine.{IsFine};
-ghost use Rattle.core_interp.specs.Session.{goes_on, results_due, CanRun, IsCallable, IsOutside, params_at, AsksBy, Dues, PauseLeads, granted, Follows, Says, IsAwaited, resumed};
+ghost use Rattle.core_interp.specs.Session.{goes_on, results_due, CanRun, IsCallable, IsOutside, params_at, AsksBy, Dues, PauseLeads, PauseTraps, granted, Follows, Pauses, IsAwaited, awaited, resumed};
 
 use crate::calls::type_of;
 use crate::control::{Control, Flow};
@@ -49,17 +49,16 @@ pub enum Pause {
 /// A call of a core function in progress.
 #[derive(Drop)]
 pub struct Machine {
-    pub entry: u32,
-    pub stage: Stage,
-    pub running: Running,
-    pub awaits: usize,
+    entry: u32,
+    stage: Stage,
+    running: Running,
+    awaits: usize,
 }
 
 impl Machine {
     /// A call of the function at a place of a store, before its first step.
     pub fn start(alloc: Global, function: u32, args: &CoreValues) -> Result<Machine, NoMemory>
-        ensures follows { IfOk result (λ m. (s : State) → Follows s function args.now [] 0 0 m s) }
-        ensures can { IfOk result (λ m. (s : State) → IsCallable (slice_get s.functions function) (length args.now) → CanRun m s) }
+        ensures { IfOk result (λ m. (s : State) → IsCallable (slice_get s.functions function) (length args.now) → Follows s function args.now [] 0 m s) }
     {
         let mut slots = Slots::new(alloc);
         slots.push_values(args.as_slice())?;
@@ -74,6 +73,13 @@ impl Machine {
             },
             awaits: 0,
         })
+    }
+
+    /// How many results of the call that the last pause asked for it awaits.
+    pub fn awaits(&self) -> usize
+        ensures { result ≡ awaited self.now }
+    {
+        self.awaits
     }
 
     /// Takes the results of the call that the last pause asked for.
@@ -93,9 +99,7 @@ impl Machine {
     ) -> Result<Pause, NoMemory>
         requires can { CanRun self.old store.old }
         requires fine { IsFine (scene_of store.old) }
-        ensures leads { IfOk result (λ pause. PauseLeads (granted (goes_on self.old store.old) budget.old) budget.new pause self.new store.new) }
-        ensures scene { IfOk result (λ _. scene_of store.old ≡ scene_of store.new) }
-        ensures says { IfOk result (λ pause. (first : State) (f : ℕ) (args : List CoreValue) (used : List Reply) (given : ℕ) → Follows first f args used given budget.old self.old store.old → Says first f args used given budget.new pause self.new store.new) }
+        ensures { IfOk result (λ pause. Pauses self.old store.old budget.old pause self.new store.new budget.new) }
     {
         let pause = self.next_pause(alloc, store, budget)?;
         Ok(pause)
@@ -109,8 +113,11 @@ impl Machine {
     ) -> Result<Pause, NoMemory>
         requires can { CanRun self.old store.old }
         requires fine { IsFine (scene_of store.old) }
-        ensures leads { IfOk result (λ pause. PauseLeads (granted (goes_on self.old store.old) budget.old) budget.new pause self.new store.new) }
+        ensures leads { IfOk result (λ pause. PauseLeads (granted (goes_on self.old store.old) (budget.old - budget.new)) budget.new pause self.new store.new) }
         ensures scene { IfOk result (λ _. scene_of store.old ≡ scene_of store.new) }
+        ensures budget { IfOk result (λ _. budget.new ≤ budget.old) }
+        ensures entry { IfOk result (λ _. self.new.entry ≡ self.old.entry) }
+        ensures traps { IfOk result (PauseTraps (goes_on self.old store.old) (budget.old - budget.new)) }
     {
         match self.stage {
             Stage::Starts => self.begin(alloc, store, budget),
@@ -134,8 +141,11 @@ impl Machine {
         requires stage { self.old.stage ≡ Stage.Starts }
         requires can { CanRun self.old store.old }
         requires fine { IsFine (scene_of store.old) }
-        ensures leads { IfOk result (λ pause. PauseLeads (granted (goes_on self.old store.old) budget.old) budget.new pause self.new store.new) }
+        ensures leads { IfOk result (λ pause. PauseLeads (granted (goes_on self.old store.old) (budget.old - budget.new)) budget.new pause self.new store.new) }
         ensures scene { IfOk result (λ _. scene_of store.old ≡ scene_of store.new) }
+        ensures budget { IfOk result (λ _. budget.new ≤ budget.old) }
+        ensures entry { IfOk result (λ _. self.new.entry ≡ self.old.entry) }
+        ensures traps { IfOk result (PauseTraps (goes_on self.old store.old) (budget.old - budget.new)) }
     {
         match function(store, self.entry) {
             StoreFunc::Inside {
@@ -181,8 +191,11 @@ impl Machine {
         requires stage { self.old.stage ≡ Stage.Runs }
         requires can { CanRun self.old store.old }
         requires fine { IsFine (scene_of store.old) }
-        ensures leads { IfOk result (λ pause. PauseLeads (granted (goes_on self.old store.old) budget.old) budget.new pause self.new store.new) }
+        ensures leads { IfOk result (λ pause. PauseLeads (granted (goes_on self.old store.old) (budget.old - budget.new)) budget.new pause self.new store.new) }
         ensures scene { IfOk result (λ _. scene_of store.old ≡ scene_of store.new) }
+        ensures budget { IfOk result (λ _. budget.new ≤ budget.old) }
+        ensures entry { IfOk result (λ _. self.new.entry ≡ self.old.entry) }
+        ensures traps { IfOk result (PauseTraps (goes_on self.old store.old) (budget.old - budget.new)) }
     {
         let flow = self.running.run_on(alloc, store, budget)?;
         match flow {

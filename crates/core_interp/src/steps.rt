@@ -1,11 +1,11 @@
 //! The instructions, one after another.
 
-ghost use Rattle.std.specs.Prelude.{◌≡◌, ◌+◌, ◌*◌, ◌<◌, ◌≤◌, Some, IfOk, length, slice_get};
+ghost use Rattle.std.specs.Prelude.{◌≡◌, ◌+◌, ◌-◌, ◌*◌, ◌<◌, ◌≤◌, Some, IfOk, length, slice_get};
 ghost use Rattle.core_eval.specs.Eval.{target as target_of};
 ghost use Rattle.wasm_ast.specs.declared.instr.Instr.{Instr};
 ghost use Rattle.core_eval.specs.Scene.{scene_of, code_at, spaces_at};
 ghost use Rattle.core_eval.specs.Fine.{IsFine};
-ghost use Rattle.core_interp.specs.Run.{IsBefore, IsTable, HasTable, TakesLabel, Leads, Performs, steps, Steps, Ready, goes, ahead, RunLeads, Falls, Stops};
+ghost use Rattle.core_interp.specs.Run.{IsBefore, IsTable, HasTable, TakesLabel, Leads, Performs, steps, Steps, Ready, goes, ahead, RunLeads, Remains, TrapsBehind, Falls, Stops};
 
 use crate::control::Flow;
 use crate::fetch::{instr_at, jump_at, scope_at};
@@ -31,6 +31,7 @@ impl Running {
         requires before { (i : Instr) × Performs i op × IsBefore i self.old store.old }
         requires spaces { spaces.now ≡ spaces_at (scene_of store.old) self.old.function }
         ensures leads { IfOk result (λ flow. Leads (steps self.old store.old) flow self.new store.new) }
+        ensures entry { IfOk result (λ flow. Remains flow self.old self.new) }
         ensures scene { IfOk result (λ _. scene_of store.old ≡ scene_of store.new) }
         ensures grows { IfOk result (λ _. length self.new.controls.items ≤ length self.old.controls.items + 1) }
     {
@@ -47,6 +48,7 @@ impl Running {
     fn constant(&mut self, store: &Store, value: i64) -> Result<Flow, NoMemory>
         requires { IsBefore (Instr.I64Const value) self.old store.now }
         ensures leads { IfOk result (λ flow. Leads (steps self.old store.now) flow self.new store.now) }
+        ensures entry { IfOk result (λ flow. Remains flow self.old self.new) }
         ensures grows { IfOk result (λ _. length self.new.controls.items ≤ length self.old.controls.items + 1) }
     {
         self.slots.push(value.cast_unsigned())?;
@@ -57,6 +59,7 @@ impl Running {
     fn br(&mut self, store: &mut Store, label: u32) -> Flow
         requires { IsBefore (Instr.Br label) self.old store.old }
         ensures leads { Leads (steps self.old store.old) result self.new store.new }
+        ensures entry { Remains result self.old self.new }
         ensures scene { scene_of store.old ≡ scene_of store.new }
         ensures grows { length self.new.controls.items ≤ length self.old.controls.items + 1 }
     {
@@ -68,6 +71,7 @@ impl Running {
     fn br_if(&mut self, store: &mut Store, label: u32) -> Flow
         requires { IsBefore (Instr.BrIf label) self.old store.old }
         ensures leads { Leads (steps self.old store.old) result self.new store.new }
+        ensures entry { Remains result self.old self.new }
         ensures scene { scene_of store.old ≡ scene_of store.new }
         ensures grows { length self.new.controls.items ≤ length self.old.controls.items + 1 }
     {
@@ -84,6 +88,7 @@ impl Running {
         requires table { IsTable self.old store.old }
         requires code { code.now ≡ code_at (scene_of store.old) self.old.function }
         ensures leads { Leads (steps self.old store.old) result self.new store.new }
+        ensures entry { Remains result self.old self.new }
         ensures scene { scene_of store.old ≡ scene_of store.new }
         ensures grows { length self.new.controls.items ≤ length self.old.controls.items + 1 }
     {
@@ -96,6 +101,7 @@ impl Running {
     fn return_from(&mut self, store: &mut Store) -> Flow
         requires { IsBefore Instr.Return self.old store.old }
         ensures leads { Leads (steps self.old store.old) result self.new store.new }
+        ensures entry { Remains result self.old self.new }
         ensures scene { scene_of store.old ≡ scene_of store.new }
         ensures grows { length self.new.controls.items ≤ length self.old.controls.items + 1 }
     {
@@ -117,6 +123,7 @@ impl Running {
         requires spaces { spaces.now ≡ spaces_at (scene_of store.old) self.old.function }
         requires fine { IsFine (scene_of store.old) }
         ensures leads { IfOk result (λ flow. Leads (steps self.old store.old) flow self.new store.new) }
+        ensures entry { IfOk result (λ flow. Remains flow self.old self.new) }
         ensures scene { IfOk result (λ _. scene_of store.old ≡ scene_of store.new) }
         ensures grows { IfOk result (λ _. length self.new.controls.items ≤ length self.old.controls.items + 1) }
     {
@@ -181,8 +188,11 @@ impl Running {
         requires code { code.now ≡ code_at (scene_of store.old) self.old.function }
         requires spaces { spaces.now ≡ spaces_at (scene_of store.old) self.old.function }
         requires fine { IsFine (scene_of store.old) }
-        ensures leads { IfOk result (λ flow. RunLeads (ahead (goes self.old store.old) budget.old) budget.new flow self.new store.new) }
+        ensures leads { IfOk result (λ flow. RunLeads (ahead (goes self.old store.old) (budget.old - budget.new)) budget.new flow self.new store.new) }
+        ensures traps { IfOk result (λ flow. TrapsBehind (goes self.old store.old) (budget.old - budget.new) flow) }
+        ensures entry { IfOk result (λ flow. Remains flow self.old self.new) }
         ensures scene { IfOk result (λ _. scene_of store.old ≡ scene_of store.new) }
+        ensures budget { IfOk result (λ _. budget.new ≤ budget.old) }
         ensures falls { IfOk result (λ flow. Falls flow (2 * budget.new + length self.new.controls.items) (2 * budget.old + length self.old.controls.items)) }
     {
         if *budget == 0 {
@@ -195,6 +205,7 @@ impl Running {
 
     // One instruction, or the end of a piece.
     #[inline(always)]
+    #[tactic(auto, using(crate::proofs::Entries::no_trap))]
     fn one(
         &mut self,
         alloc: Global,
@@ -207,8 +218,11 @@ impl Running {
         requires code { code.now ≡ code_at (scene_of store.old) self.old.function }
         requires spaces { spaces.now ≡ spaces_at (scene_of store.old) self.old.function }
         requires fine { IsFine (scene_of store.old) }
-        ensures leads { IfOk result (λ flow. RunLeads (ahead (goes self.old store.old) budget.old) budget.new flow self.new store.new) }
+        ensures leads { IfOk result (λ flow. RunLeads (ahead (goes self.old store.old) (budget.old - budget.new)) budget.new flow self.new store.new) }
+        ensures traps { IfOk result (λ flow. TrapsBehind (goes self.old store.old) (budget.old - budget.new) flow) }
+        ensures entry { IfOk result (λ flow. Remains flow self.old self.new) }
         ensures scene { IfOk result (λ _. scene_of store.old ≡ scene_of store.new) }
+        ensures budget { IfOk result (λ _. budget.new ≤ budget.old) }
         ensures falls { IfOk result (λ flow. Falls flow (2 * budget.new + length self.new.controls.items) (2 * budget.old + length self.old.controls.items)) }
     {
         if self.at >= code.len() {
@@ -244,8 +258,11 @@ impl Running {
         requires code { code.now ≡ code_at (scene_of store.old) self.old.function }
         requires spaces { spaces.now ≡ spaces_at (scene_of store.old) self.old.function }
         requires fine { IsFine (scene_of store.old) }
-        ensures leads { IfOk result (λ flow. RunLeads (ahead (goes self.old store.old) budget.old) budget.new flow self.new store.new) }
+        ensures leads { IfOk result (λ flow. RunLeads (ahead (goes self.old store.old) (budget.old - budget.new)) budget.new flow self.new store.new) }
+        ensures traps { IfOk result (λ flow. TrapsBehind (goes self.old store.old) (budget.old - budget.new) flow) }
+        ensures entry { IfOk result (λ flow. Remains flow self.old self.new) }
         ensures scene { IfOk result (λ _. scene_of store.old ≡ scene_of store.new) }
+        ensures budget { IfOk result (λ _. budget.new ≤ budget.old) }
         ensures falls { IfOk result (λ flow. Falls flow (2 * budget.new + length self.new.controls.items) (2 * budget.old + length self.old.controls.items)) }
     {
         let function = self.function;
@@ -271,8 +288,11 @@ impl Running {
     ) -> Result<Flow, NoMemory>
         requires ready { Ready self.old store.old }
         requires fine { IsFine (scene_of store.old) }
-        ensures leads { IfOk result (λ flow. RunLeads (ahead (goes self.old store.old) budget.old) budget.new flow self.new store.new) }
+        ensures leads { IfOk result (λ flow. RunLeads (ahead (goes self.old store.old) (budget.old - budget.new)) budget.new flow self.new store.new) }
+        ensures traps { IfOk result (λ flow. TrapsBehind (goes self.old store.old) (budget.old - budget.new) flow) }
+        ensures entry { IfOk result (λ flow. Remains flow self.old self.new) }
         ensures scene { IfOk result (λ _. scene_of store.old ≡ scene_of store.new) }
+        ensures budget { IfOk result (λ _. budget.new ≤ budget.old) }
         ensures stops { IfOk result Stops }
     {
         loop {

@@ -3,7 +3,7 @@
 
 ghost use Rattle.std.specs.Prelude.{◌≤◌};
 
-use crate::running::{Answered, Question, Ran, call_asking, call_first};
+use crate::running::{Answered, Question, Ran, call_asking, call_embedders, call_first};
 use core_interp::Pause;
 use core_store::CoreValue::{self, I32, I64};
 use std::alloc::Global;
@@ -260,9 +260,30 @@ fn imported_functions(rt: HostRuntime) -> Result<(), Fail> {
     let alloc = rt.alloc();
     for (answer, wanted) in [(0, 6), (3, 5)] {
         let results = Items::new(vec![in alloc; I32(answer)]?);
-        let Answered { question, rest } = call_asking(alloc, ASKING, &results, 2)?;
+        let Answered {
+            question,
+            rest,
+            nesting,
+        } = call_asking(alloc, ASKING, &results, 2)?;
         asks(&rt, &question);
         ends(&rt, &rest, wanted)?;
+        assert_eq!(rt; nesting, 0);
     }
+    Ok(())
+}
+
+#[test]
+fn a_function_of_the_embedder(rt: HostRuntime) -> Result<(), Fail> {
+    let alloc = rt.alloc();
+    let args = Items::new(vec![in alloc; I64(18446744073709551614)]?);
+    let results = Items::new(vec![in alloc; I32(5)]?);
+    let Answered {
+        question,
+        rest,
+        nesting,
+    } = call_embedders(alloc, &args, &results)?;
+    asks(&rt, &question);
+    ends(&rt, &rest, 5)?;
+    assert_eq!(rt; nesting, 0);
     Ok(())
 }

@@ -109,11 +109,12 @@ pub struct Question {
     pub left: u64,
 }
 
-/// A call that asked, and what came of it once it was answered.
+/// A call that asked, what came of it once it was answered, and how many calls were in progress then.
 #[derive(Drop)]
 pub struct Answered {
     pub question: Question,
     pub rest: Ran,
+    pub nesting: u32,
 }
 
 /// A store with one function, the embedder's function 9, from an i64 to an i32.
@@ -129,26 +130,26 @@ fn embedders(alloc: Global) -> Result<Store, NoMemory>
     Ok(store)
 }
 
-/// Calls a function without parameters, with so many steps before and after the embedder's answer.
+/// Calls a function, with so many steps before and after the embedder's answer.
 fn call_answered(
     alloc: Global,
     store: &mut Store,
     at: u32,
+    args: &CoreValues,
     results: &CoreValues,
     budget: u64,
 ) -> Result<Answered, Fail>
     requires { IsFine (scene_of store.old) }
 {
-    let none = Items::empty(alloc);
-    if !is_callable(store, at, none.len()) {
-        return Err(Fail::from("no function without parameters"));
+    if !is_callable(store, at, args.len()) {
+        return Err(Fail::from("no function of these arguments"));
     }
     let mut left = budget;
-    let mut machine = Machine::start(alloc, at, &none)?;
+    let mut machine = Machine::start(alloc, at, args)?;
     let pause = machine.run(alloc, store, &mut left)?;
     match pause {
         Pause::AtHost(number, args) => {
-            if results.len() != machine.awaits {
+            if results.len() != machine.awaits() {
                 return Err(Fail::from("another number of results is due"));
             }
             machine.resume(results);
@@ -160,6 +161,7 @@ fn call_answered(
                     pause: end,
                     left: more,
                 },
+                nesting: store.nesting(),
             })
         }
         _ => Err(Fail::from("the embedder is not asked")),
@@ -176,5 +178,15 @@ pub fn call_asking(
     let mut store = embedders(alloc)?;
     let imports = Items::new(vec![in alloc; Extern::Func(0)]?);
     let at = first_function(alloc, &mut store, digits, &imports)?;
-    call_answered(alloc, &mut store, at, results, budget)
+    call_answered(alloc, &mut store, at, &Items::empty(alloc), results, budget)
+}
+
+/// Calls the embedder's function itself.
+pub fn call_embedders(
+    alloc: Global,
+    args: &CoreValues,
+    results: &CoreValues,
+) -> Result<Answered, Fail> {
+    let mut store = embedders(alloc)?;
+    call_answered(alloc, &mut store, 0, args, results, 0)
 }

@@ -4,13 +4,3 @@
 mod laws;
 
 pub use laws::bodies_are_fine;
-
-#[cfg(test)]
-mod tests {
-    use super::bodies_are_fine;
-
-    #[test]
-    fn laws() {
-        bodies_are_fine();
-    }
-}

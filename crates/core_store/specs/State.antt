@@ -1,5 +1,5 @@
 -- The store (WebAssembly Core 2.0, section 4.2.3), whose items are named by their places.
-use Rattle.std.specs.Prelude.{ℕ, ◌≡◌, ◌<◌, ◌≤◌, ◌+◌, List, [], length, slice_set, slice_index_or, None, Result, Ok, Err}
+use Rattle.std.specs.Prelude.{ℕ, ◌≡◌, ◌<◌, ◌≤◌, ◌+◌, nat_lt, Bool, true, false, List, [], length, slice_set, slice_index_or, Option, Some, None, Result, Ok, Err}
 use Rattle.std.specs.List.{All}
 use Rattle.virt_base.specs.declared.fault.NoMemory.{NoMemory}
 use Rattle.core_memory.specs.Linear.{Linear, fresh, made_of}
@@ -21,9 +21,24 @@ pub record State : Type 0 where
   pub instances : List CoreSpaces
   -- the number of calls in progress
   pub nesting : ℕ
+  -- the greatest number of them, or none where they may nest without a limit
+  pub deepest : Option ℕ
 
+-- a store without items
+abbrev pub empty_with : Option ℕ → State
+empty_with deepest = record { functions = []; tables = []; memories = []; globals = []; segments = []; elements = []; instances = []; nesting = 0; deepest = deepest }
+
+-- that of the machine, in which 65,536 calls may be in progress
 abbrev pub empty : State
-empty = record { functions = []; tables = []; memories = []; globals = []; segments = []; elements = []; instances = []; nesting = 0 }
+empty = empty_with (Some 65536)
+
+-- a call more may be in progress
+abbrev pub allows : Option ℕ → ℕ → Bool
+allows None nesting = true
+allows (Some deepest) nesting = nat_lt nesting deepest
+
+abbrev pub can_enter : State → Bool
+can_enter s = allows s.deepest s.nesting
 
 -- the item at a place
 abbrev pub memory_at : State → ℕ → Linear
@@ -66,10 +81,10 @@ InMemory old new k P = P (memory_at old k) (memory_at new k) × (new ≡ record 
 abbrev pub InTable : State → State → ℕ → (Entries → Entries → Type 0) → Type 0
 InTable old new k P = P (table_at old k) (table_at new k) × (new ≡ record old { tables = slice_set old.tables k (table_at new k) })
 
--- a call more is in progress, of which there are 65,536 at most
+-- a call more is in progress, if the store's limit allows one
 abbrev pub Enters : State → State → Result (Unit {0}) TooDeep → Type 0
-Enters old new (Ok done) = (old.nesting < 65536) × (new ≡ record old { nesting = old.nesting + 1 })
-Enters old new (Err e) = (old.nesting ≡ 65536) × (new ≡ old)
+Enters old new (Ok done) = (can_enter old ≡ true) × (new ≡ record old { nesting = old.nesting + 1 })
+Enters old new (Err e) = (can_enter old ≡ false) × (new ≡ old)
 
 -- each reference in the store is null or names one of its functions
 pub record IsSound (s : State) : Type 0 where

@@ -1,4 +1,5 @@
 -- What a store shows.
+use Rattle.std.specs.Prelude.{Some}
 use Rattle.core_store.specs.declared.state.Store.TheInside.{Inside}
 use Rattle.core_store.specs.State.{State, IsSound}
 
@@ -12,6 +13,7 @@ state_of s = record {
   elements = s.elements.items;
   instances = s.instances.items;
   nesting = s.nesting;
+  deepest = Some 65536;
 }
 
 abbrev pub IsKept : Inside → Type 0

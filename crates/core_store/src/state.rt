@@ -57,7 +57,7 @@ impl Store {
         }
     }
 
-    /// A call more is in progress. `TooDeep` comes exactly where there are 65,536.
+    /// A call more is in progress. `TooDeep` comes exactly where there are as many as the store allows, which are 65,536.
     pub fn enter(&mut self) -> Result<(), TooDeep>
         ensures { Enters self.old self.new result }
     {
@@ -80,6 +80,7 @@ impl Store {
     pub fn nesting(&self) -> u32
         ensures value { result ≡ self.now.nesting }
         ensures most { result ≤ 65536 }
+        ensures deepest { self.now.deepest ≡ Some 65536 }
     {
         self.nesting
     }

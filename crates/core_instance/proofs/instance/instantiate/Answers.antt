@@ -5,6 +5,7 @@ use Rattle.core_store.specs.declared.value.CoreSpaces.{CoreSpaces}
 use Rattle.core_store.specs.State.{State}
 use Rattle.core_instance.specs.Spaces.{named_extern, place_at, places_of}
 use Rattle.core_instance.specs.Instantiation.{apply_segments}
+use Rattle.core_instance.proofs.ExportLemmas.{done_grew, only_grew, done_gives}
 use Rattle.core_instance.proofs.FineLemmas.{stays_fine, done_fine}
 use Rattle.core_instance.proofs.ValidLemmas.{valid_closes}
 use Rattle.core_instance.proofs.WholeLemmas.{elements_keep, tables_in_store, memories_in_store, segments_in_store, segment_places, elements_due, segments_due, whole, stopped, answers_err, answers_as, instance_is}
@@ -70,3 +71,16 @@ returns-in_err-apply_segments-clause-fine c = stays_fine _ _ _ _ _ c.requires.va
 
 pub returns-clause-fine : goal.returns-clause-fine
 returns-clause-fine c = done_fine c.args.store.now c.args.«module».now c.args.imports.now c.apply_segments.new.store c.requires.valid c.requires.imports (returns-clause-answers c).0
+
+pub returns-in_err-apply_elements-clause-grew : goal.returns-in_err-apply_elements-clause-grew
+returns-in_err-apply_elements-clause-grew c = only_grew c.args.store.now c.args.«module».now c.args.imports.now _ _ (returns-in_err-apply_elements-clause-answers c)
+
+pub returns-in_err-apply_segments-clause-grew : goal.returns-in_err-apply_segments-clause-grew
+returns-in_err-apply_segments-clause-grew c = only_grew c.args.store.now c.args.«module».now c.args.imports.now _ _ (returns-in_err-apply_segments-clause-answers c)
+
+pub returns-clause-grew : goal.returns-clause-grew
+returns-clause-grew c = done_grew c.args.store.now c.args.«module».now c.args.imports.now c.apply_segments.new.store (returns-clause-answers c).0
+
+pub returns-clause-exports : goal.returns-clause-exports
+returns-clause-exports c =
+    done_gives c.args.store.now c.args.«module».now c.args.imports.now c.apply_segments.new.store _ c.requires.valid c.requires.imports (returns-clause-answers c).0 (returns-clause-answers c).1

@@ -1,5 +1,6 @@
 use Rattle.std.proofs.Common.{arith}
 use Rattle.core_interp.proofs.Given.{back_call, back_can, back_entry, back_calls, back_some, held_some, back_no_label}
+use Rattle.core_interp.proofs.Entries.{back_entries}
 use Rattle.core_interp.proofs.running.Running.back.Goals as goal
 
 pub pop_call-requires : goal.pop_call-requires
@@ -27,3 +28,9 @@ returns-in-Called-clause-leads c = (back_call c.args.self.now c.args.store.now _
 
 pub returns-in-Entry-clause-leads : goal.returns-in-Entry-clause-leads
 returns-in-Entry-clause-leads c = back_entry c.args.self.now c.args.store.now _ _ c.pop_call.new.controls.items c.in-Entry.ensures.call c.leave-in-Entry.ensures c.requires
+
+pub returns-in-Called-clause-entry : goal.returns-in-Called-clause-entry
+returns-in-Called-clause-entry c = back_entries c.args.self.now _ c.pop_call.new.controls.items c.in-Called.ensures.call
+
+pub returns-in-Entry-clause-entry : goal.returns-in-Entry-clause-entry
+returns-in-Entry-clause-entry c = back_entries c.args.self.now _ c.pop_call.new.controls.items c.in-Entry.ensures.call

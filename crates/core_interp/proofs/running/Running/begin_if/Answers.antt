@@ -4,6 +4,7 @@ use Rattle.core_slots.specs.Stacked.{Stacked}
 use Rattle.wasm_ast.specs.declared.instr.Instr.TheVariants.{If}
 use Rattle.core_interp.proofs.Given.{if_can, if_other_leads, if_body_leads}
 use Rattle.core_interp.proofs.AtHand.{within_held, jumps_held}
+use Rattle.core_interp.proofs.Entries.{label_pushed}
 use Rattle.core_interp.proofs.running.Running.begin_if.Goals as goal
 
 pub block_params-params-requires : goal.block_params-params-requires
@@ -31,3 +32,9 @@ pub returns-clause-leads : goal.returns-clause-leads
 returns-clause-leads c =
     let pos : 0 < i32_in c.pop.result = omega (arith, c.low-test.ensures) in
     if_body_leads c.args.self.now c.args.store.now c.args.ty c.jump_at-jump.result c.args.spaces.now c.pop.result c.block_params-params.result c.block_results-arity.result c.height.result c.pop.new.self c.push.new.self.items c.requires.before (jumps_held c.args.code.now _ c.args.self.now c.args.store.now c.jump_at-jump.result c.requires.code c.jump_at-jump.ensures.leads c.requires.before.there) c.requires.spaces c.block_params-params.ensures c.block_results-arity.ensures c.height.ensures c.pop.ensures pos c.in_ok-push.ensures.items
+
+pub returns-then-test-eq0-clause-entry : goal.returns-then-test-eq0-clause-entry
+returns-then-test-eq0-clause-entry c = label_pushed _ _ _ _ _ c.in_ok-push.ensures.items
+
+pub returns-clause-entry : goal.returns-clause-entry
+returns-clause-entry c = label_pushed _ _ _ _ _ c.in_ok-push.ensures.items

@@ -1,5 +1,6 @@
-use Rattle.std.proofs.Common.{◌≡◌, ◌<◌, arith, length}
+use Rattle.std.proofs.Common.{◌≡◌, ◌<◌, ◌∙◌, arith, length}
 use Rattle.core_interp.proofs.Given.{cut_at, label_within, label_calls, branch_label, branch_call, branch_call_can, branch_entry, branch_label_fits, held_some}
+use Rattle.core_interp.proofs.Entries.{label_popped, called_popped, entry_popped, cut_entries}
 use Rattle.core_interp.proofs.running.Running.branch.Goals as goal
 
 pub overflow_sub-len : goal.overflow_sub-len
@@ -52,3 +53,21 @@ pub leave-requires-in-Some-Entry : goal.leave-requires-in-Some-Entry
 leave-requires-in-Some-Entry c =
     let n : c.len.result ≡ length c.args.self.now.controls.items = omega arith in
     omega (arith, label_calls c.args.self.now c.args.store.now c.truncate.new.self.items c.pop.new.self.items _ _ (cut_at _ _ _ _ c.truncate.ensures.items n) (rw c.in-Some-Entry.field-0-is at c.in-Some-Entry.ensures.items) c.requires)
+
+pub returns-in-Some-Label-clause-entry : goal.returns-in-Some-Label-clause-entry
+returns-in-Some-Label-clause-entry c =
+    let n : c.len.result ≡ length c.args.self.now.controls.items = omega arith in
+    let w = label_within c.args.self.now c.args.store.now c.args.label c.requires in
+    label_popped _ _ _ _ _ (rw c.in-Some-Label.field-0-is at c.in-Some-Label.ensures.items) ∙ cut_entries c.args.self.now c.args.store.now c.truncate.new.self.items c.args.label (omega (arith, w)) (cut_at _ _ _ _ c.truncate.ensures.items n) c.requires
+
+pub returns-in-Some-Called-clause-entry : goal.returns-in-Some-Called-clause-entry
+returns-in-Some-Called-clause-entry c =
+    let n : c.len.result ≡ length c.args.self.now.controls.items = omega arith in
+    let w = label_within c.args.self.now c.args.store.now c.args.label c.requires in
+    called_popped _ _ _ _ _ (rw c.in-Some-Called.field-0-is at c.in-Some-Called.ensures.items) ∙ cut_entries c.args.self.now c.args.store.now c.truncate.new.self.items c.args.label (omega (arith, w)) (cut_at _ _ _ _ c.truncate.ensures.items n) c.requires
+
+pub returns-in-Some-Entry-clause-entry : goal.returns-in-Some-Entry-clause-entry
+returns-in-Some-Entry-clause-entry c =
+    let n : c.len.result ≡ length c.args.self.now.controls.items = omega arith in
+    let w = label_within c.args.self.now c.args.store.now c.args.label c.requires in
+    entry_popped _ _ _ (rw c.in-Some-Entry.field-0-is at c.in-Some-Entry.ensures.items) ∙ cut_entries c.args.self.now c.args.store.now c.truncate.new.self.items c.args.label (omega (arith, w)) (cut_at _ _ _ _ c.truncate.ensures.items n) c.requires

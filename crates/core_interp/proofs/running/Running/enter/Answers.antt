@@ -3,6 +3,7 @@ use Rattle.wasm_ast.specs.declared.module.CoreFunc.{CoreFunc}
 use Rattle.core_slots.specs.Stacked.{opened}
 use Rattle.core_interp.specs.declared.control.Control.TheVariants.{Called}
 use Rattle.core_interp.proofs.Entering.{enter_inside, enter_deep, enter_outside, enter_within}
+use Rattle.core_interp.proofs.Entries.{called_pushed}
 use Rattle.core_interp.proofs.running.Running.enter.Goals as goal
 
 pub function-requires : goal.function-requires
@@ -20,3 +21,6 @@ returns-in_ok-push-in-Ok-clause-leads c =
 pub returns-in-Err-clause-leads : goal.returns-in-Err-clause-leads
 returns-in-Err-clause-leads c rs n =
     enter_deep c.args.self.now c.args.store.now c.args.callee c.in-Inside.instance c.in-Inside.ty c.in-Inside.locals c.in-Inside.body rs n c.requires.enters (c.function.ensures ∙ ap Some c.in-Inside.is) c.in-Err.ensures.0
+
+pub returns-in_ok-push-in-Ok-clause-entry : goal.returns-in_ok-push-in-Ok-clause-entry
+returns-in_ok-push-in-Ok-clause-entry c = called_pushed _ _ _ _ _ c.in_ok-push-in-Ok.ensures.items
