@@ -1,36 +1,18 @@
--- The core types of lifted and lowered functions, and what they need of their options (Canonical ABI, "Flattening" and
+-- The core types of lifted and lowered functions, and what these need of their options (Canonical ABI, "Flattening" and
 -- "canon lift"; Component Model, Explainer.md, "Canonical ABI").
-use Rattle.std.specs.Prelude.{List, [], ◌∷◌, ◌++◌, Bool, true, false, ◌||◌, nat_lt, length, Option, Some, None, if◌then◌else◌}
-use Rattle.virt_base.specs.declared.core_type.CoreType.{CoreType}
-use Rattle.virt_base.specs.declared.core_type.CoreType.TheVariants.{I32}
+use Rattle.std.specs.Prelude.{Bool, true, false, ◌||◌, Option, Some, None}
 use Rattle.wasm_ast.specs.declared.module.CoreFunc.{CoreFunc}
 use Rattle.wit_types.specs.Plain.{Plain, Parts, PlainFunc, StringType, ListType, RecordType, VariantType, End, More, Bare}
-use Rattle.wit_types.specs.Layout.{flat, flat_fields}
+use Rattle.abi_layout.specs.Functions.{FlatFunc, lifted, lowered, params_spill, result_spills}
 
-abbrev pub flat_answer : Option Plain → List CoreType
-flat_answer None = []
-flat_answer (Some ty) = flat ty
+abbrev pub core_type : FlatFunc → CoreFunc
+core_type f = record { params = f.params; results = f.results }
 
--- more than 16 parameters go through one place, and so does more than one result
-abbrev pub params_spill : PlainFunc → Bool
-params_spill ty = nat_lt 16 (length (flat_fields ty.params))
-
-abbrev pub results_spill : PlainFunc → Bool
-results_spill ty = nat_lt 1 (length (flat_answer ty.answer))
-
-abbrev pub flat_params : PlainFunc → List CoreType
-flat_params ty = if params_spill ty then I32 ∷ [] else flat_fields ty.params
-
--- the core function that is lifted gives the place of results that spill
 abbrev pub lifted_type : PlainFunc → CoreFunc
-lifted_type ty = record { params = flat_params ty; results = if results_spill ty then I32 ∷ [] else flat_answer ty.answer }
+lifted_type ty = core_type (lifted ty)
 
--- the core function that lowering makes takes it
 abbrev pub lowered_type : PlainFunc → CoreFunc
-lowered_type ty = record {
-  params = if results_spill ty then flat_params ty ++ I32 ∷ [] else flat_params ty;
-  results = if results_spill ty then [] else flat_answer ty.answer;
-}
+lowered_type ty = core_type (lowered ty)
 
 -- ---- what lies in memory
 
@@ -52,9 +34,9 @@ abbrev pub is_pointed_answer : Option Plain → Bool
 is_pointed_answer None = false
 is_pointed_answer (Some ty) = is_pointed ty
 
--- lifted and lowered functions alike
+-- of lifted and lowered functions alike
 abbrev pub needs_memory : PlainFunc → Bool
-needs_memory ty = (is_pointed_in ty.params || is_pointed_answer ty.answer) || (params_spill ty || results_spill ty)
+needs_memory ty = (is_pointed_in ty.params || is_pointed_answer ty.answer) || (params_spill ty || result_spills ty)
 
 -- what a lifted function is given is stored into its own instance
 abbrev pub lift_needs_realloc : PlainFunc → Bool

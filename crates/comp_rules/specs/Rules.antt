@@ -37,6 +37,7 @@ use Rattle.wasm_ast.specs.declared.component.CanonOption.{CanonOption}
 use Rattle.wasm_ast.specs.declared.component.CanonOption.TheVariants as opts
 use Rattle.wasm_ast.specs.declared.component.Canon.{Canon}
 use Rattle.wasm_ast.specs.declared.component.Canon.TheVariants as canons
+use Rattle.wasm_ast.specs.declared.component.ComponentExport.{ComponentExport}
 use Rattle.core_validate.specs.declared.item.CoreItem.{CoreItem}
 use Rattle.core_validate.specs.declared.item.CoreItem.TheVariants as core_items
 use Rattle.core_validate.specs.declared.item.CoreImport.{CoreImport}
@@ -52,8 +53,9 @@ use Rattle.comp_types.specs.Items.{Item, Kind, Entries, FuncItem, InstanceItem, 
 use Rattle.comp_types.specs.Measures.{kind_depth, kind_parts}
 use Rattle.comp_types.specs.Equality.{IsEqualType, IsSameItem, HasEach}
 use Rattle.comp_types.specs.Subtyping.{IsSubtype}
+use Rattle.comp_rules.specs.declared.lengths.Lengths.{Lengths}
 use Rattle.comp_rules.specs.Declarations.{Declaration, ATypeDef, AnInstanceType, ATypeAlias, ATypeExport}
-use Rattle.comp_rules.specs.Spaces.{Space, TypeEntry, NestedComponent, core_item_at, core_func_at, kind_at, item_at}
+use Rattle.comp_rules.specs.Spaces.{Space, TypeEntry, NestedComponent, core_func_at, kind_at, item_at}
 use Rattle.comp_rules.specs.Resources.{is_among, named_in_kind, named_in_func, has_borrow}
 use Rattle.comp_rules.specs.Types.{value_of, func_in, instance_in, kind_of}
 use Rattle.comp_rules.specs.Flat.{lifted_type, needs_memory, lift_needs_realloc, lower_needs_realloc}
@@ -77,92 +79,124 @@ abbrev pub is_filled : {A : Type 0} → List A → Bool
 is_filled [] = false
 is_filled (x ∷ xs) = true
 
-abbrev pub fits : {A : Type 0} → List A → ℕ → Bool
-fits space i = nat_lt i (length space)
+-- ---- rule 3: each index is below the length of its index space
 
--- ---- rule 3: each index stands in its index space
+abbrev pub lengths_of : Space → Lengths
+lengths_of s = record {
+  core_functions = length s.core_functions;
+  core_tables = length s.core_tables;
+  core_memories = length s.core_memories;
+  core_globals = length s.core_globals;
+  core_modules = length s.core_modules;
+  core_instances = length s.core_instances;
+  functions = length s.functions;
+  types = length s.types;
+  instances = length s.instances;
+  components = length s.components;
+}
 
-abbrev pub value_stands : Space → ValType → Bool
-value_stands s (values.Primitive p) = true
-value_stands s (values.Index i) = fits s.types i
+abbrev pub value_stands : Lengths → ValType → Bool
+value_stands l (values.Primitive p) = true
+value_stands l (values.Index i) = nat_lt i l.types
 
-abbrev pub some_value_stands : Space → Option ValType → Bool
-some_value_stands s v = if_there (value_stands s) v
+abbrev pub some_value_stands : Lengths → Option ValType → Bool
+some_value_stands l v = if_there (value_stands l) v
 
-abbrev pub core_item_stands : Space → CoreSort → ℕ → Bool
-core_item_stands s sort i = is_some (core_item_at s sort i)
+abbrev pub core_item_stands : Lengths → CoreSort → ℕ → Bool
+core_item_stands l core_sorts.Func i = nat_lt i l.core_functions
+core_item_stands l core_sorts.Table i = nat_lt i l.core_tables
+core_item_stands l core_sorts.Memory i = nat_lt i l.core_memories
+core_item_stands l core_sorts.Global i = nat_lt i l.core_globals
 
-abbrev pub item_stands : Space → Sort → ℕ → Bool
-item_stands s sort i = is_some (item_at s sort i)
+abbrev pub item_stands : Lengths → Sort → ℕ → Bool
+item_stands l sorts.Func i = nat_lt i l.functions
+item_stands l sorts.Type i = nat_lt i l.types
+item_stands l sorts.Instance i = nat_lt i l.instances
 
-abbrev pub desc_stands : Space → ExternDesc → Bool
-desc_stands s (descs.Func i) = fits s.types i
-desc_stands s (descs.TypeEq i) = fits s.types i
-desc_stands s descs.Resource = true
-desc_stands s (descs.Instance i) = fits s.types i
+abbrev pub desc_stands : Lengths → ExternDesc → Bool
+desc_stands l (descs.Func i) = nat_lt i l.types
+desc_stands l (descs.TypeEq i) = nat_lt i l.types
+desc_stands l descs.Resource = true
+desc_stands l (descs.Instance i) = nat_lt i l.types
 
-abbrev pub outer_stands : OuterSort → ℕ → Space → Bool
-outer_stands outer_sorts.CoreModule i scope = fits scope.core_modules i
-outer_stands outer_sorts.Type i scope = fits scope.types i
-outer_stands outer_sorts.Component i scope = fits scope.components i
+abbrev pub def_stands : Lengths → TypeDef → Bool
+def_stands l (defs.Record fields) = list_all (λ f. value_stands l f.ty) fields
+def_stands l (defs.Variant cases) = list_all (λ c. some_value_stands l c.ty) cases
+def_stands l (defs.List item) = value_stands l item
+def_stands l (defs.Tuple types) = list_all (value_stands l) types
+def_stands l (defs.Option item) = value_stands l item
+def_stands l (defs.Result ok err) = some_value_stands l ok && some_value_stands l err
+def_stands l (defs.Own i) = nat_lt i l.types
+def_stands l (defs.Borrow i) = nat_lt i l.types
+def_stands l (defs.Func params result) = list_all (λ p. value_stands l p.ty) params && some_value_stands l result
+def_stands l (defs.Resource destructor) = if_there (λ i. nat_lt i l.core_functions) destructor
+def_stands l _ = true
 
-abbrev pub def_stands : Space → TypeDef → Bool
-def_stands s (defs.Record fields) = list_all (λ f. value_stands s f.ty) fields
-def_stands s (defs.Variant cases) = list_all (λ c. some_value_stands s c.ty) cases
-def_stands s (defs.List item) = value_stands s item
-def_stands s (defs.Tuple types) = list_all (value_stands s) types
-def_stands s (defs.Option item) = value_stands s item
-def_stands s (defs.Result ok err) = some_value_stands s ok && some_value_stands s err
-def_stands s (defs.Own i) = fits s.types i
-def_stands s (defs.Borrow i) = fits s.types i
-def_stands s (defs.Func params result) = list_all (λ p. value_stands s p.ty) params && some_value_stands s result
-def_stands s (defs.Resource destructor) = if_there (fits s.core_functions) destructor
-def_stands s _ = true
+abbrev pub option_stands : Lengths → CanonOption → Bool
+option_stands l opts.Utf8 = true
+option_stands l (opts.Memory i) = nat_lt i l.core_memories
+option_stands l (opts.Realloc i) = nat_lt i l.core_functions
+option_stands l (opts.PostReturn i) = nat_lt i l.core_functions
 
-abbrev pub option_stands : Space → CanonOption → Bool
-option_stands s opts.Utf8 = true
-option_stands s (opts.Memory i) = fits s.core_memories i
-option_stands s (opts.Realloc i) = fits s.core_functions i
-option_stands s (opts.PostReturn i) = fits s.core_functions i
+abbrev pub core_instance_stands : Lengths → CoreInstance → Bool
+core_instance_stands l (core_instances.Instantiate m args) = nat_lt m l.core_modules && list_all (λ a. nat_lt a.instance l.core_instances) args
+core_instance_stands l (core_instances.Inline exports) = list_all (λ e. core_item_stands l e.sort e.index) exports
 
-abbrev pub core_instance_stands : Space → CoreInstance → Bool
-core_instance_stands s (core_instances.Instantiate m args) = fits s.core_modules m && list_all (λ a. fits s.core_instances a.instance) args
-core_instance_stands s (core_instances.Inline exports) = list_all (λ e. core_item_stands s e.sort e.index) exports
+abbrev pub instance_stands : Lengths → Instance → Bool
+instance_stands l (instances.Instantiate c args) = nat_lt c l.components && list_all (λ a. item_stands l a.sort a.index) args
+instance_stands l (instances.Inline exports) = list_all (λ e. item_stands l e.sort e.index) exports
 
-abbrev pub instance_stands : Space → Instance → Bool
-instance_stands s (instances.Instantiate c args) = fits s.components c && list_all (λ a. item_stands s a.sort a.index) args
-instance_stands s (instances.Inline exports) = list_all (λ e. item_stands s e.sort e.index) exports
+abbrev pub outer_stands : OuterSort → ℕ → Lengths → Bool
+outer_stands outer_sorts.CoreModule i l = nat_lt i l.core_modules
+outer_stands outer_sorts.Type i l = nat_lt i l.types
+outer_stands outer_sorts.Component i l = nat_lt i l.components
 
-abbrev pub alias_stands_at : List Space → Space → Alias → Bool
-alias_stands_at around s (aliases.Export sort i name) = fits s.instances i
-alias_stands_at around s (aliases.CoreExport sort i name) = fits s.core_instances i
-alias_stands_at around s (aliases.Outer sort count i) = if_there (outer_stands sort i) (slice_get (s ∷ around) count)
+-- the scope to which an outer alias leads, if it is there
+abbrev pub scope_of_alias : List Lengths → Alias → Option Lengths
+scope_of_alias scopes (aliases.Outer sort count i) = slice_get scopes count
+scope_of_alias scopes _ = None
 
-abbrev pub type_alias_stands_at : List Space → Space → TypeAlias → Bool
-type_alias_stands_at around s (type_aliases.Export i name) = fits s.instances i
-type_alias_stands_at around s (type_aliases.Outer count i) = if_there (outer_stands outer_sorts.Type i) (slice_get (s ∷ around) count)
+abbrev pub alias_stands : Lengths → Option Lengths → Alias → Bool
+alias_stands l scope (aliases.Export sort i name) = nat_lt i l.instances
+alias_stands l scope (aliases.CoreExport sort i name) = nat_lt i l.core_instances
+alias_stands l scope (aliases.Outer sort count i) = if_there (outer_stands sort i) scope
 
-abbrev pub declaration_stands : List Space → Space → Declaration → Bool
-declaration_stands around s (ATypeDef d) = def_stands s d
-declaration_stands around s (ATypeAlias a) = type_alias_stands_at around s a
-declaration_stands around s (ATypeExport name desc) = desc_stands s desc
-declaration_stands around s (AnInstanceType ds) = true
+abbrev pub scope_of_type_alias : List Lengths → TypeAlias → Option Lengths
+scope_of_type_alias scopes (type_aliases.Outer count i) = slice_get scopes count
+scope_of_type_alias scopes (type_aliases.Export i name) = None
 
-abbrev pub canon_stands : Space → Canon → Bool
-canon_stands s (canons.Lift func options ty) = fits s.core_functions func && fits s.types ty && list_all (option_stands s) options
-canon_stands s (canons.Lower func options) = fits s.functions func && list_all (option_stands s) options
-canon_stands s (canons.ResourceNew ty) = fits s.types ty
-canon_stands s (canons.ResourceDrop ty) = fits s.types ty
-canon_stands s (canons.ResourceRep ty) = fits s.types ty
+abbrev pub type_alias_stands : Lengths → Option Lengths → TypeAlias → Bool
+type_alias_stands l scope (type_aliases.Export i name) = nat_lt i l.instances
+type_alias_stands l scope (type_aliases.Outer count i) = if_there (outer_stands outer_sorts.Type i) scope
+
+abbrev pub declaration_stands : List Lengths → Lengths → Declaration → Bool
+declaration_stands scopes l (ATypeDef d) = def_stands l d
+declaration_stands scopes l (ATypeAlias a) = type_alias_stands l (scope_of_type_alias scopes a) a
+declaration_stands scopes l (ATypeExport name desc) = desc_stands l desc
+declaration_stands scopes l (AnInstanceType ds) = true
+
+abbrev pub canon_stands : Lengths → Canon → Bool
+canon_stands l (canons.Lift func options ty) = nat_lt func l.core_functions && nat_lt ty l.types && list_all (option_stands l) options
+canon_stands l (canons.Lower func options) = nat_lt func l.functions && list_all (option_stands l) options
+canon_stands l (canons.ResourceNew ty) = nat_lt ty l.types
+canon_stands l (canons.ResourceDrop ty) = nat_lt ty l.types
+canon_stands l (canons.ResourceRep ty) = nat_lt ty l.types
+
+abbrev pub export_stands : Lengths → ComponentExport → Bool
+export_stands l e = item_stands l e.sort e.index && if_there (desc_stands l) e.desc
+
+-- in scopes of these lengths, of which the first is that of the definition
+abbrev pub definition_stands : List Lengths → Lengths → Definition → Bool
+definition_stands scopes l (ACoreInstance i) = core_instance_stands l i
+definition_stands scopes l (AnInstance i) = instance_stands l i
+definition_stands scopes l (AnAlias a) = alias_stands l (scope_of_alias scopes a) a
+definition_stands scopes l (AType d) = declaration_stands scopes l d
+definition_stands scopes l (ACanon c) = canon_stands l c
+definition_stands scopes l (AnImport i) = desc_stands l i.desc
+definition_stands scopes l (AnExport e) = export_stands l e
 
 abbrev pub indexes_stand : List Space → Space → Definition → Bool
-indexes_stand around s (ACoreInstance i) = core_instance_stands s i
-indexes_stand around s (AnInstance i) = instance_stands s i
-indexes_stand around s (AnAlias a) = alias_stands_at around s a
-indexes_stand around s (AType d) = declaration_stands around s d
-indexes_stand around s (ACanon c) = canon_stands s c
-indexes_stand around s (AnImport i) = desc_stands s i.desc
-indexes_stand around s (AnExport e) = item_stands s e.sort e.index && if_there (desc_stands s) e.desc
+indexes_stand around s d = definition_stands (map lengths_of (s ∷ around)) (lengths_of s) d
 
 -- ---- rules 4 and 5: the arguments of a core module
 

@@ -5,6 +5,10 @@ ghost use Rattle.std.specs.Prelude.{◌≡◌, ℕ};
 ghost use Rattle.comp_grammar.specs.Trees.{Tree};
 ghost use Rattle.comp_rules.specs.Validity.{BreaksComponent, IsValidComponent};
 
+mod lengths;
+
+pub use lengths::Lengths;
+
 /// The law that a valid component breaks no rule. It does nothing when it runs.
 pub fn valid_breaks_nothing()
     ensures { (tree : Tree) → (rule section : ℕ) → IsValidComponent tree → BreaksComponent tree rule section → ⊥ }
