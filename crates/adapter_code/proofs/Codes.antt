@@ -1,13 +1,13 @@
 -- Lists of statements and their trees.
-use Rattle.std.proofs.Common.{◌≡◌, ℕ, zero, suc, ◌+◌, ◌≤◌, List, [], ◌∷◌, Some, Vec, Global, refl, ap, ◌∙◌, subst, arith}
+use Rattle.std.proofs.Common.{◌≡◌, ℕ, zero, suc, ◌+◌, ◌<◌, ◌≤◌, List, [], ◌∷◌, ◌++◌, Some, Vec, Global, length, get_or, inl, inr, refl, sym, ap, ◌∙◌, subst, arith}
 use Rattle.std.specs.Prelude.{slice_get}
 use mathlib.Core.Former.{Count}
 use Rattle.adapter_code.specs.declared.statement.Width.{Width}
 use Rattle.adapter_code.specs.declared.statement.Width.TheVariants.{Narrow}
 use Rattle.adapter_code.specs.declared.statement.Statement.{Statement, Const, Move, Int, Load, Store, If, If', Repeat, Repeat', Leave, NewHandle, DropHandle, Trap, Answer, Row_of-Statement, end_of-Statement, more_of-Statement, items-the_row-Statement, items_hidden-the_row-Statement-0}
-use Rattle.adapter_code.specs.Code.{Code, Stop, Then, Choose, Turns, before, row_code, code_of}
+use Rattle.adapter_code.specs.Code.{Code, Stop, Then, Choose, Turns, before, row_code, code_of, followed_by}
 use Rattle.adapter_code.specs.Run.{State, Run, Next, Left, Over, then_run, chosen, number_at, turns, does, runs}
-use Rattle.adapter_code.specs.WellFormed.{HasWidth, IsFine, IsWellFormed}
+use Rattle.adapter_code.specs.WellFormed.{HasWidth, IsNamed, IsFine, IsWellFormed}
 use Rattle.adapter_code.specs.Plain.{IsPlain, IsUsable, AreUsable}
 
 abbrev first_of : Statement → (n : Count) × Row_of-Statement n
@@ -117,7 +117,7 @@ well_before ws names (DropHandle kind index) q h = ((h.0, tt), h.1)
 well_before ws names Trap q h = ((h.0, tt), h.1)
 well_before ws names Answer q h = ((h.0, tt), h.1)
 
-well_at : (ws : List Width) (names : List ℕ) (i : ℕ) (list : List Statement) (st : Statement) → IsWellFormed ws names (code_of list) → slice_get list i ≡ Some st → IsWellFormed ws names (before st Stop)
+pub well_at : (ws : List Width) (names : List ℕ) (i : ℕ) (list : List Statement) (st : Statement) → IsWellFormed ws names (code_of list) → slice_get list i ≡ Some st → IsWellFormed ws names (before st Stop)
 well_at ws names i [] st h e = cc
 well_at ws names zero (x ∷ xs) st h e = let same : x ≡ st = cc in subst (λ y. IsWellFormed ws names (before y Stop)) same (well_before ws names x (code_of xs) h).0
 well_at ws names (suc i) (x ∷ xs) st h e = well_at ws names i xs st (well_before ws names x (code_of xs) h).1 e
@@ -137,3 +137,80 @@ usable_repeat ws name count body h =
 
 pub fine_plain : (ws : List Width) (st : Statement) → IsPlain st → IsUsable ws st → (names : List ℕ) × IsFine ws names st
 fine_plain ws st p h = (h.0, (subst (IsWellFormed ws h.0) (plain_before st Stop p) h.1).0)
+
+pub well_join : (ws : List Width) (names : List ℕ) (st : Statement) (q : Code) → IsWellFormed ws names (before st Stop) → IsWellFormed ws names q → IsWellFormed ws names (before st q)
+well_join ws names (Const to v) q h g = (h.0, g)
+well_join ws names (Move to from) q h g = (h.0, g)
+well_join ws names (Int op to a b) q h g = (h.0, g)
+well_join ws names (Load to at offset size) q h g = (h.0, g)
+well_join ws names (Store from at offset size) q h g = (h.0, g)
+well_join ws names (If' test m f m' o) q h g = (h.0, h.1, h.2, g)
+well_join ws names (Repeat' name count m body) q h g = (h.0, h.1, g)
+well_join ws names (Leave name) q h g = (h.0, g)
+well_join ws names (NewHandle kind rep to) q h g = (h.0, g)
+well_join ws names (DropHandle kind index) q h g = (h.0, g)
+well_join ws names Trap q h g = (h.0, g)
+well_join ws names Answer q h g = (h.0, g)
+
+-- well-formedness asks which names there are, and not their order
+fine_named : (ws : List Width) (xs ys : List ℕ) (st : Statement) → ((n : ℕ) → IsNamed n xs → IsNamed n ys) → IsFine ws xs st → IsFine ws ys st
+fine_named ws xs ys (Const to v) f h = h
+fine_named ws xs ys (Move to from) f h = h
+fine_named ws xs ys (Int op to a b) f h = h
+fine_named ws xs ys (Load to at offset size) f h = h
+fine_named ws xs ys (Store from at offset size) f h = h
+fine_named ws xs ys (If' test m a m' b) f h = h
+fine_named ws xs ys (Repeat' name count m body) f h = h
+fine_named ws xs ys (Leave name) f h = f name h
+fine_named ws xs ys (NewHandle kind rep to) f h = h
+fine_named ws xs ys (DropHandle kind index) f h = h
+fine_named ws xs ys Trap f h = h
+fine_named ws xs ys Answer f h = h
+
+pub well_named : (ws : List Width) (xs ys : List ℕ) (code : Code) → ((n : ℕ) → IsNamed n xs → IsNamed n ys) → IsWellFormed ws xs code → IsWellFormed ws ys code
+well_named ws xs ys Stop f h = tt
+well_named ws xs ys (Then st rest) f h = (fine_named ws xs ys st f h.0, well_named ws xs ys rest f h.1)
+well_named ws xs ys (Choose test first other rest) f h = (h.0, well_named ws xs ys first f h.1, well_named ws xs ys other f h.2, well_named ws xs ys rest f h.3)
+well_named ws xs ys (Turns name count body rest) f h =
+    (h.0, well_named ws (name ∷ xs) (name ∷ ys) body (λ n g. elim g [ inl e ↦ inl e | inr r ↦ inr (f n r) ]) h.1, well_named ws xs ys rest f h.2)
+
+pub named_front : (n m : ℕ) (xs : List ℕ) → IsNamed n (xs ++ m ∷ []) → IsNamed n (m ∷ xs)
+named_front n m [] h = h
+named_front n m (x ∷ xs) (inl e) = inr (inl e)
+named_front n m (x ∷ xs) (inr r) = elim (named_front n m xs r) [ inl e ↦ inl e | inr g ↦ inr (inr g) ]
+
+pub named_back : (n m : ℕ) (xs : List ℕ) → IsNamed n (m ∷ xs) → IsNamed n (xs ++ m ∷ [])
+named_back n m [] h = h
+named_back n m (x ∷ xs) (inl e) = inr (named_back n m xs (inl e))
+named_back n m (x ∷ xs) (inr (inl e)) = inl e
+named_back n m (x ∷ xs) (inr (inr r)) = inr (named_back n m xs (inr r))
+
+pub named_get : (n : ℕ) (names : List ℕ) (i d : ℕ) → i < length names → get_or names i d ≡ n → IsNamed n names
+named_get n [] i d lt e = absurd (omega arith)
+named_get n (y ∷ ys) zero d lt e = inl (sym e)
+named_get n (y ∷ ys) (suc i) d lt e = inr (named_get n ys i d (omega arith) e)
+
+-- the name is among those that are left
+pub named_left : (n : ℕ) (names : List ℕ) (x : ℕ) → (x ≡ n → ⊥) → IsNamed n (x ∷ names) → IsNamed n names
+named_left n names x other (inl e) = absurd (other (sym e))
+named_left n names x other (inr r) = r
+
+-- ---- one list behind another
+
+before_followed : (st : Statement) (q next : Code) → before st (followed_by q next) ≡ followed_by (before st q) next
+before_followed (Const to v) q next = refl
+before_followed (Move to from) q next = refl
+before_followed (Int op to a b) q next = refl
+before_followed (Load to at offset size) q next = refl
+before_followed (Store from at offset size) q next = refl
+before_followed (If' test m f m' o) q next = refl
+before_followed (Repeat' name count m body) q next = refl
+before_followed (Leave name) q next = refl
+before_followed (NewHandle kind rep to) q next = refl
+before_followed (DropHandle kind index) q next = refl
+before_followed Trap q next = refl
+before_followed Answer q next = refl
+
+pub code_append : (xs ys : List Statement) → code_of (xs ++ ys) ≡ followed_by (code_of xs) (code_of ys)
+code_append [] ys = refl
+code_append (x ∷ xs) ys = ap (before x) (code_append xs ys) ∙ before_followed x (code_of xs) (code_of ys)

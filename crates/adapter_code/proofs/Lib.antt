@@ -3,3 +3,4 @@ pub mod Codes
 pub mod Running
 pub mod Words
 pub mod Enough
+pub mod Placed

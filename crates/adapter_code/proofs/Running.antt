@@ -16,7 +16,7 @@ shown_next (Next k s) t e = (k, ap (Next k) e)
 shown_next (Left m k s) t e = absurd e
 shown_next (Over f k s) t e = absurd e
 
-drop_from : (i : ℕ) (list : List Statement) (st : Statement) → slice_get list i ≡ Some st → drop i list ≡ st ∷ drop (i + 1) list
+pub drop_from : {X : Type 0} (i : ℕ) (list : List X) (st : X) → slice_get list i ≡ Some st → drop i list ≡ st ∷ drop (i + 1) list
 drop_from i [] st e = cc
 drop_from zero (x ∷ xs) st e = let same : x ≡ st = cc in ap (λ y. y ∷ xs) same
 drop_from (suc i) (x ∷ xs) st e = let step : suc i + 1 ≡ suc (i + 1) = omega arith in drop_from i xs st e ∙ ap (λ n. st ∷ drop n (x ∷ xs)) (sym step)

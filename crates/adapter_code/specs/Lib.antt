@@ -7,3 +7,4 @@ pub mod Plain
 pub mod Keeps
 pub mod Enough
 pub mod Layout
+pub mod Placed

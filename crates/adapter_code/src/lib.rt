@@ -10,9 +10,15 @@ mod number;
 mod plain;
 mod state;
 mod statement;
+mod well_formed;
+mod write;
 
 pub use evaluator::eval;
-pub use laws::writes_are_read;
+pub use laws::{placed_routines_run_alike, routines_run_in_order, writes_are_read};
 pub use layout::Layout;
 pub use state::{CodeEnd, Effect, Effects, Local, Locals, RowState};
 pub use statement::{IntOp, Statement, Statements, Width};
+pub use well_formed::is_well_formed;
+pub use write::{
+    Field, add, append, choose, constant, less, load, multiply, repeat, store, subtract, widths_of,
+};

@@ -1,6 +1,6 @@
 // Statements that hold no others.
 
-ghost use Rattle.std.specs.Prelude.{◌≡◌, ◌<◌, ◌^◌, IfOk, OnOk, map, length, List, ℕ};
+ghost use Rattle.std.specs.Prelude.{◌≡◌, ◌+◌, ◌<◌, ◌^◌, IfOk, OnOk, map, length, List, ℕ};
 ghost use Rattle.adapter_code.specs.declared.statement.Width.TheVariants.{Narrow};
 ghost use Rattle.adapter_code.specs.declared.statement.Statement.{Load as LoadOf, Store as StoreOf, NewHandle as NewHandleOf, DropHandle as DropHandleOf};
 ghost use Rattle.adapter_code.specs.Code.{Stop, Then, before};
@@ -127,12 +127,22 @@ pub fn run_plain(
     }
 }
 
+// The place in a local plus an offset, which does not wrap.
+fn place_of(state: &RowState, at: u32, offset: u32) -> u64
+    requires there { at < length state.now.locals.items }
+    requires narrow { width_at (seen state.now) at ≡ Narrow }
+    ensures value { result ≡ number_at (seen state.now) at + offset }
+    ensures fits { result < 2 ^ 33 }
+{
+    small(state, at) as u64 + offset as u64
+}
+
 fn load(to: u32, at: u32, offset: u32, width: u8, state: &mut RowState) -> Flow
     requires { (names : List ℕ) × IsFine (map local_width state.old.locals.items) names (LoadOf to at offset width) }
     ensures shows { (k : ℕ) → Shows (runs (Then (LoadOf to at offset width) Stop) k (seen state.old)) result (seen state.new) }
     ensures wide { map local_width state.new.locals.items ≡ map local_width state.old.locals.items }
 {
-    let place = small(state, at) as u64 + offset as u64;
+    let place = place_of(state, at, offset);
     match memory::load(&state.memory, place, width) {
         Some(number) => {
             set(state, to, number);
@@ -147,7 +157,7 @@ fn store(from: u32, at: u32, offset: u32, width: u8, state: &mut RowState) -> Fl
     ensures shows { (k : ℕ) → Shows (runs (Then (StoreOf from at offset width) Stop) k (seen state.old)) result (seen state.new) }
     ensures wide { map local_width state.new.locals.items ≡ map local_width state.old.locals.items }
 {
-    let place = small(state, at) as u64 + offset as u64;
+    let place = place_of(state, at, offset);
     let number = number(state, from);
     if memory::store(&mut state.memory, place, width, number) {
         Flow::Next

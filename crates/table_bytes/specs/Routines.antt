@@ -11,29 +11,36 @@ use Rattle.adapter_code.specs.declared.state.Effect.{Effect}
 use Rattle.adapter_code.specs.Code.{Code, Stop, Then, Choose}
 use Rattle.adapter_code.specs.Run.{State, Run, Next, Left, Over, number_at}
 use Rattle.table_bytes.specs.declared.entry.Entry.{Entry}
+use Rattle.table_bytes.specs.declared.routines.TableLocals.{TableLocals}
 use Rattle.table_bytes.specs.Table.{first_of, places_of, Changed}
 
 -- local 3 becomes eight bytes before the place in local 1, and local 2 is lost
 abbrev pub to_spot : Code → Code
 to_spot rest = Then (Const 2 16) (Then (Int Mul 3 1 2) (Then (Int Add 3 3 0) rest))
 
+-- a head that is not 0 names the place of one less
+abbrev pub lowered_code : Code
+lowered_code = Then (Const 2 1) (Then (Int Sub 1 1 2) Stop)
+
+-- a link of 0 names the place behind
+abbrev pub stepped_code : Code
+stepped_code = Then (Const 2 2) (Then (Int Add 2 1 2) Stop)
+
+-- the place leaves the chain, and the entry is written
+abbrev pub enter_code : Code
+enter_code =
+    to_spot (Then (Load 2 3 12 4)
+    (Choose 2 Stop stepped_code
+    (Then (Store 2 0 0 4) (Then (Store 5 3 8 1) (Then (Store 6 3 12 4) (Then (Store 7 3 16 8) Stop))))))
+
 -- the place in local 1 is taken, if it is one
 abbrev pub found_code : ℕ → ℕ → Code
-found_code base capacity =
-    Then (Const 2 capacity) (Then (Int LtU 4 1 2)
-    (Choose 4
-    (to_spot (Then (Load 2 3 12 4)
-    (Choose 2 Stop (Then (Const 2 2) (Then (Int Add 2 1 2) Stop))
-    (Then (Store 2 0 0 4) (Then (Store 5 3 8 1) (Then (Store 6 3 12 4) (Then (Store 7 3 16 8) Stop)))))))
-    Stop Stop))
+found_code base capacity = Then (Const 2 capacity) (Then (Int LtU 4 1 2) (Choose 4 enter_code Stop Stop))
 
 -- Takes the first free place of the table at `base` for the entry in locals 5, 6 and 7. Local 1 becomes the place and
 -- local 4 becomes 1; or local 4 becomes 0 where every place is used.
 abbrev pub take_code : ℕ → ℕ → Code
-take_code base capacity =
-    Then (Const 0 base) (Then (Load 1 0 0 4)
-    (Choose 1 (Then (Const 2 1) (Then (Int Sub 1 1 2) Stop)) Stop
-    (found_code base capacity)))
+take_code base capacity = Then (Const 0 base) (Then (Load 1 0 0 4) (Choose 1 lowered_code Stop (found_code base capacity)))
 
 -- Frees the place in local 1 of the table at `base`.
 abbrev pub free_code : ℕ → Code
@@ -82,3 +89,7 @@ FreeEnds base capacity free at k old (Next after new) =
     Quiet old new k after 13 × Changed old.memory new.memory base capacity (free + 1) at (Free (first_of old.memory base capacity))
 FreeEnds base capacity free at k old (Left name after new) = ⊥
 FreeEnds base capacity free at k old (Over end after new) = ⊥
+
+-- the locals of these routines, by the places that are given to them
+abbrev pub own_places : TableLocals → List ℕ
+own_places l = l.base ∷ l.place ∷ l.scratch ∷ l.spot ∷ l.found ∷ l.tag ∷ l.word ∷ l.long ∷ []

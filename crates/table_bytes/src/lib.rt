@@ -3,6 +3,8 @@
 
 mod entry;
 mod laws;
+mod routines;
 
 pub use entry::Entry;
 pub use laws::{free_frees, take_takes, zeros_are_free};
+pub use routines::{TableLocals, free, take};
