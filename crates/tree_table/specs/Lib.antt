@@ -8,5 +8,4 @@ pub mod Tables
 pub mod Slots
 pub mod Orders
 pub mod Linked
-pub mod Checks
 pub mod Scratches
