@@ -2,17 +2,18 @@
 #![tactic(auto)]
 
 mod table;
-#[cfg(test)]
-mod tests;
+mod wit;
 
 ghost use Rattle.std.specs.Prelude.{◌≡◌, ◌<◌, ◌≤◌, ◌+◌, IfOk};
 ghost use Rattle.wasi_table.specs.Plain.{plain_interface};
+ghost use Rattle.wasi_fs.specs.Wit.{IsKnown, IsWit};
 ghost use Rattle.wasi_fs.specs.Listed.{described, numbered};
 
 use std::alloc::Global;
 use table::TABLE;
 use virt_base::NoMemory;
 use wasi_table::Interface;
+pub use wit::WIT;
 
 /// The number of the first of these interfaces.
 pub const FIRST: u32 = 18;
@@ -36,3 +37,9 @@ pub fn describe(alloc: Global, number: u32) -> Result<Interface, NoMemory>
     let known = wasi_io::known_types(alloc)?;
     wasi_table::describe(alloc, known, FIRST, TABLE, number)
 }
+
+/// The table says what the text says in the notation of WIT, and each of its words is known.
+pub fn table_is_wit()
+    ensures text { IsWit }
+    ensures known { IsKnown }
+{}

@@ -2,17 +2,18 @@
 #![tactic(auto)]
 
 mod table;
-#[cfg(test)]
-mod tests;
+mod wit;
 
 ghost use Rattle.std.specs.Prelude.{◌≡◌, ◌<◌, IfOk, map};
 ghost use Rattle.wasi_table.specs.Plain.{plain_interface, plain_known};
+ghost use Rattle.wasi_io.specs.Wit.{IsKnown, IsWit};
 ghost use Rattle.wasi_io.specs.Listed.{described, known_types, numbered};
 
 use std::alloc::Global;
 use table::TABLE;
 use virt_base::NoMemory;
 use wasi_table::{Interface, Known};
+pub use wit::WIT;
 
 /// How many interfaces these are. They are numbered from 0.
 pub const COUNT: u32 = 18;
@@ -40,3 +41,9 @@ pub fn known_types(alloc: Global) -> Result<Vec<Known>, NoMemory>
     wasi_table::declare_all(alloc, 0, TABLE, &mut known)?;
     Ok(known)
 }
+
+/// The table says what the text says in the notation of WIT, and each of its words is known.
+pub fn table_is_wit()
+    ensures text { IsWit }
+    ensures known { IsKnown }
+{}

@@ -1,10 +1,10 @@
 -- The parts of a text, as the code finds them one by one.
-use Rattle.std.proofs.Common.{◌≡◌, ◌∙◌, ap, sym, refl, Option, Some, None, length-drop, ℕ, ◌+◌, ◌<◌, List, [], ◌∷◌, length, arith}
+use Rattle.std.proofs.Common.{◌≡◌, ◌∙◌, ap, sym, refl, Option, Some, None, length-drop, ℕ, ◌+◌, ◌<◌, List, [], ◌∷◌, length, map, arith}
 use Rattle.std.specs.Prelude.{◌==◌, MatchOption}
 use Rattle.std.specs.Borrow.{Bor}
 use Rattle.std.specs.List.{position_or_len, before_first, after_first}
 use Rattle.std.proofs.lemmas.Bool.Decides.{nat_tests}
-use Rattle.wasi_table.specs.Texts.{parts_of}
+use Rattle.wasi_table.specs.Texts.{parts_of, parts_in, left}
 
 pub parts_split : (joiner : ℕ) (rest : List ℕ) → position_or_len (λ b. b == joiner) rest < length rest
     → parts_of joiner rest ≡ before_first (λ b. b == joiner) rest ∷ parts_of joiner (after_first (λ b. b == joiner) rest)
@@ -28,3 +28,10 @@ found_parts joiner text (Some p) h =
       parts_split joiner text below ∙ ap (λ f. f ∷ parts_of joiner (after_first (λ b. b == joiner) text)) (sym front) ∙ ap (λ b. p.0.now ∷ parts_of joiner b) (sym back),
       rw back shorter,
     )
+
+-- the same of parts that are read further
+pub mapped_parts : {X : Type 0} (f : List ℕ → X) (joiner : ℕ) (rest : Option (Bor (List ℕ))) (r : Option (Bor (List ℕ) × Option (Bor (List ℕ))))
+    → MatchOption r (parts_in joiner rest ≡ []) (λ p. (parts_in joiner rest ≡ p.0.now ∷ parts_in joiner p.1) × (left p.1 < left rest))
+    → MatchOption r (map f (parts_in joiner rest) ≡ []) (λ p. (map f (parts_in joiner rest) ≡ f p.0.now ∷ map f (parts_in joiner p.1)) × (left p.1 < left rest))
+mapped_parts f joiner rest None h = ap (map f) h
+mapped_parts f joiner rest (Some p) h = (ap (map f) h.0, h.1)

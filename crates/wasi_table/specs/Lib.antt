@@ -2,8 +2,10 @@ pub mod Before
 pub mod Forms
 pub mod Functions
 pub mod Items
+pub mod Known
 pub mod Plain
 pub mod Tables
 pub mod Texts
 pub mod Types
+pub mod Wit
 pub mod Words

@@ -28,22 +28,23 @@ items_of text = map lines_of (parts_of 59 text)
 abbrev pub table_of : Name → List (List (List Line))
 table_of text = map items_of (parts_of 46 text)
 
+-- the parts that are left
+abbrev pub parts_in : ℕ → Option (Bor Name) → List Name
+parts_in joiner None = []
+parts_in joiner (Some text) = parts_of joiner text.now
+
 -- the words, lines, items and interfaces that are left
 abbrev pub words_in : Option (Bor Name) → Line
-words_in None = []
-words_in (Some text) = words_of text.now
+words_in rest = parts_in 32 rest
 
 abbrev pub lines_in : Option (Bor Name) → List Line
-lines_in None = []
-lines_in (Some text) = lines_of text.now
+lines_in rest = map words_of (parts_in 44 rest)
 
 abbrev pub items_in : Option (Bor Name) → List (List Line)
-items_in None = []
-items_in (Some text) = items_of text.now
+items_in rest = map lines_of (parts_in 59 rest)
 
 abbrev pub interfaces_in : Option (Bor Name) → List (List (List Line))
-interfaces_in None = []
-interfaces_in (Some text) = table_of text.now
+interfaces_in rest = map items_of (parts_in 46 rest)
 
 -- how much is left
 abbrev pub left : Option (Bor Name) → ℕ

@@ -4,7 +4,7 @@
 //! the lines of an item, and a blank between the words of a line. The first item of an interface is its name alone; the others
 //! begin with a keyword and a name, as `record datetime`, and the fields, cases or methods stand in lines of their own. A type
 //! is written with its form in front: `list u8`, `result _ error-code`, `borrow descriptor`. A name stands for what was
-//! defined by it before, in this or an earlier interface. What a table's words do not spell is passed over.
+//! defined by it before, in this or an earlier interface.
 #![tactic(auto)]
 
 mod cut;
