@@ -1,12 +1,11 @@
 -- The test says which addresses are allowed.
-use Rattle.std.proofs.Common.{◌≡◌, ◌≤◌, ℕ, refl, sym, ◌∙◌, ap, Bool, true, false, ◌&&◌, List, [], ◌∷◌, arith}
-use Rattle.std.specs.Prelude.{Any, take, nat_le, IsTrue, ◌↔◌}
-use Rattle.std.specs.List.{list_any}
+use Rattle.std.proofs.Common.{◌≡◌, ◌≤◌, ℕ, refl, sym, ◌∙◌, ap, Bool, true, List, arith}
+use Rattle.std.specs.Prelude.{Any, nat_le, IsTrue, ◌↔◌}
 use Rattle.std.proofs.lemmas.List.Folds.{Any-from_list_any, list_any-from_Any}
 use Rattle.policy_data.specs.declared.data.PortRange.{PortRange}
 use Rattle.policy_data.specs.declared.data.Rule.{Rule}
-use Rattle.policy_data.specs.Addresses.{Address, address_bits, IsInNetwork, HoldsPort, IsAllowed}
-use Rattle.net_policy.specs.Allowed.{same_bit, same_front, is_in_network, holds_port, allows_one, is_allowed}
+use Rattle.policy_data.specs.Addresses.{Address, IsInNetwork, HoldsPort, IsAllowed}
+use Rattle.net_policy.specs.Allowed.{same_bit, is_in_network, holds_port, allows_one, is_allowed}
 use Rattle.net_policy.proofs.FrontLemmas.{and-left, and-right, same_bit-equal, same_bit-refl, taken_alike, alike_taken}
 
 pub le-true : (m n : ℕ) → nat_le m n ≡ true → m ≤ n

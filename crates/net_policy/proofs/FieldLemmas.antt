@@ -1,7 +1,7 @@
 -- The field at a place.
 use Rattle.std.proofs.Common.{◌≡◌, ◌<◌, ◌≤◌, ℕ, zero, suc, refl, List, [], ◌∷◌, length, get_or, arith}
 use Rattle.wit_types.specs.declared.value.Value.{Value}
-use Rattle.wit_types.specs.PlainValue.{PlainValue, RecordValue, End, plain_value, values_of}
+use Rattle.wit_types.specs.PlainValue.{RecordValue, End, plain_value, values_of}
 use Rattle.net_policy.specs.Allowed.{field_at}
 
 pub field_there : (vs : List Value) (n : ℕ) (d : Value) → n < length vs → field_at n (values_of vs) ≡ plain_value (get_or vs n d)

@@ -1,5 +1,5 @@
 -- Lists that begin alike.
-use Rattle.std.proofs.Common.{◌≡◌, ◌≢◌, ◌+◌, ◌-◌, ◌<◌, ℕ, zero, suc, refl, sym, ◌∙◌, ap, Bool, true, false, ◌&&◌, List, [], ◌∷◌, ◌++◌, take, arith}
+use Rattle.std.proofs.Common.{◌≡◌, ◌-◌, ◌<◌, ℕ, zero, suc, refl, sym, Bool, true, false, ◌&&◌, List, [], ◌∷◌, ◌++◌, take, arith}
 use Rattle.std.specs.Prelude.{◌/◌, ◌%◌, ◌^◌, ◌==◌}
 use Rattle.policy_data.specs.Addresses.{bits}
 use Rattle.net_policy.specs.Allowed.{same_bit, same_front}

@@ -1,10 +1,10 @@
 -- Addresses as values of WASI, and the test of which rules allow one.
-use Rattle.std.specs.Prelude.{ℕ, zero, suc, nat_abs, nat_le, nat_lt, ◌^◌, ◌/◌, ◌%◌, ◌==◌, Bool, true, false, ◌&&◌, ◌||◌, List, [], ◌∷◌, codes, IsTrue, if◌then◌else◌}
+use Rattle.std.specs.Prelude.{ℕ, zero, suc, nat_abs, nat_le, Bool, true, false, ◌&&◌, List, [], ◌∷◌, codes, IsTrue}
 use Rattle.std.specs.List.{list_any}
 use Rattle.policy_data.specs.declared.data.PortRange.{PortRange}
 use Rattle.policy_data.specs.declared.data.Rule.{Rule}
 use Rattle.policy_data.specs.Addresses.{Address, address_bits}
-use Rattle.wit_types.specs.Plain.{Plain, Parts, Name, TwoBytes, OneByte, FourBytes, AsRecord, AsTuple, AsVariant, UnsignedType, RecordType, VariantType, End as NoParts, More as Part}
+use Rattle.wit_types.specs.Plain.{Plain, Parts, TwoBytes, OneByte, FourBytes, AsRecord, AsTuple, AsVariant, UnsignedType, RecordType, VariantType, End as NoParts, More as Part}
 use Rattle.wit_types.specs.PlainValue.{PlainValue, PlainValues, Payload, IntValue, RecordValue, VariantValue, End, More, Without, With}
 use Rattle.wit_types.specs.HasType.{is_of}
 

@@ -1,7 +1,6 @@
 -- wasi:clocks/wall-clock and wasi:clocks/monotonic-clock, where the policy fixes the clock.
-use Rattle.std.specs.Prelude.{ℕ, List, [], ◌∷◌}
+use Rattle.std.specs.Prelude.{ℕ, [], ◌∷◌}
 use Rattle.wit_types.specs.PlainValue.{PlainValue}
-use Rattle.policy_data.specs.declared.data.WallTime.{WallTime}
 use Rattle.policy_data.specs.declared.data.WallClock.{WallClock}
 use Rattle.policy_data.specs.declared.data.WallClock.TheVariants.{Fixed as FixedWall}
 use Rattle.policy_data.specs.declared.data.MonotonicClock.{MonotonicClock}

@@ -1,18 +1,17 @@
 -- wasi:filesystem/types, resource descriptor: what its methods do where a descriptor is not the host's. Each row goes by what the
 -- descriptor stands for: a folder or a file of a tree, the scratch folder, or a file in it.
-use Rattle.std.specs.Prelude.{ℕ, ◌+◌, ◌-◌, ◌==◌, nat_lt, min, Bool, true, false, not, ◌&&◌, ◌||◌, List, [], ◌∷◌, length, take, drop, Option, Some, None, unwrap_or, if◌then◌else◌}
+use Rattle.std.specs.Prelude.{ℕ, ◌+◌, ◌-◌, ◌==◌, min, Bool, true, false, not, ◌&&◌, ◌||◌, List, [], ◌∷◌, length, take, drop, Option, Some, None, unwrap_or, if◌then◌else◌}
 use Rattle.wit_types.specs.PlainValue.{PlainValue, BoolValue, StringValue, FlagsValue}
 use Rattle.tree_table.specs.declared.entries.Node.{Node as TreeNode}
-use Rattle.tree_table.specs.declared.entries.Node.TheVariants.{Folder, File, Link}
-use Rattle.tree_table.specs.declared.entries.NamedTree.{NamedTree}
+use Rattle.tree_table.specs.declared.entries.Node.TheVariants.{File, Link}
 use Rattle.tree_table.specs.Paths.{Path, Answer, At, Fails}
 use Rattle.tree_table.specs.Trees.{same_path}
 use Rattle.tree_table.specs.Scratches.{ScratchMap, content_at, name_at, free_number, created, removed, renamed, sized, written, with_content}
 use Rattle.reference_step.specs.Codes as code
-use Rattle.reference_step.specs.Handles.{Content, Host, Node, FileAt, EmptyIn, Discard, Always, Entries, ScratchRoot, ScratchEntries, ScratchFile, ScratchIn, ScratchOut}
+use Rattle.reference_step.specs.Handles.{Content, Node, FileAt, Entries, ScratchRoot, ScratchEntries, ScratchFile, ScratchIn, ScratchOut}
 use Rattle.reference_step.specs.Values.{number, numbers, label, ok, done, record_of, has_flag}
-use Rattle.reference_step.specs.Nodes.{node_at, lead, bytes_at, type_of, size_of, children_at, place_at, Found, TheRoot, TheFile, Missing, lead_in, NewName, Named, Unnamed, new_name, stat_value, hash_value}
-use Rattle.reference_step.specs.State.{View, Row, returns, fails, gives_ok, gives_ok_in, moves, stores}
+use Rattle.reference_step.specs.Nodes.{node_at, lead, type_of, size_of, children_at, place_at, Found, TheRoot, TheFile, Missing, lead_in, NewName, Named, Unnamed, new_name, stat_value, hash_value}
+use Rattle.reference_step.specs.State.{View, Row, returns, fails, gives_ok, gives_ok_in, stores}
 
 -- ---- flags: path-flags { symlink-follow }, open-flags { create, directory, exclusive, truncate },
 -- descriptor-flags { read, write, file-integrity-sync, data-integrity-sync, requested-write-sync, mutate-directory }

@@ -1,8 +1,8 @@
 -- wasi:filesystem/types, resource directory-entry-stream: what its method does where the stream is not the host's.
-use Rattle.std.specs.Prelude.{ℕ, ◌+◌, List, [], ◌∷◌, Option, Some, None, unwrap_or}
+use Rattle.std.specs.Prelude.{ℕ, ◌+◌, [], ◌∷◌, Option, Some, None, unwrap_or}
 use Rattle.tree_table.specs.Scratches.{ScratchMap, name_at}
 use Rattle.reference_step.specs.Codes as code
-use Rattle.reference_step.specs.Handles.{Content, DirectoryEntry, Host, Node, FileAt, EmptyIn, Discard, Always, Entries, ScratchRoot, ScratchEntries, ScratchFile, ScratchIn, ScratchOut}
+use Rattle.reference_step.specs.Handles.{Content, DirectoryEntry, Entries, ScratchEntries}
 use Rattle.reference_step.specs.Values.{ok, some, none}
 use Rattle.reference_step.specs.Nodes.{next_file, entry_value}
 use Rattle.reference_step.specs.State.{View, Row, returns, moves}

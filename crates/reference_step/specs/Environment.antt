@@ -1,14 +1,14 @@
 -- wasi:cli/environment.
-use Rattle.std.specs.Prelude.{ℕ, Bool, true, false, not, ◌&&◌, ◌||◌, List, [], ◌∷◌, ◌++◌, map, filter}
+use Rattle.std.specs.Prelude.{ℕ, Bool, not, ◌&&◌, ◌||◌, List, [], ◌∷◌, ◌++◌, map, filter}
 use Rattle.std.specs.List.{list_any}
 use Rattle.std.specs.Str.{bytes_eq}
 use Rattle.wit_types.specs.PlainValue.{PlainValue, StringValue}
 use Rattle.policy_data.specs.declared.policy.Policy.{Policy}
 use Rattle.policy_data.specs.declared.data.Variable.{Variable}
 use Rattle.policy_data.specs.declared.data.Arguments.{Arguments}
-use Rattle.policy_data.specs.declared.data.Arguments.TheVariants.{Deny as NoArguments, Allow as HostArguments, Given as TheseArguments}
+use Rattle.policy_data.specs.declared.data.Arguments.TheVariants.{Given as TheseArguments}
 use Rattle.policy_data.specs.declared.data.WorkingDirectory.{WorkingDirectory}
-use Rattle.policy_data.specs.declared.data.WorkingDirectory.TheVariants.{Deny as NoFolder, Allow as HostFolder, Given as ThisFolder}
+use Rattle.policy_data.specs.declared.data.WorkingDirectory.TheVariants.{Given as ThisFolder}
 use Rattle.reference_step.specs.Values.{list, list_in, record_of, fields_in, nth, text_in, none, some}
 use Rattle.reference_step.specs.State.{View, Row, returns}
 

@@ -1,7 +1,7 @@
 -- wasi:io/streams, resource input-stream: what its methods do where the stream is not the host's.
 use Rattle.std.specs.Prelude.{ℕ, ◌+◌, nat_le, List, length, if◌then◌else◌}
 use Rattle.tree_table.specs.Scratches.{content_at, read_at}
-use Rattle.reference_step.specs.Handles.{Content, Host, Node, FileAt, EmptyIn, Discard, Always, Entries, ScratchRoot, ScratchEntries, ScratchFile, ScratchIn, ScratchOut}
+use Rattle.reference_step.specs.Handles.{Content, FileAt, Always, ScratchIn}
 use Rattle.reference_step.specs.Values.{number, numbers, ok, closed}
 use Rattle.reference_step.specs.Nodes.{bytes_at}
 use Rattle.reference_step.specs.State.{View, Row, returns, gives, moves}

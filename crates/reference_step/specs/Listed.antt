@@ -1,11 +1,10 @@
 -- The listed interfaces under their versions, their functions, and the kinds of resources.
-use Rattle.std.specs.Prelude.{ℕ, nat_lt, ◌==◌, Bool, true, false, List, [], ◌∷◌, ◌++◌, Option, Some, None, option_map, find, if◌then◌else◌}
+use Rattle.std.specs.Prelude.{ℕ, nat_lt, ◌==◌, Bool, true, List, [], ◌∷◌, ◌++◌, Option, Some, None, find, if◌then◌else◌}
 use Rattle.std.specs.List.{list_any}
 use Rattle.std.specs.Str.{bytes_eq}
 use Rattle.wit_types.specs.Plain.{Name}
-use Rattle.wasi_table.specs.declared.interface.Use.{Use}
 use Rattle.wasi_table.specs.Types.{kind_of}
-use Rattle.wasi_table.specs.Plain.{PlainInterface, PlainNamed, PlainNamedFunc}
+use Rattle.wasi_table.specs.Plain.{PlainInterface, PlainNamedFunc}
 use Rattle.wasi_io.specs.Listed.{numbered as numbered_io, described as described_io}
 use Rattle.wasi_fs.specs.Listed.{numbered as numbered_fs, described as described_fs}
 use Rattle.wasi_net.specs.Listed.{numbered as numbered_net, described as described_net}

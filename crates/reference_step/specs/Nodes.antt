@@ -1,5 +1,5 @@
 -- What trees and the scratch folder hold.
-use Rattle.std.specs.Prelude.{ℕ, ◌+◌, ◌==◌, nat_lt, not, Bool, true, false, List, [], ◌∷◌, length, reverse, drop, filter, filter_map, position, Option, Some, None, is_some, unwrap_or, option_map, if◌then◌else◌}
+use Rattle.std.specs.Prelude.{ℕ, ◌+◌, ◌==◌, nat_lt, not, Bool, true, false, List, [], ◌∷◌, length, reverse, drop, filter, filter_map, position, Option, Some, None, is_some, unwrap_or, if◌then◌else◌}
 use Rattle.std.specs.List.{list_any}
 use Rattle.wit_types.specs.PlainValue.{PlainValue, StringValue}
 use Rattle.tree_table.specs.declared.entries.Node.{Node as TreeNode}
@@ -8,7 +8,7 @@ use Rattle.tree_table.specs.declared.entries.Entry.{Entry}
 use Rattle.tree_table.specs.declared.entries.NamedTree.{NamedTree}
 use Rattle.tree_table.specs.Trees.{entries_of, tree_map, same_path}
 use Rattle.tree_table.specs.Paths.{Path, Answer, At, Fails, Part, Stay, Up, Named as NamedPart, resolve, parts_of, part_of, is_rooted}
-use Rattle.tree_table.specs.Scratches.{ScratchMap, content_at, find_file, scratch_tree}
+use Rattle.tree_table.specs.Scratches.{ScratchMap, find_file, scratch_tree}
 use Rattle.reference_step.specs.Codes as code
 use Rattle.reference_step.specs.Handles.{DirectoryEntry}
 use Rattle.reference_step.specs.Values.{number, label, none, record_of}

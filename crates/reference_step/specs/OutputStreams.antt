@@ -1,7 +1,7 @@
 -- wasi:io/streams, resource output-stream: what its methods do where a stream is not the host's.
 use Rattle.std.specs.Prelude.{ℕ, ◌+◌, List, length, replicate, Option, Some, None, option_map, unwrap_or}
 use Rattle.tree_table.specs.Scratches.{ScratchMap, content_at, written}
-use Rattle.reference_step.specs.Handles.{Content, Host, Node, FileAt, EmptyIn, Discard, Always, Entries, ScratchRoot, ScratchEntries, ScratchFile, ScratchIn, ScratchOut}
+use Rattle.reference_step.specs.Handles.{Content, Always, ScratchOut}
 use Rattle.reference_step.specs.Values.{number, ok, done, closed}
 use Rattle.reference_step.specs.State.{View, Row, returns, gives, stores_and_moves}
 

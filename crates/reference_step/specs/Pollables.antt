@@ -1,5 +1,5 @@
 -- wasi:io/poll: what it does where a pollable is not the host's.
-use Rattle.std.specs.Prelude.{ℕ, ◌+◌, Bool, true, false, List, [], ◌∷◌, if◌then◌else◌}
+use Rattle.std.specs.Prelude.{ℕ, ◌+◌, true, List, [], ◌∷◌, if◌then◌else◌}
 use Rattle.wit_types.specs.PlainValue.{PlainValue, BoolValue}
 use Rattle.reference_step.specs.Handles.{Content, is_host}
 use Rattle.reference_step.specs.Values.{numbers, list_in, id_in}

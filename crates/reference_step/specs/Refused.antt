@@ -1,5 +1,5 @@
 -- Which calls the rules on addresses refuse, where sockets go by rules.
-use Rattle.std.specs.Prelude.{ℕ, not, Bool, true, false, ◌&&◌, List, [], ◌∷◌, codes, Option, Some, None, ◌==◌, if◌then◌else◌}
+use Rattle.std.specs.Prelude.{not, Bool, true, false, ◌&&◌, List, [], ◌∷◌, codes, Option, Some, None, if◌then◌else◌}
 use Rattle.std.specs.Str.{bytes_eq}
 use Rattle.wit_types.specs.Plain.{Name}
 use Rattle.wit_types.specs.PlainValue.{PlainValue, PlainValues}

@@ -2,7 +2,7 @@
 use Rattle.std.specs.Prelude.{ℕ, List, [], ◌∷◌, codes, find, slice_index_or, Option, Some, None}
 use Rattle.std.specs.Str.{bytes_eq}
 use Rattle.wit_types.specs.Plain.{Name}
-use Rattle.wit_types.specs.PlainValue.{PlainValue, PlainValues}
+use Rattle.wit_types.specs.PlainValue.{PlainValues}
 use Rattle.reference_step.specs.Handles.{Content}
 use Rattle.reference_step.specs.Values.{nth, number_in, text_in, bits_in, id_in, numbers_in}
 use Rattle.reference_step.specs.State.{View, Row, Traps}

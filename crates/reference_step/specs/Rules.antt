@@ -1,15 +1,13 @@
 -- The tests that a call passes before it is answered, in their order: what must hold of it, weight, room, and denial.
-use Rattle.std.specs.Prelude.{ℕ, zero, suc, ◌+◌, ◌*◌, ◌-◌, ◌==◌, nat_lt, nat_le, Bool, true, false, not, ◌&&◌, ◌||◌, List, [], ◌∷◌, ◌++◌, length, codes, count_by, Option, Some, None, if◌then◌else◌}
+use Rattle.std.specs.Prelude.{ℕ, ◌+◌, ◌==◌, nat_lt, nat_le, Bool, true, false, ◌&&◌, ◌||◌, List, [], ◌∷◌, Option, Some, None, if◌then◌else◌}
 use Rattle.std.specs.List.{list_all}
 use Rattle.std.specs.Str.{bytes_eq}
 use Rattle.wit_types.specs.Plain.{Name, Plain, Parts, Width, OneByte, TwoBytes, FourBytes, EightBytes, RecordForm, AsRecord, AsTuple, VariantForm, AsVariant, AsEnum, AsOption, AsResult, BoolType, SignedType, UnsignedType, CharType, StringType, ListType, RecordType, VariantType, FlagsType, OwnType, BorrowType, End as NoParts, More as Part, Bare}
-use Rattle.wit_types.specs.PlainValue.{PlainValue, PlainValues}
 use Rattle.wit_types.specs.HasType.{are_of}
 use Rattle.policy_data.specs.declared.words.Deny.{Deny}
 use Rattle.policy_data.specs.declared.words.Deny.TheVariants.{Trap as DenyByTrap, Error as DenyByError}
 use Rattle.policy_data.specs.declared.policy.Policy.{Policy}
 use Rattle.host_port.specs.Calls.{PlainCall}
-use Rattle.reference_step.specs.Codes as code
 use Rattle.reference_step.specs.Atoms.{atoms_of, handles}
 use Rattle.reference_step.specs.Handles.{LiveHandle, handle_at, live_of_kind}
 use Rattle.reference_step.specs.Listed.{Listed}

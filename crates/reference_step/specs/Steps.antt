@@ -1,9 +1,9 @@
 -- The step of the reference host: what each call of a listed function answers under a policy, over a host that is asked.
-use Rattle.std.specs.Prelude.{ℕ, ◌+◌, ◌*◌, ◌==◌, nat_lt, nat_le, Bool, true, false, not, ◌&&◌, List, [], ◌∷◌, ◌++◌, map, length, codes, find, replicate, slice_index_or, Option, Some, None, if◌then◌else◌}
+use Rattle.std.specs.Prelude.{ℕ, ◌+◌, ◌*◌, ◌==◌, nat_lt, Bool, true, false, not, ◌&&◌, List, [], ◌∷◌, ◌++◌, map, length, codes, find, slice_index_or, Option, Some, None, if◌then◌else◌}
 use Rattle.std.specs.List.{list_all}
 use Rattle.std.specs.Str.{bytes_eq}
-use Rattle.wit_types.specs.Plain.{Name, Plain}
-use Rattle.wit_types.specs.PlainValue.{PlainValue, PlainValues, StringValue, ListValue, RecordValue, HandleValue, End, More}
+use Rattle.wit_types.specs.Plain.{Plain}
+use Rattle.wit_types.specs.PlainValue.{PlainValue, StringValue, ListValue, HandleValue, End}
 use Rattle.wit_types.specs.Layout.{align_to}
 use Rattle.wasi_table.specs.declared.kinds.TheConstants.{KINDS}
 use Rattle.policy_data.specs.declared.policy.Policy.{Policy}
@@ -16,14 +16,14 @@ use Rattle.host_port.specs.Calls.{PlainCall, PlainAnswer, PlainObservation, Give
 use Rattle.host_port.specs.Hosts.{HostStep, Reaction, Loss}
 use Rattle.reference_step.specs.Codes as code
 use Rattle.reference_step.specs.Values.{error_code, list, list_in, record_of, fields_in, nth, text_in, id_in}
-use Rattle.reference_step.specs.Handles.{Content, Host, Node, ScratchRoot, FileAt, EmptyIn, Discard, Always, Entries, ScratchEntries, ScratchFile, ScratchIn, ScratchOut, LiveHandle, descriptor, is_host, handle_at, content_of, fresh_id, with_handle, without_handle, with_content}
-use Rattle.reference_step.specs.Atoms.{Atom, atoms_of, result_atoms, weight, handles, renumbered_of, renumbered_result}
+use Rattle.reference_step.specs.Handles.{Content, Host, Node, ScratchRoot, Always, LiveHandle, descriptor, is_host, handle_at, content_of, fresh_id, with_handle, without_handle, with_content}
+use Rattle.reference_step.specs.Atoms.{atoms_of, result_atoms, weight, handles, renumbered_of, renumbered_result}
 use Rattle.reference_step.specs.Listed.{Listed, listed_function, kind_named, homes, with_version}
-use Rattle.reference_step.specs.State.{Setup, Reference, View, view_of, Effect, Row, Traps, Does}
-use Rattle.reference_step.specs.Access.{all_files, asks_folders, is_hosted, access}
+use Rattle.reference_step.specs.State.{Setup, Reference, view_of, Effect, Row, Traps, Does}
+use Rattle.reference_step.specs.Access.{all_files, is_hosted, access}
 use Rattle.reference_step.specs.Environment.{all_variables}
 use Rattle.reference_step.specs.Rows.{row_of}
-use Rattle.reference_step.specs.Rules.{passes, given, has_places, fit, is_of_kind, Errors, FilesystemErrors, SocketErrors, NoErrors, errors_of, Denial, NotDenied, ByPolicy, ByRules, denial, is_answered}
+use Rattle.reference_step.specs.Rules.{passes, given, has_places, fit, Errors, FilesystemErrors, SocketErrors, NoErrors, errors_of, Denial, NotDenied, ByPolicy, ByRules, denial, is_answered}
 
 module _ {S : Type 0} (h : HostStep S) where
   -- ---- answers

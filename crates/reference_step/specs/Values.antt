@@ -1,6 +1,6 @@
 -- Values as the rows write them, and the parts of arguments.
-use Rattle.std.specs.Prelude.{ℕ, zero, suc, pos, nat_abs, ◌+◌, ◌^◌, ◌/◌, ◌%◌, ◌==◌, Bool, List, [], ◌∷◌, ◌++◌, Option, Some, None}
-use Rattle.wit_types.specs.PlainValue.{PlainValue, PlainValues, Payload, BoolValue, IntValue, StringValue, ListValue, RecordValue, VariantValue, FlagsValue, HandleValue, End, More, Without, With}
+use Rattle.std.specs.Prelude.{ℕ, zero, suc, pos, nat_abs, ◌^◌, ◌/◌, ◌%◌, ◌==◌, Bool, List, [], ◌∷◌, Option, Some, None}
+use Rattle.wit_types.specs.PlainValue.{PlainValue, PlainValues, Payload, IntValue, StringValue, ListValue, RecordValue, VariantValue, FlagsValue, HandleValue, End, More, Without, With}
 
 -- ---- values
 

@@ -1,4 +1,4 @@
-use Rattle.std.proofs.Common.{◌≡◌, sym, ◌∙◌, ap, ◌&&◌, arith, refl}
+use Rattle.std.proofs.Common.{sym, ◌∙◌, ap, ◌&&◌, arith}
 use Rattle.std.proofs.lemmas.Grind.{common_steps}
 use Rattle.net_policy.proofs.NumberLemmas.{both_by, not_alike}
 use Rattle.net_policy.proofs.network.+same_numbers.Goals as goal

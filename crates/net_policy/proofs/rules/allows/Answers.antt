@@ -1,4 +1,4 @@
-use Rattle.std.proofs.Common.{◌≡◌, ◌∙◌, ap, rules}
+use Rattle.std.proofs.Common.{◌≡◌, rules}
 use Rattle.wit_types.specs.PlainValue.{plain_value}
 use Rattle.net_policy.specs.Allowed.{address_in, is_allowed}
 use Rattle.net_policy.proofs.AllowedLemmas.{says}
