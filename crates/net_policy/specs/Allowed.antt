@@ -1,33 +1,12 @@
 -- Addresses as values of WASI, and the test of which rules allow one.
-use Rattle.std.specs.Prelude.{ℕ, zero, suc, nat_abs, nat_le, Bool, true, false, ◌&&◌, List, [], ◌∷◌, codes, IsTrue}
+use Rattle.std.specs.Prelude.{ℕ, zero, suc, nat_abs, nat_le, Bool, true, false, ◌&&◌, List, [], ◌∷◌}
 use Rattle.std.specs.List.{list_any}
 use Rattle.policy_data.specs.declared.data.PortRange.{PortRange}
 use Rattle.policy_data.specs.declared.data.Rule.{Rule}
 use Rattle.policy_data.specs.Addresses.{Address, address_bits}
-use Rattle.wit_types.specs.Plain.{Plain, Parts, TwoBytes, OneByte, FourBytes, AsRecord, AsTuple, AsVariant, UnsignedType, RecordType, VariantType, End as NoParts, More as Part}
 use Rattle.wit_types.specs.PlainValue.{PlainValue, PlainValues, Payload, IntValue, RecordValue, VariantValue, End, More, Without, With}
-use Rattle.wit_types.specs.HasType.{is_of}
 
--- ---- the type of addresses (wasi:sockets/network 0.2, variant ip-socket-address)
-
-abbrev pub ports : Plain
-ports = UnsignedType TwoBytes
-
--- so many numbers of a type, in a tuple
-abbrev pub numbers_type : ℕ → Plain → Parts
-numbers_type zero ty = NoParts
-numbers_type (suc n) ty = Part [] ty (numbers_type n ty)
-
-abbrev pub ip-socket-address : Plain
-ip-socket-address = VariantType AsVariant
-    (Part (codes "ipv4") (RecordType AsRecord (Part (codes "port") ports (Part (codes "address") (RecordType AsTuple (numbers_type 4 (UnsignedType OneByte))) NoParts)))
-    (Part (codes "ipv6") (RecordType AsRecord (Part (codes "port") ports (Part (codes "flow-info") (UnsignedType FourBytes) (Part (codes "address") (RecordType AsTuple (numbers_type 8 (UnsignedType TwoBytes))) (Part (codes "scope-id") (UnsignedType FourBytes) NoParts)))))
-    NoParts))
-
-abbrev pub IsAddress : PlainValue → Type 0
-IsAddress v = IsTrue (is_of ip-socket-address v)
-
--- ---- the address that a value is: flow-info and scope-id don't count
+-- ---- the address that a value of the type ip-socket-address is (wasi:sockets/network 0.2); flow-info and scope-id don't count
 
 abbrev pub number_in : PlainValue → ℕ
 number_in (IntValue n) = nat_abs n

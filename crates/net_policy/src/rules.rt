@@ -2,7 +2,7 @@ ghost use Rattle.std.specs.Prelude.{◌≡◌, ◌↔◌, IsTrue};
 ghost use Rattle.std.specs.List.{list_any};
 ghost use Rattle.policy_data.specs.Addresses.{IsAllowed};
 ghost use Rattle.wit_types.specs.PlainValue.{plain_value, values_of};
-ghost use Rattle.net_policy.specs.Allowed.{IsAddress, address_in, allows_one, holds_port, is_in_network, is_allowed, address_of};
+ghost use Rattle.net_policy.specs.Allowed.{address_in, allows_one, holds_port, is_in_network, is_allowed, address_of};
 
 use crate::address::{Address, address_in};
 use crate::network::same_numbers;
@@ -49,9 +49,9 @@ fn some_allows(rules: &[Rule], address: &Address<'_>) -> bool
     rules.iter().any(|rule| allows_one(rule, address))
 }
 
-/// Whether some rule allows the address, a value of the type `ip-socket-address`. It takes no memory.
+/// Whether some rule allows the address, which is a value of the type `ip-socket-address`: of any other value it has no
+/// meaning. It takes no memory.
 pub fn allows(rules: &Rules, address: &Value) -> bool
-    requires { IsAddress (plain_value address.now) }
     ensures value { result ≡ is_allowed rules.now (address_in (plain_value address.now)) }
     ensures rule { IsTrue result ↔ IsAllowed rules.now (address_in (plain_value address.now)) }
 {
