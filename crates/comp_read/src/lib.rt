@@ -4,7 +4,5 @@
 mod nesting;
 mod reading;
 mod sections;
-#[cfg(test)]
-mod tests;
 
 pub use reading::{CompReadFault, read_component};

@@ -8,8 +8,6 @@ mod externs;
 mod instances;
 mod open_types;
 mod sections;
-#[cfg(test)]
-mod tests;
 mod type_items;
 mod types;
 mod writing;

@@ -3,8 +3,6 @@
 
 mod brackets;
 mod code;
-#[cfg(test)]
-mod tests;
 
 pub use brackets::Jump;
 pub use code::Code;

@@ -15,6 +15,3 @@ pub use external::{CoreInstance, Extern, Externs, NamedExtern, NamedExterns};
 pub use instance::instantiate;
 pub use laws::spelled_modules_have_counts;
 pub use matching::imports_match;
-
-#[cfg(test)]
-mod tests;

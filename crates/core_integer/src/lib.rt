@@ -7,6 +7,3 @@ mod opcode;
 mod widths;
 
 pub use opcode::integer;
-
-#[cfg(test)]
-mod tests;

@@ -11,6 +11,3 @@ mod reading;
 
 pub use fault::StoreFault;
 pub use memory::Memory;
-
-#[cfg(test)]
-mod tests;

@@ -6,6 +6,3 @@ mod words;
 
 pub use slots::Slots;
 pub use words::{CoreValues, reference, value, value_like, values, word, word_of_ref};
-
-#[cfg(test)]
-mod tests;

@@ -26,6 +26,3 @@ pub use tables::{
     drop_element, table_copy, table_fill, table_get, table_grow, table_init, table_set, table_size,
 };
 pub use value::{CoreRef, CoreRefs, CoreSpaces, CoreValue, StoreFunc, TooDeep};
-
-#[cfg(test)]
-mod tests;

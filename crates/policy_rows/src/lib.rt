@@ -8,6 +8,12 @@ mod long;
 #[cfg(test)]
 mod outcome;
 #[cfg(test)]
+mod reading;
+#[cfg(test)]
 mod rows;
 #[cfg(test)]
+mod sizes;
+#[cfg(test)]
 mod tests;
+#[cfg(test)]
+mod texts;

@@ -4,8 +4,6 @@
 mod hex;
 mod networks;
 mod paths;
-#[cfg(test)]
-mod tests;
 
 pub use hex::hex_bytes;
 pub use networks::network_of;

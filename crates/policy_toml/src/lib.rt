@@ -11,8 +11,6 @@ mod net;
 mod policy;
 mod reader;
 mod stdio;
-#[cfg(test)]
-mod tests;
 mod top;
 mod tree;
 mod values;

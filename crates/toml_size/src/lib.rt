@@ -8,13 +8,3 @@ ghost use Rattle.toml_size.specs.Sizes.{DocumentsAreNoLonger};
 pub fn documents_are_no_longer()
     ensures { DocumentsAreNoLonger }
 {}
-
-#[cfg(test)]
-mod tests {
-    use super::documents_are_no_longer;
-
-    #[test]
-    fn law() {
-        documents_are_no_longer();
-    }
-}

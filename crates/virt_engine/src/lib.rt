@@ -3,16 +3,12 @@
 
 mod command;
 mod constant;
-#[cfg(test)]
-mod constant_tests;
 mod engine;
 mod line;
 mod output;
 mod plan;
 mod report;
 mod status;
-#[cfg(test)]
-mod tests;
 mod write_out;
 
 pub use engine::wasi_virt;

@@ -1,4 +1,4 @@
-use crate::{Slots, reference, value, value_like, values, word, word_of_ref};
+use core_slots::{Slots, reference, value, value_like, values, word, word_of_ref};
 use core_store::{CoreRef, CoreValue};
 use std::test::Fail;
 use virt_base::CoreType;

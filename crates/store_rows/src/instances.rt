@@ -1,10 +1,9 @@
 // Modules as wabt's wat2wasm writes them; what is wanted is what an instance has by the core specification, section 4.5.4,
 // and whether V8 (node) makes one.
 
-use crate::external::{CoreInstance, Extern};
-use crate::instance::instantiate;
-use crate::laws::spelled_modules_have_counts;
-use crate::matching::imports_match;
+use core_instance::{
+    CoreInstance, Extern, imports_match, instantiate, spelled_modules_have_counts,
+};
 use core_read::read_module;
 use core_store::{Shared, Store, StoreFault, StoreFunc, add_function, add_table};
 use core_validate::validate;

@@ -1,4 +1,4 @@
-use crate::integer;
+use core_integer::integer;
 use virt_base::{CoreType, Trap};
 use wasm_ast::numeric_of;
 

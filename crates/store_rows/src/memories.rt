@@ -1,4 +1,4 @@
-use crate::{Memory, StoreFault};
+use core_memory::{Memory, StoreFault};
 use std::test::Fail;
 use virt_base::Trap;
 

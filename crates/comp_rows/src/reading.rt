@@ -1,5 +1,5 @@
-use crate::reading::{CompReadFault, read_component};
 use CompReadFault::{Malformed, TooNested, Unsupported};
+use comp_read::{CompReadFault, read_component};
 use std::alloc::Global;
 use std::test::Fail;
 use virt_base::write_u32;

@@ -1,5 +1,5 @@
-use crate::policy::read_policy;
 use policy_data::{Access, ReadPolicyFault, Version, WallClock, WallTime};
+use policy_toml::read_policy;
 use std::test::Fail;
 
 const TEXT: &[u8] = b"\

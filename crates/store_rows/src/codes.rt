@@ -1,5 +1,4 @@
-use crate::brackets::Jump;
-use crate::code::Code;
+use core_code::{Code, Jump};
 use std::alloc::Global;
 use std::test::Fail;
 use virt_base::{Items, NoMemory};

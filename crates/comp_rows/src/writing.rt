@@ -3,8 +3,8 @@ ghost use Rattle.wasm_format.specs.Format.{AreBytes};
 ghost use Rattle.comp_grammar.specs.Trees.{plain};
 ghost use Rattle.comp_read.specs.Answers.{SpellsReadable};
 
-use crate::writing::write_component;
 use comp_read::read_component;
+use comp_write::write_component;
 use std::alloc::Global;
 use std::process::Abort;
 use std::test::Fail;

@@ -1,10 +1,9 @@
-use crate::engine::wasi_virt;
-use crate::status::code;
 use std::alloc::Global;
 use std::test::Fail;
 use virt_base::{
     Bytes, Contents, Items, MemFiles, MemSink, Named, NoMemory, Places, Text, copy_bytes,
 };
+use virt_engine::{code, wasi_virt};
 
 /// A component whose export `f` answers 7.
 const SEVEN: [u8; 83] = [
@@ -141,25 +140,47 @@ fn every_cut_is_malformed(rt: HostRuntime) -> Result<(), Fail> {
     Ok(())
 }
 
+/// Spellings of the operand in one byte: 7, 0, 63, -64 and -1 (WebAssembly Core 2.0, section 5.2.2).
 #[test]
-fn sizes_and_the_operand_may_have_other_spellings(rt: HostRuntime) -> Result<(), Fail> {
+fn other_operands(rt: HostRuntime) -> Result<(), Fail> {
+    for operand in [0x07, 0x00, 0x3F, 0x40, 0x7F] {
+        let mut app = SEVEN;
+        app[OPERAND] = operand;
+        let ran = run_app(rt.alloc(), &app)?;
+        assert_eq!(rt; ran.code, 0, "operand {operand}");
+        let Some(out) = ran.out else {
+            return Err(Fail::from("no output"));
+        };
+        assert_eq!(rt; out.len(), SEVEN_OUT.len());
+        assert_eq!(rt; out[10..93], app, "operand {operand}");
+    }
+    Ok(())
+}
+
+#[test]
+fn a_size_may_have_another_spelling(rt: HostRuntime) -> Result<(), Fail> {
     let alloc = rt.alloc();
-    // the operand -1 keeps the length; a size of five bytes adds four
-    let mut minus_one = SEVEN;
-    minus_one[OPERAND] = 0x7F;
+    // a size of five bytes adds four
     let mut padded = Vec::from_slice(alloc, &SEVEN[..9])?;
     padded.extend_from_slice(&[0xA2, 0x80, 0x80, 0x80, 0x00])?;
     padded.extend_from_slice(&SEVEN[10..])?;
-    let minus_line = b"done: 83 bytes in, 116 bytes out, 0 functions imported\n";
-    let padded_line = b"done: 87 bytes in, 120 bytes out, 0 functions imported\n";
-    for (app, line) in [
-        (minus_one.as_slice(), minus_line.as_slice()),
-        (padded.as_slice(), padded_line.as_slice()),
-    ] {
-        let ran = run_app(alloc, app)?;
-        assert_eq!(rt; ran.code, 0);
-        assert_eq!(rt; ran.text.as_slice(), line);
-    }
+    let ran = run_app(alloc, padded.as_slice())?;
+    let line = b"done: 87 bytes in, 120 bytes out, 0 functions imported\n";
+    assert_eq!(rt; ran.code, 0);
+    assert_eq!(rt; ran.text.as_slice(), line.as_slice());
+    Ok(())
+}
+
+#[test]
+fn a_byte_behind_the_form_is_refused(rt: HostRuntime) -> Result<(), Fail> {
+    let mut app = Vec::from_slice(rt.alloc(), &SEVEN)?;
+    app.push(0)?;
+    let ran = run_app(rt.alloc(), app.as_slice())?;
+    assert_eq!(rt; ran.code, 2);
+    assert_eq!(rt;
+        ran.text.as_slice(),
+        b"application refused: malformed at 0\n".as_slice()
+    );
     Ok(())
 }
 

@@ -1,7 +1,5 @@
-use crate::hex::hex_bytes;
-use crate::networks::network_of;
-use crate::paths::Paths;
 use path_names::{holds_byte, is_path};
+use policy_text::{Paths, hex_bytes, network_of};
 use std::test::Fail;
 
 #[test]

@@ -1,4 +1,4 @@
-use crate::{
+use core_store::{
     CoreRef, CoreRefs, CoreSpaces, CoreValue, Locals, Shared, Store, StoreFault, StoreFunc,
     TooDeep, add_elements, add_function, add_global, add_instance, add_memory, add_segment,
     add_table, copy, drop_element, drop_segment, fill, function, functions, global_get, global_set,

@@ -1,0 +1,5 @@
+//! Rows for the top call: the files that it writes, the text that it puts and its exit status.
+#![tactic(auto)]
+
+#[cfg(test)]
+mod calls;
