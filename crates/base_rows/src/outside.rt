@@ -1,10 +1,11 @@
+use outside::{
+    Contents, Entry, EntryKind, FileFail, Files, MemFiles, MemSink, Named, Places, PutFailed, Sink,
+    WriteFailed,
+};
 use std::alloc::{AllocError, Global};
 use std::process::Abort;
 use std::test::Fail;
-use virt_base::{
-    Contents, Entry, EntryKind, FileFail, Files, Items, MemFiles, MemSink, Named, Places,
-    PutFailed, Sink, Text, WriteFailed,
-};
+use virt_base::{Items, Text};
 
 fn entry(a: Global, name: &str, kind: EntryKind) -> Result<Entry, Fail> {
     Ok(Entry {

@@ -1,8 +1,7 @@
+use outside::{Contents, MemFiles, MemSink, Named, Places};
 use std::alloc::Global;
 use std::test::Fail;
-use virt_base::{
-    Bytes, Contents, Items, MemFiles, MemSink, Named, NoMemory, Places, Text, copy_bytes,
-};
+use virt_base::{Bytes, Items, NoMemory, Text, copy_bytes};
 use virt_engine::{code, wasi_virt};
 
 /// A component whose export `f` answers 7.

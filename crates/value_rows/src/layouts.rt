@@ -159,7 +159,10 @@ fn variants(rt: HostRuntime) -> Result<(), Fail> {
     let alloc = rt.alloc();
     let two = vec![in alloc; Some(WitType::U8), Some(WitType::U64)]?;
     expect(&rt, &variant(alloc, two)?, 16, 8, &[I32, I64]);
-    let three_bytes = tuple(alloc, vec![in alloc; WitType::U8, WitType::U8, WitType::U8]?)?;
+    let three_bytes = tuple(
+        alloc,
+        vec![in alloc; WitType::U8, WitType::U8, WitType::U8]?,
+    )?;
     let mixed = vec![in alloc; Some(WitType::U16), None, Some(three_bytes)]?;
     expect(&rt, &variant(alloc, mixed)?, 6, 2, &[I32, I32, I32, I32]);
     let bare = vec![in alloc; None, None]?;

@@ -1,7 +1,7 @@
 -- The machine's files and standard output, which tell nothing of what they hold.
 use Rattle.std.specs.Prelude.{ℕ, [], false, None}
-use Rattle.virt_base.specs.Files.{FilesState, Held}
-use Rattle.virt_base.specs.Sink.{SinkState}
+use Rattle.outside.specs.Files.{FilesState, Held}
+use Rattle.outside.specs.Sink.{SinkState}
 
 abbrev pub nothing_told : Held
 nothing_told = record { file = λ n. None; folder = λ n. None; noted = λ n. false; room = λ n. 0 }

@@ -1,15 +1,14 @@
 ghost use Rattle.std.specs.Prelude.{ℕ, IfErr};
-ghost use Rattle.virt_base.specs.Files.{IsWithin, IsListing};
+ghost use Rattle.outside.specs.Files.{IsWithin, IsListing};
 
 use crate::real_sink::{one_more, write_whole};
+use outside::{Entries, Entry, EntryKind, FileFail, Files, WriteFailed, are_in_order};
 use std::alloc::Global;
 use std::cmp::Ordering;
 use std::fs::{DirEntry, OpenFile, OpenOptions};
 use std::io::{ErrorKind, Read};
 use std::{fs, io, rt};
-use virt_base::{
-    Entries, Entry, EntryKind, FileFail, Files, Items, Text, WriteFailed, are_in_order,
-};
+use virt_base::{Items, Text};
 
 /// So many bytes are read in one call.
 const PIECE: usize = 16_384;
@@ -186,9 +185,10 @@ impl<R: rt::Files + Alloc + Clone + Drop> Files for RealFiles<'_, R> {
 mod tests {
     use super::RealFiles;
     use crate::real_sink::RealSink;
+    use outside::{FileFail, Files, Sink};
     use std::io;
     use std::test::Fail;
-    use virt_base::{FileFail, Files, Sink, Text};
+    use virt_base::Text;
 
     #[test]
     fn a_file_is_written_and_read(rt: HostRuntime) -> Result<(), Fail> {

@@ -1,9 +1,9 @@
 ghost use Rattle.std.specs.Prelude.{◌≡◌, ◌≤◌};
-ghost use Rattle.virt_base.specs.Fault.{Rose};
+ghost use Rattle.outside.specs.Fault.{Rose};
 
+use outside::{PutFailed, Sink};
 use std::io;
 use std::io::{ErrorKind, Write};
-use virt_base::{PutFailed, Sink};
 
 /// A count of faults, which stays at its greatest value.
 pub fn one_more(faults: u64) -> u64

@@ -4,9 +4,9 @@ use Rattle.std.specs.Prelude.{IsErr, Option, Some, None, ◌⊎◌, OnOk, OnErr,
 use Rattle.std.proofs.lemmas.Bool.{ltb-false, le-ltb}
 use Rattle.std.proofs.lemmas.List.{take_min, take-append-le, length-append, take-append-drop, take_all}
 use Rattle.std.proofs.Math.Seq.{take-append-add, take-add}
-use Rattle.virt_base.specs.Files.{FilesState, Held, Goes, with_file, with_more, no_room, is_over, Creates, Appends}
-use Rattle.virt_base.specs.declared.files.WriteFailed.{WriteFailed}
-use Rattle.virt_base.proofs.HeldLaws.{with_file_twice, file_there, with_more_with_file, with_more_nothing}
+use Rattle.outside.specs.Files.{FilesState, Held, Goes, with_file, with_more, no_room, is_over, Creates, Appends}
+use Rattle.outside.specs.declared.files.WriteFailed.{WriteFailed}
+use Rattle.outside.proofs.HeldLaws.{with_file_twice, file_there, with_more_with_file, with_more_nothing}
 use Rattle.virt_engine.specs.Writing.{Adds, LeftOf, Writes}
 
 -- ---- changes of one name

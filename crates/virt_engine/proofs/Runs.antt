@@ -2,9 +2,9 @@
 use Rattle.std.proofs.Common.{◌≡◌, ◌≢◌, ℕ, ℤ, ◌≤◌, List, [], ◌++◌, length, true, false, refl, sym, ap, subst, ◌∙◌, inl, inr, arith, Ok, Err, string_bytes}
 use Rattle.std.specs.Prelude.{◌⊎◌, Option, Some, None, codes}
 use Rattle.std.proofs.lemmas.Bool.{le-ltb}
-use Rattle.virt_base.specs.Fault.{Rose}
-use Rattle.virt_base.specs.Files.{FilesState, Held, with_file, no_place}
-use Rattle.virt_base.specs.Sink.{SinkState}
+use Rattle.outside.specs.Fault.{Rose}
+use Rattle.outside.specs.Files.{FilesState, Held, with_file, no_place}
+use Rattle.outside.specs.Sink.{SinkState}
 use Rattle.virt_engine.specs.Constant.{SpellsConstant}
 use Rattle.virt_engine.proofs.ConstantGrammar.{spelled_constant}
 use Rattle.virt_engine.specs.declared.plan.Ready.{Ready}

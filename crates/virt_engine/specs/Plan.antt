@@ -2,9 +2,9 @@
 use Rattle.std.specs.Prelude.{ℕ, ℤ, ◌≤◌, ◌<◌, ◌≡◌, ◌≢◌, ◌++◌, ◌⊎◌, List, [], ◌∷◌, true, false, Option, Some, None, IsSome, is_some, length, codes, nat_lt, if◌then◌else◌}
 use Rattle.std.specs.Prelude.{Result, Ok, Err, IfErr, IfOk, Vec, string_bytes}
 use Rattle.std.specs.declared.alloc.Global.{Global}
-use Rattle.virt_base.specs.Fault.{Rose}
-use Rattle.virt_base.specs.Files.{FilesState, Held, Goes, with_file, no_place}
-use Rattle.virt_base.specs.Sink.{SinkState}
+use Rattle.outside.specs.Fault.{Rose}
+use Rattle.outside.specs.Files.{FilesState, Held, Goes, with_file, no_place}
+use Rattle.outside.specs.Sink.{SinkState}
 use Rattle.virt_base.specs.declared.fault.AppFault.TheVariants.{Malformed}
 use Rattle.virt_engine.specs.Constant.{SpellsConstant, constant_of}
 use Rattle.virt_engine.specs.declared.status.PolicyFault.TheVariants.{BadKey}

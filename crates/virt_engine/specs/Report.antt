@@ -1,7 +1,7 @@
 -- How the text of a status relates to the sink that it is put to.
 use Rattle.std.specs.Prelude.{ℕ, ◌≡◌, ◌++◌, ◌⊎◌, List, true, false, take}
-use Rattle.virt_base.specs.Fault.{Rose}
-use Rattle.virt_base.specs.Sink.{SinkState, is_full}
+use Rattle.outside.specs.Fault.{Rose}
+use Rattle.outside.specs.Sink.{SinkState, is_full}
 use Rattle.virt_engine.specs.declared.status.Status.{Status}
 use Rattle.virt_engine.specs.declared.status.Status.TheVariants.{PolicyRefused, AppRefused, FileFault, SinkFault, OverLimit, NoMemory, Usage}
 

@@ -1,8 +1,8 @@
 -- What becomes of a file that is written anew, piece by piece.
 use Rattle.std.specs.Prelude.{ℕ, ◌≡◌, ◌≤◌, ◌⊎◌, List, true, false, Some, None, Result, is_err, OnOk, OnErr, length, take}
-use Rattle.virt_base.specs.Fault.{Rose}
-use Rattle.virt_base.specs.Files.{FilesState, Held, Goes, with_file, with_more, no_place, no_room}
-use Rattle.virt_base.specs.declared.files.WriteFailed.{WriteFailed}
+use Rattle.outside.specs.Fault.{Rose}
+use Rattle.outside.specs.Files.{FilesState, Held, Goes, with_file, with_more, no_place, no_room}
+use Rattle.outside.specs.declared.files.WriteFailed.{WriteFailed}
 
 -- The bytes stand at the end of the name's file, or a prefix of them after a fault.
 pub record Adds (name bytes : List ℕ) (s t : FilesState) (r : Result (Unit {0}) WriteFailed) : Type 0 where

@@ -7,8 +7,9 @@ use crate::plan::{Ready, plan};
 use crate::report::{put_text, refuse};
 use crate::status::Status;
 use crate::write_out::write_out;
+use outside::{Files, Sink};
 use std::alloc::Global;
-use virt_base::{Files, Sink, Text};
+use virt_base::Text;
 use virt_words::{VirtWords, WordsFault};
 
 /// Writes the output, and puts the text of what came of it.

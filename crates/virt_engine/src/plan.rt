@@ -9,8 +9,9 @@ use crate::constant::read_constant;
 use crate::line::{done_line, line_of};
 use crate::output::pieces_around;
 use crate::status::{PolicyFault, Status};
+use outside::{FileFail, Files};
 use std::alloc::{AllocError, Global};
-use virt_base::{AppFault, FileFail, Files, NoMemory, Text};
+use virt_base::{AppFault, NoMemory, Text};
 use wasm_format::Stop;
 
 /// A policy has at most so many bytes.

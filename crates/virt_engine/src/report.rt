@@ -4,8 +4,8 @@ ghost use Rattle.virt_engine.specs.Report.{Puts, Reports};
 
 use crate::line::line_of;
 use crate::status::Status;
+use outside::Sink;
 use std::alloc::Global;
-use virt_base::Sink;
 
 /// Puts the text of a status that is due.
 pub fn put_text<S: Sink>(text: String, due: Status, out: &mut S) -> Status

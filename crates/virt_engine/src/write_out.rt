@@ -1,7 +1,8 @@
 ghost use Rattle.std.specs.Prelude.{◌≡◌, ◌++◌};
 ghost use Rattle.virt_engine.specs.Writing.{Adds, Writes};
 
-use virt_base::{Files, Text, WriteFailed};
+use outside::{Files, WriteFailed};
+use virt_base::Text;
 
 /// So many bytes are added to a file in one call.
 const PIECE: usize = 65_536;

@@ -1,0 +1,10 @@
+pub mod Fault
+pub mod Files
+pub mod Sink
+pub mod Failing
+pub mod Buffer
+pub mod MemSink
+pub mod MemFiles
+pub mod MemInside
+pub mod FolderTable
+pub mod MemState

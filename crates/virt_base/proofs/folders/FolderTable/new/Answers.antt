@@ -1,6 +1,0 @@
-use Rattle.std.proofs.Common.{sym, ◌∙◌}
-use Rattle.virt_base.proofs.EntryLaws.{first_in_order}
-use Rattle.virt_base.proofs.folders.FolderTable.new.Goals as goal
-
-pub invariant_of-result : goal.invariant_of-result
-invariant_of-result c = record { each_in_order = λ name entries e. first_in_order c.args.folders name entries c.requires (sym (c.in_ok-table.ensures name) ∙ e) }
