@@ -8,7 +8,7 @@ mod instructions;
 #[cfg(test)]
 mod numbers;
 #[cfg(test)]
-mod outside;
+mod files_and_sinks;
 #[cfg(test)]
 mod steps;
 #[cfg(test)]
