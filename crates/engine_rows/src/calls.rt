@@ -151,7 +151,7 @@ fn other_operands(rt: HostRuntime) -> Result<(), Fail> {
             return Err(Fail::from("no output"));
         };
         assert_eq!(rt; out.len(), SEVEN_OUT.len());
-        assert_eq!(rt; out[10..93], app, "operand {operand}");
+        assert_eq!(rt; &out[10..93], app.as_slice(), "operand {operand}");
     }
     Ok(())
 }
@@ -239,14 +239,25 @@ fn refusals_come_in_their_order(rt: HostRuntime) -> Result<(), Fail> {
         b"usage: wasi-virt virt APP -p POLICY -o OUT; run COMPONENT -s SCRIPT [-p POLICY] [--steps N]; gen N OUT\n";
     let wrong = ["virt", "a", "-p", "p"];
     let pack = ["pack"];
-    let other_order = ["virt", "-o", "o", "a", "-p", "p"];
+    let twice = ["virt", "a", "-p", "p", "-p", "p", "-o", "o"];
+    let one_word_more = ["virt", "a", "b", "-p", "p", "-o", "o"];
+    let run = ["run", "a", "-s", "p"];
+    let make = ["gen", "3", "o"];
     let no_policy = ["virt", "a", "-p", "q", "-o", "o"];
     let no_app = ["virt", "b", "-p", "p", "-o", "o"];
     for (words, policy, exit, line) in [
         ([].as_slice(), b"".as_slice(), 64, usage.as_slice()),
         (wrong.as_slice(), b"".as_slice(), 64, usage.as_slice()),
         (pack.as_slice(), b"".as_slice(), 64, usage.as_slice()),
-        (other_order.as_slice(), b"".as_slice(), 64, usage.as_slice()),
+        (twice.as_slice(), b"".as_slice(), 64, usage.as_slice()),
+        (
+            one_word_more.as_slice(),
+            b"".as_slice(),
+            64,
+            usage.as_slice(),
+        ),
+        (run.as_slice(), b"".as_slice(), 64, usage.as_slice()),
+        (make.as_slice(), b"".as_slice(), 64, usage.as_slice()),
         (
             no_policy.as_slice(),
             b"".as_slice(),
@@ -268,6 +279,66 @@ fn refusals_come_in_their_order(rt: HostRuntime) -> Result<(), Fail> {
     ] {
         let files = files_of(alloc, &SEVEN, policy, 200, &[])?;
         let ran = run_on(alloc, words, files, sink_of(alloc, &[])?)?;
+        assert_eq!(rt; ran.code, exit);
+        assert_eq!(rt; ran.text.as_slice(), line);
+        assert!(rt; ran.out.is_none());
+    }
+    Ok(())
+}
+
+#[test]
+fn words_stand_in_any_order_and_form(rt: HostRuntime) -> Result<(), Fail> {
+    let alloc = rt.alloc();
+    let other_order = ["virt", "-o", "o", "a", "-p", "p"];
+    let long_names = ["virt", "--policy", "p", "--out", "o", "a"];
+    let equal_signs = ["virt", "--out=o", "a", "--policy=p"];
+    let joined = ["virt", "-pp", "a", "-o=o"];
+    for words in [
+        other_order.as_slice(),
+        long_names.as_slice(),
+        equal_signs.as_slice(),
+        joined.as_slice(),
+    ] {
+        let files = files_of(alloc, &SEVEN, b"", 200, &[])?;
+        let ran = run_on(alloc, words, files, sink_of(alloc, &[])?)?;
+        assert_eq!(rt; ran.code, 0);
+        assert_eq!(rt;
+            ran.out.as_ref().map(|out| out.as_slice()),
+            Some(SEVEN_OUT.as_slice())
+        );
+    }
+    Ok(())
+}
+
+#[test]
+fn a_limit_passes_and_one_more_is_refused(rt: HostRuntime) -> Result<(), Fail> {
+    let alloc = rt.alloc();
+    // the bytes of the application and of the policy, all of them 0
+    for (app, policy, exit, line) in [
+        (0, 16_777_216, 1, b"policy refused: bad-key \n".as_slice()),
+        (
+            0,
+            16_777_217,
+            5,
+            b"over limit: policy-bytes 16777217\n".as_slice(),
+        ),
+        (
+            33_554_432,
+            0,
+            2,
+            b"application refused: malformed at 0\n".as_slice(),
+        ),
+        (
+            33_554_433,
+            0,
+            5,
+            b"over limit: application-bytes 33554433\n".as_slice(),
+        ),
+    ] {
+        let app: Vec<u8> = vec![in alloc; 0; app]?;
+        let policy: Vec<u8> = vec![in alloc; 0; policy]?;
+        let files = files_of(alloc, app.as_slice(), policy.as_slice(), 200, &[])?;
+        let ran = run_on(alloc, &WORDS, files, sink_of(alloc, &[])?)?;
         assert_eq!(rt; ran.code, exit);
         assert_eq!(rt; ran.text.as_slice(), line);
         assert!(rt; ran.out.is_none());
