@@ -467,31 +467,31 @@ post_return_type ty = record { params = (lifted_type ty).results; results = [] }
 abbrev pub realloc_type : CoreFunc
 realloc_type = record { params = I32 ∷ I32 ∷ I32 ∷ I32 ∷ []; results = I32 ∷ [] }
 
--- only a lifted function has a post-return
-abbrev pub option_is_sound : Space → (post_return : Option CoreFunc) → CanonOption → Bool
-option_is_sound s post opts.Utf8 = true
-option_is_sound s post (opts.Memory i) = true
-option_is_sound s post (opts.Realloc i) = if_there (λ f. same_func f realloc_type) (core_func_at s i)
-option_is_sound s None (opts.PostReturn i) = false
-option_is_sound s (Some ty) (opts.PostReturn i) = if_there (λ f. same_func f ty) (core_func_at s i)
+-- only a lifted function has a post-return; `at` is the type of the core function at an index
+abbrev pub option_is_sound : (at : ℕ → Option CoreFunc) → (post_return : Option CoreFunc) → CanonOption → Bool
+option_is_sound at post opts.Utf8 = true
+option_is_sound at post (opts.Memory i) = true
+option_is_sound at post (opts.Realloc i) = if_there (λ f. same_func f realloc_type) (at i)
+option_is_sound at None (opts.PostReturn i) = false
+option_is_sound at (Some ty) (opts.PostReturn i) = if_there (λ f. same_func f ty) (at i)
 
 abbrev pub is_there_if_needed : Bool → (CanonOption → Bool) → List CanonOption → Bool
 is_there_if_needed needed test options = not needed || list_any test options
 
-abbrev pub are_sound : Space → (memory realloc : Bool) → (post_return : Option CoreFunc) → List CanonOption → Bool
-are_sound s memory realloc post options =
-    all_differ is_same_option options && list_all (option_is_sound s post) options
-    && is_there_if_needed memory is_memory options && is_there_if_needed realloc is_realloc options
+abbrev pub are_sound : (at : ℕ → Option CoreFunc) → (memory realloc : Bool) → (post_return : Option CoreFunc) → List CanonOption → Bool
+are_sound at memory realloc post options =
+    (all_differ is_same_option options && list_all (option_is_sound at post) options)
+    && (is_there_if_needed memory is_memory options && is_there_if_needed realloc is_realloc options)
 
-abbrev pub lift_options : Space → PlainFunc → List CanonOption → Bool
-lift_options s ty options = are_sound s (needs_memory ty) (lift_needs_realloc ty) (Some (post_return_type ty)) options
+abbrev pub lift_options : (at : ℕ → Option CoreFunc) → PlainFunc → List CanonOption → Bool
+lift_options at ty options = are_sound at (needs_memory ty) (lift_needs_realloc ty) (Some (post_return_type ty)) options
 
-abbrev pub lower_options : Space → PlainFunc → List CanonOption → Bool
-lower_options s ty options = are_sound s (needs_memory ty) (lower_needs_realloc ty) None options
+abbrev pub lower_options : (at : ℕ → Option CoreFunc) → PlainFunc → List CanonOption → Bool
+lower_options at ty options = are_sound at (needs_memory ty) (lower_needs_realloc ty) None options
 
 abbrev pub options_are_sound : Space → Definition → Bool
-options_are_sound s (ACanon (canons.Lift func options ty)) = lift_options s (func_in (kind_at s ty)) options
-options_are_sound s (ACanon (canons.Lower func options)) = if_there (λ ty. lower_options s ty options) (slice_get s.functions func)
+options_are_sound s (ACanon (canons.Lift func options ty)) = lift_options (core_func_at s) (func_in (kind_at s ty)) options
+options_are_sound s (ACanon (canons.Lower func options)) = if_there (λ ty. lower_options (core_func_at s) ty options) (slice_get s.functions func)
 options_are_sound s _ = true
 
 -- ---- rule 18: `resource.new` and `resource.rep` are for the component that defines the resource
