@@ -17,7 +17,8 @@ pub struct Flat {
 impl Flat {
     ghost use Rattle.abi_layout.specs.Flat.{types_of, add_within, append_within, join_within};
 
-    pub(crate) fn empty() -> Flat
+    /// No type.
+    pub fn empty() -> Flat
         ensures { types_of result ≡ Some [] }
     {
         Flat {
@@ -38,7 +39,7 @@ impl Flat {
     }
 
     /// Appends the types of the other.
-    pub(crate) fn append(&mut self, other: &Flat)
+    pub fn append(&mut self, other: &Flat)
         ensures { types_of self.new ≡ append_within (types_of self.old) (types_of other.now) }
     {
         if other.count > 16 {

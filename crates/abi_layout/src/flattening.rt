@@ -51,7 +51,7 @@ fn joined_at(one: &Flat, other: &Flat, i: u8) -> CoreType
 }
 
 /// Two lists joined.
-fn joined(one: &Flat, other: &Flat) -> Flat
+pub fn joined(one: &Flat, other: &Flat) -> Flat
     ensures { types_of result ≡ join_within (types_of one.now) (types_of other.now) }
 {
     let count = u8::max(one.count, other.count);
@@ -65,7 +65,8 @@ fn joined(one: &Flat, other: &Flat) -> Flat
     all
 }
 
-fn single(ty: CoreType) -> Flat
+/// One type.
+pub fn single(ty: CoreType) -> Flat
     ensures { types_of result ≡ Some (ty ∷ []) }
 {
     Flat {
@@ -75,7 +76,7 @@ fn single(ty: CoreType) -> Flat
 }
 
 /// A place and a length.
-fn place_and_length() -> Flat
+pub fn place_and_length() -> Flat
     ensures { types_of result ≡ Some (I32 ∷ I32 ∷ []) }
 {
     Flat {
@@ -85,7 +86,7 @@ fn place_and_length() -> Flat
 }
 
 /// The number of a case, and then the payloads joined.
-fn variant(payloads: &Flat) -> Flat
+pub fn variant(payloads: &Flat) -> Flat
     ensures { types_of result ≡ append_within (Some (I32 ∷ [])) (types_of payloads.now) }
 {
     let mut all = single(CoreType::I32);

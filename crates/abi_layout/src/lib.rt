@@ -8,7 +8,7 @@ mod limits;
 mod memory;
 
 pub use flat_types::Flat;
-pub use flattening::flatten;
+pub use flattening::{flatten, joined, place_and_length, single, variant};
 pub use laws::{loaded_values_have_types, renumbered_values_keep};
 pub use limits::is_small;
 pub use memory::{

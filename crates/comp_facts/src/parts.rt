@@ -1,0 +1,63 @@
+ghost use Rattle.std.specs.Prelude.{◌≡◌, ◌≤◌, ◌||◌};
+ghost use Rattle.wit_types.specs.Plain.{Plain, Parts, Name, End};
+
+use crate::facts::Facts;
+use abi_layout::{Flat, joined};
+
+/// What is kept of the fields of a record, or of the cases of a variant.
+#[derive(Debug, Clone, Copy)]
+pub struct PartFacts {
+    /// The depth of the deepest; 101 stands for more than 100.
+    pub depth: u32,
+    /// The parts of all of them; 1,000,001 stands for more than 1,000,000.
+    pub parts: u32,
+    pub borrows: bool,
+    pub pointed: bool,
+    /// The flat types of the fields, one behind another.
+    pub fields: Flat,
+    /// The flat types of the payloads, joined.
+    pub cases: Flat,
+    pub ghost shallow: { depth ≤ 101 },
+    pub ghost few: { parts ≤ 1000001 },
+}
+
+fn either(one: bool, other: bool) -> bool
+    ensures { result ≡ (one || other) }
+{
+    one || other
+}
+
+impl PartFacts {
+    ghost use Rattle.comp_facts.specs.Facts.{IsFactsOf, AreFactsOf, and_part, and_bare};
+
+    /// No part.
+    pub fn none() -> PartFacts
+        ensures { AreFactsOf End result }
+    {
+        PartFacts {
+            depth: 0,
+            parts: 0,
+            borrows: false,
+            pointed: false,
+            fields: Flat::empty(),
+            cases: Flat::empty(),
+        }
+    }
+
+    /// One part more; a case without a payload adds nothing.
+    pub fn add(&mut self, ty: &Facts)
+        ensures part { (ps : Parts) → (name : Name) → (t : Plain) → AreFactsOf ps self.old → IsFactsOf t ty.now → AreFactsOf (and_part ps name t) self.new }
+        ensures bare { (ps : Parts) → (name : Name) → AreFactsOf ps self.old → AreFactsOf (and_bare ps name) self.old }
+    {
+        let mut fields = self.fields;
+        fields.append(&ty.flat);
+        *self = PartFacts {
+            depth: u32::max(self.depth, ty.depth),
+            parts: u32::min(self.parts + ty.parts, 1_000_001),
+            borrows: either(self.borrows, ty.borrows),
+            pointed: either(self.pointed, ty.pointed),
+            fields,
+            cases: joined(&self.cases, &ty.flat),
+        };
+    }
+}
