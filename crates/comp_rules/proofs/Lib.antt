@@ -1,3 +1,4 @@
 pub mod FaultLaws
 pub mod VerdictLaws
 pub mod Examples
+pub mod GivenLaws
