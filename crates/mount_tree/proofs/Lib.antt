@@ -1,0 +1,6 @@
+pub mod Follows
+pub mod MountLemmas
+pub mod OrderedLemmas
+pub mod PathLemmas
+pub mod ReadLemmas
+pub mod StepLemmas

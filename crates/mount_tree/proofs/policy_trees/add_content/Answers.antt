@@ -1,0 +1,7 @@
+use Rattle.std.proofs.Common.{◌≡◌, ◌∙◌, []}
+use Rattle.mount_tree.proofs.policy_trees.add_content.Goals as goal
+
+pub returns-in-Mount : goal.returns-in-Mount
+returns-in-Mount g c =
+    let root : c.from_string-root.result ≡ [] = c.from_string-root.ensures ∙ c.new.ensures.bytes in
+    rw (c.in-Mount.is) (rw root at c.add_contents.ensures)

@@ -1,0 +1,5 @@
+pub mod Runs
+pub mod Making
+pub mod Building
+pub mod Entering
+pub mod Ordered

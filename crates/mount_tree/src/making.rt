@@ -1,0 +1,163 @@
+ghost use Rattle.std.specs.Prelude.{◌≡◌, ◌≤◌, ◌+◌, IfOk, [], codes, length};
+ghost use Rattle.mount_tree.specs.Runs.{IsFault, Says};
+ghost use Rattle.mount_tree.specs.declared.fault.TreeFault.TheVariants.{OverLimit};
+ghost use Rattle.mount_tree.specs.Making.{count_with, few_nodes, fitting, reached, with_file, with_other};
+
+use crate::fault::{TreeFault, over_limit};
+use crate::paths::{Made, Paths, depth_of};
+use std::alloc::Global;
+use std::marker::Model;
+use tree_table::Node;
+use virt_base::{Bytes, Items, NoMemory};
+
+/// A path has at most so many names, all trees together so many nodes, and their files so many bytes.
+const MOST_NAMES: usize = 64;
+
+const MOST_NODES: usize = 65_536;
+
+pub const MOST_BYTES: u64 = 67_108_864;
+
+/// A tree in the making.
+#[derive(Drop)]
+pub struct Making {
+    before: usize,
+    bytes: u64,
+    paths: Paths,
+}
+
+impl Model for Making {
+    ghost use Rattle.std.specs.Prelude.{◌≤◌, ◌+◌, length};
+    ghost use Rattle.mount_tree.specs.Making.{Sofar};
+
+    ghost Value = { Sofar };
+
+    ghost view = { λ m. record { before = m.before; bytes = m.bytes; there = m.paths } };
+
+    ghost invariant = { λ m. (m.before + (length m.paths + 1) ≤ 65536) × (m.bytes ≤ 67108864) };
+}
+
+/// The fault of so many nodes.
+fn too_many(alloc: Global, nodes: usize) -> TreeFault
+    ensures { IsFault (OverLimit (codes "tree-nodes") nodes) result }
+{
+    over_limit(alloc, "tree-nodes", nodes as u64)
+}
+
+impl Making {
+    /// A root behind so many nodes and bytes of other trees.
+    pub fn root(alloc: Global, nodes: usize, bytes: u64) -> Result<Making, TreeFault>
+        requires nodes { nodes ≤ 65536 }
+        requires bytes { bytes ≤ 67108864 }
+        ensures { Says (few_nodes (nodes + 1) (record { before = nodes; bytes = bytes; there = [] })) result }
+    {
+        if nodes + 1 > MOST_NODES {
+            return Err(too_many(alloc, nodes + 1));
+        }
+        Ok(Making {
+            before: nodes,
+            bytes,
+            paths: Paths::empty(alloc),
+        })
+    }
+
+    /// How many bytes the files have so far.
+    pub fn bytes(&self) -> u64
+        ensures value { result ≡ self.now.bytes }
+        ensures few { result ≤ 67108864 }
+    {
+        self.bytes
+    }
+
+    /// How many nodes there are, the root and those of the trees before among them.
+    pub fn nodes(&self) -> usize
+        ensures value { result ≡ self.now.before + (length self.now.there + 1) }
+        ensures few { result ≤ 65536 }
+    {
+        self.before + (self.paths.len() + 1)
+    }
+
+    /// Makes the folders above a path. Refuses too many names first, and then too many nodes with the path.
+    pub fn reach(self, alloc: Global, path: &str) -> Result<Making, TreeFault>
+        ensures says { Says (reached self path.now) result }
+        ensures few { IfOk result (λ m. count_with m path.now ≤ 65536) }
+    {
+        let depth = depth_of(path);
+        if depth > MOST_NAMES {
+            return Err(over_limit(alloc, "tree-depth", depth as u64));
+        }
+        let Making {
+            before,
+            bytes,
+            paths,
+        } = self;
+        let paths = paths.with_above(alloc, path)?;
+        let more = if paths.holds(path) { 0 } else { 1 };
+        let nodes = before + (paths.len() + 1) + more;
+        if nodes > MOST_NODES {
+            return Err(too_many(alloc, nodes));
+        }
+        Ok(Making {
+            before,
+            bytes,
+            paths,
+        })
+    }
+
+    /// Adds a file of bytes that fit, at a path that was reached.
+    pub fn with_file(self, alloc: Global, path: &str, bytes: Bytes) -> Result<Making, NoMemory>
+        requires few { count_with self path.now ≤ 65536 }
+        requires fits { self.bytes + length bytes ≤ 67108864 }
+        ensures { IfOk result (λ m. m ≡ with_file self path.now bytes) }
+    {
+        let more = bytes.len() as u64;
+        let Making {
+            before,
+            bytes: used,
+            paths,
+        } = self;
+        let paths = paths.with_node(alloc, path, Node::File(bytes))?;
+        Ok(Making {
+            before,
+            bytes: used + more,
+            paths,
+        })
+    }
+
+    /// Adds a folder or a link, at a path that was reached.
+    pub fn with_other(self, alloc: Global, path: &str, node: Node) -> Result<Making, NoMemory>
+        requires { count_with self path.now ≤ 65536 }
+        ensures { IfOk result (λ m. m ≡ with_other self path.now node) }
+    {
+        let Making {
+            before,
+            bytes,
+            paths,
+        } = self;
+        let paths = paths.with_node(alloc, path, node)?;
+        Ok(Making {
+            before,
+            bytes,
+            paths,
+        })
+    }
+
+    /// What was made below the root.
+    pub fn into_made(self) -> Items<Made>
+        ensures { result ≡ self.there }
+    {
+        self.paths.into_made()
+    }
+}
+
+/// The bytes of one more file, behind so many bytes of others.
+pub fn fitting(alloc: Global, used: u64, bytes: Bytes) -> Result<Bytes, TreeFault>
+    requires { used ≤ 67108864 }
+    ensures says { Says (fitting used bytes) result }
+    ensures fits { IfOk result (λ bytes. used + length bytes ≤ 67108864) }
+{
+    let all = used.saturating_add(bytes.len() as u64);
+    if all > MOST_BYTES {
+        return Err(over_limit(alloc, "embedded-bytes", all));
+    }
+    Ok(bytes)
+}

@@ -1,0 +1,107 @@
+ghost use Rattle.std.specs.Prelude.{◌≡◌};
+ghost use Rattle.mount_tree.specs.Runs.{Gives, Says, each};
+ghost use Rattle.mount_tree.specs.Building.{embedded_due, file_step, folder_step, link_step};
+ghost use Rattle.policy_data.specs.declared.data.EmbeddedFile.{EmbeddedFile};
+ghost use Rattle.policy_data.specs.declared.data.Link.{Link};
+
+use crate::fault::TreeFault;
+use crate::making::Making;
+use crate::reading::content_bytes;
+use policy_data::{Content, Embedded, EmbeddedFile, Link};
+use std::alloc::Global;
+use tree_table::Node;
+use virt_base::{Files, Text, copy_bytes};
+
+/// Adds a file.
+#[tactic(auto, using(crate::proofs::StepLemmas::file_unreached, crate::proofs::StepLemmas::file_unread, crate::proofs::StepLemmas::file_added, crate::proofs::StepLemmas::file_memory))]
+pub fn add_file<F: Files>(
+    alloc: Global,
+    files: &mut F,
+    making: Making,
+    path: &str,
+    content: &Content,
+) -> Result<Making, TreeFault>
+    ensures { Gives (file_step (F.state files.old).held making path.now content.now) (F.state files.old) (F.state files.new) result }
+{
+    let making = making.reach(alloc, path)?;
+    let bytes = content_bytes(alloc, files, content, making.bytes())?;
+    let making = making.with_file(alloc, path, bytes)?;
+    Ok(making)
+}
+
+/// Adds a folder.
+#[tactic(auto, using(crate::proofs::StepLemmas::other_added, crate::proofs::StepLemmas::other_refused))]
+pub fn add_folder(alloc: Global, making: Making, path: &str) -> Result<Making, TreeFault>
+    ensures { Says (folder_step making path.now).answer result }
+{
+    let making = making.reach(alloc, path)?;
+    let making = making.with_other(alloc, path, Node::Folder)?;
+    Ok(making)
+}
+
+/// Adds a symbolic link.
+#[tactic(auto, using(crate::proofs::StepLemmas::other_added, crate::proofs::StepLemmas::other_refused))]
+fn add_link(alloc: Global, making: Making, link: &Link) -> Result<Making, TreeFault>
+    ensures { Says (link_step making link.now.path link.now.target).answer result }
+{
+    let making = making.reach(alloc, link.path.as_str())?;
+    let target = copy_bytes(alloc, link.target.bytes())?;
+    let making = making.with_other(alloc, link.path.as_str(), Node::Link(target))?;
+    Ok(making)
+}
+
+fn add_files<F: Files>(
+    alloc: Global,
+    files: &mut F,
+    making: Making,
+    embedded: &[EmbeddedFile],
+) -> Result<Making, TreeFault>
+    ensures { Gives (each (λ s (file : EmbeddedFile). file_step (F.state files.old).held s file.path file.content) making embedded.now) (F.state files.old) (F.state files.new) result }
+{
+    let mut made = making;
+    let mut rest = embedded;
+    while let Some((file, more)) = rest.split_first() {
+        made = add_file(alloc, files, made, file.path.as_str(), &file.content)?;
+        rest = more;
+    }
+    Ok(made)
+}
+
+fn add_folders(alloc: Global, making: Making, folders: &[Text]) -> Result<Making, TreeFault>
+    ensures { Says (each folder_step making folders.now).answer result }
+{
+    let mut made = making;
+    let mut rest = folders;
+    while let Some((folder, more)) = rest.split_first() {
+        made = add_folder(alloc, made, folder.as_str())?;
+        rest = more;
+    }
+    Ok(made)
+}
+
+fn add_links(alloc: Global, making: Making, links: &[Link]) -> Result<Making, TreeFault>
+    ensures { Says (each (λ s (link : Link). link_step s link.path link.target) making links.now).answer result }
+{
+    let mut made = making;
+    let mut rest = links;
+    while let Some((link, more)) = rest.split_first() {
+        made = add_link(alloc, made, link)?;
+        rest = more;
+    }
+    Ok(made)
+}
+
+/// Adds what a policy writes out of a tree: files, folders and links.
+#[tactic(auto, using(crate::proofs::StepLemmas::files_refused, crate::proofs::StepLemmas::folders_refused, crate::proofs::StepLemmas::links_added))]
+pub fn add_embedded<F: Files>(
+    alloc: Global,
+    files: &mut F,
+    making: Making,
+    embedded: &Embedded,
+) -> Result<Making, TreeFault>
+    ensures { Gives (embedded_due (F.state files.old).held making embedded.now) (F.state files.old) (F.state files.new) result }
+{
+    let making = add_files(alloc, files, making, embedded.files.as_slice())?;
+    let making = add_folders(alloc, making, embedded.folders.as_slice())?;
+    add_links(alloc, making, embedded.links.as_slice())
+}
