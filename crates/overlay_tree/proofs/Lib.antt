@@ -1,0 +1,5 @@
+pub mod SpliceLemmas
+pub mod PieceLemmas
+pub mod ResizeLemmas
+pub mod ReplaceLemmas
+pub mod MapLemmas
