@@ -1,8 +1,8 @@
 -- How a run goes on from what was done so far.
 use Rattle.std.proofs.Common.{◌≡◌, ◌∙◌, refl, sym, ap, subst, ℕ, List, [], ◌∷◌, ◌++◌, true, Contains, Result, Ok, Err, arith, le_refl}
 use Rattle.std.proofs.lemmas.List.Elements.{Contains-append_left, Contains-append_right}
-use Rattle.virt_base.specs.Files.{FilesState, Held, Goes}
-use Rattle.virt_base.proofs.FailingLaws.{Rose-before}
+use Rattle.outside.specs.Files.{FilesState, Held, Goes}
+use Rattle.outside.proofs.FailingLaws.{Rose-before}
 use Rattle.mount_tree.specs.declared.fault.TreeFault.{TreeFault}
 use Rattle.mount_tree.specs.declared.fault.TreeFault.TheVariants.{FileFault, BadName, OverLimit, NoMemory}
 use Rattle.mount_tree.specs.Runs.{Run, done, and_next, next_by, Answers, IsFileFault, Gives, Says, each}

@@ -1,8 +1,8 @@
 -- What the steps of a mount give, from what their calls gave.
 use Rattle.std.proofs.Common.{◌≡◌, refl, sym, ap, subst, ℕ, suc, List, true, false, Some, None, Result, Ok, Err}
-use Rattle.virt_base.specs.Files.{FilesState, Held}
-use Rattle.virt_base.specs.declared.files.Entry.{Entry}
-use Rattle.virt_base.specs.declared.files.EntryKind.TheVariants as kinds
+use Rattle.outside.specs.Files.{FilesState, Held}
+use Rattle.outside.specs.declared.files.Entry.{Entry}
+use Rattle.outside.specs.declared.files.EntryKind.TheVariants as kinds
 use Rattle.path_names.specs.Paths.{is_name}
 use Rattle.policy_data.specs.declared.data.Content.TheVariants.{File}
 use Rattle.mount_tree.specs.declared.fault.TreeFault.{TreeFault}

@@ -4,11 +4,11 @@ use Rattle.std.specs.Prelude.{Vec, codes, nat_lt, is_none}
 use Rattle.std.specs.declared.alloc.Global.{Global}
 use Rattle.std.proofs.lemmas.Bool.Decides.{nat_tests}
 use Rattle.std.proofs.lemmas.Bool.{true≢false, false≢true}
-use Rattle.virt_base.specs.Fault.{Rose}
-use Rattle.virt_base.specs.Files.{FilesState, Reads, Lists, no_file}
-use Rattle.virt_base.specs.declared.files.Entry.{Entry}
-use Rattle.virt_base.specs.declared.files.FileFail.{FileFail}
-use Rattle.virt_base.specs.declared.files.FileFail.TheVariants as fail
+use Rattle.outside.specs.Fault.{Rose}
+use Rattle.outside.specs.Files.{FilesState, Reads, Lists, no_file}
+use Rattle.outside.specs.declared.files.Entry.{Entry}
+use Rattle.outside.specs.declared.files.FileFail.{FileFail}
+use Rattle.outside.specs.declared.files.FileFail.TheVariants as fail
 use Rattle.mount_tree.specs.declared.fault.TreeFault.{TreeFault}
 use Rattle.mount_tree.specs.declared.fault.TreeFault.TheVariants.{FileFault, BadName, OverLimit, NoMemory}
 use Rattle.mount_tree.specs.Runs.{Run, Answers, IsFault, IsFileFault, Gives}

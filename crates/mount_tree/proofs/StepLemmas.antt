@@ -1,6 +1,6 @@
 -- What the steps of building give, from what their calls gave.
 use Rattle.std.proofs.Common.{◌≡◌, sym, ap, subst, ℕ, List, Result, Ok, Err}
-use Rattle.virt_base.specs.Files.{FilesState, Held}
+use Rattle.outside.specs.Files.{FilesState, Held}
 use Rattle.tree_table.specs.declared.entries.Node.{Node}
 use Rattle.policy_data.specs.declared.data.Content.{Content}
 use Rattle.policy_data.specs.declared.data.Embedded.{Embedded}

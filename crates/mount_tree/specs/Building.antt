@@ -1,9 +1,9 @@
 -- The trees of a policy over files with these contents, in the order in which names are due.
 use Rattle.std.specs.Prelude.{ℕ, zero, suc, ◌+◌, List, [], ◌∷◌, ◌++◌, Option, Some, None, Result, Ok, Err, length, if◌then◌else◌}
-use Rattle.virt_base.specs.Files.{Held}
-use Rattle.virt_base.specs.declared.files.Entry.{Entry}
-use Rattle.virt_base.specs.declared.files.EntryKind.{EntryKind}
-use Rattle.virt_base.specs.declared.files.EntryKind.TheVariants as kinds
+use Rattle.outside.specs.Files.{Held}
+use Rattle.outside.specs.declared.files.Entry.{Entry}
+use Rattle.outside.specs.declared.files.EntryKind.{EntryKind}
+use Rattle.outside.specs.declared.files.EntryKind.TheVariants as kinds
 use Rattle.tree_table.specs.declared.entries.Node.TheVariants.{Folder, Link as LinkTo}
 use Rattle.path_names.specs.Paths.{is_name}
 use Rattle.policy_data.specs.declared.data.Content.{Content}

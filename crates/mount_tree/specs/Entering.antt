@@ -1,7 +1,7 @@
 -- What adding an entry of a folder does, without what is in it.
 use Rattle.std.specs.Prelude.{ℕ, ◌≡◌, List, Option, Some, None, Result, Ok, Err}
-use Rattle.virt_base.specs.Files.{FilesState}
-use Rattle.virt_base.specs.declared.files.Entry.{Entry}
+use Rattle.outside.specs.Files.{FilesState}
+use Rattle.outside.specs.declared.files.Entry.{Entry}
 use Rattle.mount_tree.specs.declared.fault.TreeFault.{TreeFault}
 use Rattle.mount_tree.specs.declared.mount.Inner.{Inner}
 use Rattle.mount_tree.specs.declared.mount.Entered.{Entered}

@@ -7,7 +7,7 @@ use Rattle.tree_table.specs.declared.entries.NamedTree.{NamedTree}
 use Rattle.tree_table.specs.declared.entries.Node.TheVariants.{Folder}
 use Rattle.tree_table.specs.Trees.{path_cmp}
 use Rattle.path_names.specs.Paths.{names_of}
-use Rattle.virt_base.specs.Files.{FilesState, Goes}
+use Rattle.outside.specs.Files.{FilesState, Goes}
 use Rattle.policy_data.specs.declared.policy.Policy.{Policy}
 use Rattle.mount_tree.specs.declared.fault.TreeFault.{TreeFault}
 use Rattle.mount_tree.specs.declared.paths.Made.{Made}

@@ -1,7 +1,7 @@
 -- What is asked of files one after another, and what comes of it.
 use Rattle.std.specs.Prelude.{ℕ, ◌≡◌, ◌++◌, List, [], ◌∷◌, true, Contains, Result, Ok, Err}
-use Rattle.virt_base.specs.Fault.{Rose}
-use Rattle.virt_base.specs.Files.{FilesState, Goes}
+use Rattle.outside.specs.Fault.{Rose}
+use Rattle.outside.specs.Files.{FilesState, Goes}
 use Rattle.mount_tree.specs.declared.fault.TreeFault.{TreeFault}
 use Rattle.mount_tree.specs.declared.fault.TreeFault.TheVariants.{FileFault, BadName, OverLimit, NoMemory}
 

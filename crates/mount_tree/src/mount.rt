@@ -7,10 +7,11 @@ use crate::fault::{TreeFault, bad_name};
 use crate::making::Making;
 use crate::reading::list_folder;
 use crate::steps::{add_file, add_folder};
+use outside::{Entry, EntryKind, Files};
 use path_names::is_name;
 use policy_data::Content;
 use std::alloc::Global;
-use virt_base::{Entry, EntryKind, Files, NoMemory, Text};
+use virt_base::{NoMemory, Text};
 
 /// What an entry of a folder is called outside.
 fn inside(alloc: Global, folder: &str, name: &str) -> Result<Text, NoMemory>

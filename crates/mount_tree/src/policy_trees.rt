@@ -9,10 +9,11 @@ use crate::mount::add_contents;
 use crate::ordered::ordered_trees;
 use crate::paths::Made;
 use crate::steps::add_embedded;
+use outside::Files;
 use policy_data::{Policy, TreeContent, TreeSource};
 use std::alloc::Global;
 use tree_table::Trees;
-use virt_base::{Files, Items, Text};
+use virt_base::{Items, Text};
 
 /// The name of a tree, and what was made below its root.
 #[derive(Debug, Drop)]

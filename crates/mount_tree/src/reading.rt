@@ -1,13 +1,14 @@
 ghost use Rattle.std.specs.Prelude.{◌≡◌, ◌≤◌, ◌+◌, IfOk, length};
-ghost use Rattle.virt_base.specs.Files.{AreInOrder};
+ghost use Rattle.outside.specs.Files.{AreInOrder};
 ghost use Rattle.mount_tree.specs.Runs.{Gives};
 ghost use Rattle.mount_tree.specs.Building.{content_due, file_due, listing_due};
 
 use crate::fault::{TreeFault, file_fault, over_limit};
 use crate::making::{MOST_BYTES, fitting};
+use outside::{Entries, FileFail, Files};
 use policy_data::Content;
 use std::alloc::Global;
-use virt_base::{Bytes, Entries, FileFail, Files, Items, Text, copy_bytes};
+use virt_base::{Bytes, Items, Text, copy_bytes};
 
 /// The bytes of a file outside, behind so many bytes of other files.
 #[tactic(auto, using(crate::proofs::ReadLemmas::read_ok, crate::proofs::ReadLemmas::read_missing, crate::proofs::ReadLemmas::read_failed, crate::proofs::ReadLemmas::read_long, crate::proofs::ReadLemmas::read_memory))]

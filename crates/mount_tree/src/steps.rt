@@ -7,10 +7,11 @@ ghost use Rattle.policy_data.specs.declared.data.Link.{Link};
 use crate::fault::TreeFault;
 use crate::making::Making;
 use crate::reading::content_bytes;
+use outside::Files;
 use policy_data::{Content, Embedded, EmbeddedFile, Link};
 use std::alloc::Global;
 use tree_table::Node;
-use virt_base::{Files, Text, copy_bytes};
+use virt_base::{Text, copy_bytes};
 
 /// Adds a file.
 #[tactic(auto, using(crate::proofs::StepLemmas::file_unreached, crate::proofs::StepLemmas::file_unread, crate::proofs::StepLemmas::file_added, crate::proofs::StepLemmas::file_memory))]
