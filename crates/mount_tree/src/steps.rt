@@ -24,9 +24,9 @@ pub fn add_file<F: Files>(
 ) -> Result<Making, TreeFault>
     ensures { Gives (file_step (F.state files.old).held making path.now content.now) (F.state files.old) (F.state files.new) result }
 {
-    let making = making.reach(alloc, path)?;
-    let bytes = content_bytes(alloc, files, content, making.bytes())?;
-    let making = making.with_file(alloc, path, bytes)?;
+    let reached = making.reach(alloc, path)?;
+    let bytes = content_bytes(alloc, files, content, reached.bytes())?;
+    let making = reached.with_file(alloc, path, bytes)?;
     Ok(making)
 }
 
@@ -102,7 +102,7 @@ pub fn add_embedded<F: Files>(
 ) -> Result<Making, TreeFault>
     ensures { Gives (embedded_due (F.state files.old).held making embedded.now) (F.state files.old) (F.state files.new) result }
 {
-    let making = add_files(alloc, files, making, embedded.files.as_slice())?;
-    let making = add_folders(alloc, making, embedded.folders.as_slice())?;
-    add_links(alloc, making, embedded.links.as_slice())
+    let filed = add_files(alloc, files, making, embedded.files.as_slice())?;
+    let housed = add_folders(alloc, filed, embedded.folders.as_slice())?;
+    add_links(alloc, housed, embedded.links.as_slice())
 }
