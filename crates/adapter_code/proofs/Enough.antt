@@ -93,12 +93,18 @@ turn name go next wanted (Left m k s) on h = h
 turn name go next wanted (Over e k s) on h = h
 
 -- the turns of a `Repeat`, by a fact that holds before each turn, with the number of turns that are left
+pub turns_hold : (name : ℕ) (body : ℕ → State → Run) (holds : ℕ → ℕ → State → Type 0) (wanted : Run → Type 0)
+    → ((n k : ℕ) (s : State) → holds (suc n) k s → TurnEnds name (holds n) wanted (body (suc k) s))
+    → ((k : ℕ) (s : State) → holds 0 k s → wanted (Next k s))
+    → (n k : ℕ) (s : State) → holds n k s → wanted (turns name body n k s)
+turns_hold name body holds wanted step done zero k s h = done k s h
+turns_hold name body holds wanted step done (suc n) k s h =
+    turn name (holds n) (turns name body n) wanted (body (suc k) s) (λ i t g. turns_hold name body holds wanted step done n i t g) (step n k s h)
+
+-- the same from what is enough before the body
 pub loop_holds : (name : ℕ) (body : Code) (holds : ℕ → ℕ → State → Type 0) (wanted : Run → Type 0)
     → ((n k : ℕ) (s : State) → holds (suc n) k s → Enough body (λ r. TurnEnds name (holds n) wanted r) (suc k) s)
     → ((k : ℕ) (s : State) → holds 0 k s → wanted (Next k s))
     → (n k : ℕ) (s : State) → holds n k s → wanted (turns name (runs body) n k s)
-loop_holds name body holds wanted step done zero k s h = done k s h
-loop_holds name body holds wanted step done (suc n) k s h =
-    turn name (holds n) (turns name (runs body) n) wanted (runs body (suc k) s)
-    (λ i t g. loop_holds name body holds wanted step done n i t g)
-    (enough_runs body (λ r. TurnEnds name (holds n) wanted r) (suc k) s (step n k s h))
+loop_holds name body holds wanted step done =
+    turns_hold name (runs body) holds wanted (λ n k s h. enough_runs body (λ r. TurnEnds name (holds n) wanted r) (suc k) s (step n k s h)) done

@@ -4,3 +4,4 @@ pub mod Running
 pub mod Words
 pub mod Enough
 pub mod Placed
+pub mod InOrder

@@ -1,12 +1,12 @@
 -- A routine at home in another list of locals runs as it does over its own.
-use Rattle.std.proofs.Common.{◌≡◌, ◌≢◌, ℕ, zero, suc, ◌+◌, ◌<◌, ◌≤◌, ◌==◌, ◌&&◌, not, nat_lt, Bool, true, false, List, [], ◌∷◌, ◌++◌, Option, Some, None, length, get_or, set, refl, sym, ap, subst, ◌∙◌, inl, inr, arith, length-set}
+use Rattle.std.proofs.Common.{◌≡◌, ◌≢◌, ℕ, zero, suc, ◌+◌, ◌<◌, ◌==◌, ◌&&◌, not, nat_lt, Bool, true, false, List, [], ◌∷◌, ◌++◌, Option, Some, None, length, set, refl, sym, ap, subst, ◌∙◌, inl, inr, arith, length-set}
 use Rattle.std.specs.Prelude.{if◌then◌else◌}
 use Rattle.std.proofs.lemmas.List.{set_comm, set-set, get_or-set_same, get_or-set_other}
 use Rattle.std.proofs.lemmas.Bool.{cases_lt, le-ltb, eq-eqb}
 use Rattle.handle_space.specs.HandleMap.{Answered, own_entry, add, take_own}
 use Rattle.adapter_code.specs.declared.statement.Statement.{Statement, Const, Move, Int, Load, Store, If', Repeat', Leave, NewHandle, DropHandle, Trap, Answer}
 use Rattle.adapter_code.specs.declared.state.Local.{Local}
-use Rattle.adapter_code.specs.declared.state.Local.TheVariants.{Small, Wide}
+use Rattle.adapter_code.specs.declared.state.Local.TheVariants.{Small}
 use Rattle.adapter_code.specs.declared.state.Effect.TheVariants.{Made}
 use Rattle.adapter_code.specs.Number.{low, moved, result_of, loaded, stored}
 use Rattle.adapter_code.specs.Code.{Code, Stop, Then, Choose, Turns, followed_by}

@@ -8,3 +8,4 @@ pub mod Keeps
 pub mod Enough
 pub mod Layout
 pub mod Placed
+pub mod Each

@@ -20,5 +20,6 @@ pub use state::{CodeEnd, Effect, Effects, Local, Locals, RowState};
 pub use statement::{IntOp, Statement, Statements, Width};
 pub use well_formed::is_well_formed;
 pub use write::{
-    Field, add, append, choose, constant, less, load, multiply, repeat, store, subtract, widths_of,
+    Field, Walk, add, append, choose, constant, each, less, load, multiply, repeat, store,
+    subtract, widths_of,
 };

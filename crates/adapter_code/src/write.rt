@@ -4,6 +4,7 @@ ghost use Rattle.std.specs.Prelude.{◌≡◌, IfOk, OnOk, map};
 ghost use Rattle.adapter_code.specs.declared.statement.Statement.{Const, Int, Load, Store};
 ghost use Rattle.adapter_code.specs.declared.statement.IntOp.TheVariants.{Add, Sub, Mul, LtU};
 ghost use Rattle.adapter_code.specs.Code.{Code, Choose, Turns, before, code_of, followed_by};
+ghost use Rattle.adapter_code.specs.Each.{each_code};
 ghost use Rattle.adapter_code.specs.Run.{local_width};
 
 use crate::state::Local;
@@ -105,6 +106,30 @@ pub fn append(list: &mut Statements, more: Statements) -> Result<(), NoMemory>
         list.push(statement)?;
     }
     Ok(())
+}
+
+/// A loop over a list in memory: the loop's name, and the locals of the number of elements, of the place of the next one, and
+/// of a number that is lost. Elements stand so many bytes apart.
+#[derive(Clone, Copy, Debug)]
+pub struct Walk {
+    pub name: u32,
+    pub count: u32,
+    pub at: u32,
+    pub scratch: u32,
+    pub step: u32,
+}
+
+/// Runs a list for each element of a list in memory.
+pub fn each(alloc: Global, walk: Walk, body: Statements) -> Result<Statement, NoMemory>
+    ensures { IfOk result (λ statement. (rest : Code) → before statement rest ≡ each_code walk (code_of body.items) rest) }
+{
+    let mut body = body;
+    let onward = vec![in alloc;
+        constant(walk.scratch, walk.step as u64),
+        add(walk.at, walk.at, walk.scratch),
+    ]?;
+    append(&mut body, onward)?;
+    Ok(repeat(walk.name, walk.count, body))
 }
 
 /// The widths of locals.

@@ -1,9 +1,8 @@
-use Rattle.std.proofs.Common.{◌≡◌, ◌↔◌, ℕ, Bool, true, false, ◌+◌, ◌*◌, ◌<◌, [], ◌∷◌, ◌++◌, drop, refl, sym, ap, ◌∙◌, subst, arith, IfOk, Ok, Err, Result}
+use Rattle.std.proofs.Common.{◌≡◌, ◌↔◌, Bool, true, false, ◌+◌, ◌*◌, [], ◌∷◌, ◌++◌, drop, refl, sym, ap, ◌∙◌, subst, arith, IfOk, Ok, Err, Result}
 use Rattle.std.proofs.lemmas.Option.{slice_get_read}
 use Rattle.virt_base.specs.declared.fault.NoMemory.{NoMemory}
-use Rattle.adapter_code.specs.declared.statement.Width.TheVariants.{Narrow}
 use Rattle.adapter_code.specs.Code.{Stop, before, code_of}
-use Rattle.adapter_code.specs.WellFormed.{HasWidth, IsWellFormed}
+use Rattle.adapter_code.specs.WellFormed.{IsWellFormed}
 use Rattle.adapter_code.proofs.Codes.{size, size_at, size_if, size_repeat, before_if, before_repeat, well_at, well_join, well_named, named_front, named_back}
 use Rattle.adapter_code.proofs.Running.{drop_from}
 use Rattle.adapter_code.proofs.well_formed.+is_well_formed.Goals as goal
