@@ -1,4 +1,4 @@
-/// The same interfaces in the notation of WIT, after the packages' own texts (WASI 0.2.0). Parameters stand without names.
+/// The same interfaces in the notation of WIT (WASI 0.2.0), spelled a second time beside the table. Parameters stand without names.
 pub const WIT: &str = "\
 interface wasi:io/error {
   resource error {
