@@ -2,3 +2,4 @@ pub mod AllowedLemmas
 pub mod FrontLemmas
 pub mod NumberLemmas
 pub mod FieldLemmas
+pub mod ByteLemmas

@@ -1,36 +1,37 @@
-#![tactic(auto, using(wit_types::proofs::ValueLemmas::values, crate::proofs::FieldLemmas::field_there, crate::proofs::FieldLemmas::field_missing))]
+#![tactic(auto, using(wit_types::proofs::ValueLemmas::values, crate::proofs::FieldLemmas::field_there, crate::proofs::FieldLemmas::field_missing, crate::proofs::FieldLemmas::byte_there, crate::proofs::FieldLemmas::byte_missing, crate::proofs::FieldLemmas::no_record))]
 
 ghost use Rattle.std.specs.Prelude.{◌≡◌, Bool};
-ghost use Rattle.wit_types.specs.PlainValue.{plain_value, values_of, payload_of, End};
+ghost use Rattle.wit_types.specs.PlainValue.{plain_value, payload_of, End};
 ghost use Rattle.net_policy.specs.Allowed.{address_in, address_of, address_by, all_numbers, numbers_in, number_in, fields_in, field_at, record_values};
+ghost use Rattle.net_policy.specs.Seen.{seen};
 
 use crate::network::number_in;
-use wit_types::Value;
+use wit_types::{Value, Values};
 
-/// An address of IPv4 or IPv6, with its numbers where they stand in a value.
+/// An address of IPv4 or IPv6, with its numbers where they stand in a value; none where it has no numbers.
 #[derive(Clone, Copy)]
 pub struct Address<'a> {
     pub six: bool,
-    pub numbers: &'a [Value],
+    pub numbers: Option<&'a Values>,
     pub port: u128,
 }
 
 /// The fields of a payload; none of what has no fields.
-fn fields_in(payload: &Option<Box<Value>>) -> &[Value]
-    ensures { values_of result.now ≡ fields_in (payload_of payload.now) }
+fn fields_in(payload: &Option<Box<Value>>) -> Option<&Values>
+    ensures { seen result ≡ fields_in (payload_of payload.now) }
 {
     match payload {
         Some(value) => values_in(value),
-        None => &[],
+        None => None,
     }
 }
 
 /// The values of a record; none of another value.
-fn values_in(value: &Value) -> &[Value]
-    ensures { values_of result.now ≡ record_values (plain_value value.now) }
+fn values_in(value: &Value) -> Option<&Values>
+    ensures { seen result ≡ record_values (plain_value value.now) }
 {
     match value {
-        Value::Record(values) => values.items.as_slice(),
+        Value::Record(values) => Some(values),
         Value::Bool(_)
         | Value::Int(_)
         | Value::Char(_)
@@ -38,34 +39,52 @@ fn values_in(value: &Value) -> &[Value]
         | Value::List(_)
         | Value::Variant(_, _)
         | Value::Flags(_)
-        | Value::Handle(_) => &[],
+        | Value::Handle(_) => None,
     }
 }
 
-/// The numbers in the field at a place.
-fn numbers_at(fields: &[Value], place: usize) -> &[Value]
-    ensures { all_numbers (values_of result.now) ≡ numbers_in (field_at place (values_of fields.now)) }
+/// The numbers in the field at a place; a byte holds none.
+fn numbers_at(fields: Option<&Values>, place: usize) -> Option<&Values>
+    ensures { all_numbers (seen result) ≡ numbers_in (field_at place (seen fields.entry)) }
 {
-    if place < fields.len() {
-        values_in(&fields[place])
-    } else {
-        &[]
+    match fields? {
+        Values::Each(items) => {
+            if place < items.len() {
+                values_in(&items[place])
+            } else {
+                None
+            }
+        }
+        Values::Bytes(_) => None,
     }
 }
 
-fn number_at(fields: &[Value], place: usize) -> u128
-    ensures { result ≡ number_in (field_at place (values_of fields.now)) }
+fn number_at(fields: Option<&Values>, place: usize) -> u128
+    ensures { result ≡ number_in (field_at place (seen fields.entry)) }
 {
-    if place < fields.len() {
-        number_in(&fields[place])
-    } else {
-        0
+    match fields {
+        None => 0,
+        Some(Values::Each(items)) => {
+            if place < items.len() {
+                number_in(&items[place])
+            } else {
+                0
+            }
+        }
+        Some(Values::Bytes(bytes)) => {
+            let bytes = bytes.as_slice();
+            if place < bytes.len() {
+                u128::from(bytes[place])
+            } else {
+                0
+            }
+        }
     }
 }
 
 /// The address that a value of the type `ip-socket-address` is.
 pub fn address_in(value: &Value) -> Address<'_>
-    ensures { address_of result.six (values_of result.numbers.now) result.port ≡ address_in (plain_value value.now) }
+    ensures { address_of result.six (seen result.numbers) result.port ≡ address_in (plain_value value.now) }
 {
     match value {
         Value::Variant(family, payload) => {
@@ -87,7 +106,7 @@ pub fn address_in(value: &Value) -> Address<'_>
         | Value::Flags(_)
         | Value::Handle(_) => Address {
             six: false,
-            numbers: &[],
+            numbers: None,
             port: 0,
         },
     }

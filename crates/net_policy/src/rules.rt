@@ -1,11 +1,12 @@
 ghost use Rattle.std.specs.Prelude.{◌≡◌, ◌↔◌, IsTrue};
 ghost use Rattle.std.specs.List.{list_any};
 ghost use Rattle.policy_data.specs.Addresses.{IsAllowed};
-ghost use Rattle.wit_types.specs.PlainValue.{plain_value, values_of};
+ghost use Rattle.wit_types.specs.PlainValue.{plain_value};
 ghost use Rattle.net_policy.specs.Allowed.{address_in, allows_one, holds_port, is_in_network, is_allowed, address_of};
+ghost use Rattle.net_policy.specs.Seen.{seen};
 
 use crate::address::{Address, address_in};
-use crate::network::same_numbers;
+use crate::network::are_alike;
 use policy_data::{PortRange, Rule, Rules};
 use wit_types::Value;
 
@@ -17,13 +18,13 @@ fn holds_port(range: &PortRange, port: u128) -> bool
 
 /// Whether the rule's network holds the address.
 fn is_in_network(rule: &Rule, address: &Address<'_>) -> bool
-    ensures { result ≡ is_in_network rule.now (address_of address.now.six (values_of address.now.numbers.now) address.now.port) }
+    ensures { result ≡ is_in_network rule.now (address_of address.now.six (seen address.now.numbers) address.now.port) }
 {
     if rule.six != address.six {
         return false;
     }
     let width = if rule.six { 16 } else { 8 };
-    same_numbers(
+    are_alike(
         rule.numbers.as_slice(),
         address.numbers,
         width,
@@ -38,13 +39,13 @@ fn holds_some_port(ranges: &[PortRange], port: u128) -> bool
 }
 
 fn allows_one(rule: &Rule, address: &Address<'_>) -> bool
-    ensures { result ≡ allows_one (address_of address.now.six (values_of address.now.numbers.now) address.now.port) rule.now }
+    ensures { result ≡ allows_one (address_of address.now.six (seen address.now.numbers) address.now.port) rule.now }
 {
     is_in_network(rule, address) && holds_some_port(rule.ports.as_slice(), address.port)
 }
 
 fn some_allows(rules: &[Rule], address: &Address<'_>) -> bool
-    ensures { result ≡ is_allowed rules.now (address_of address.now.six (values_of address.now.numbers.now) address.now.port) }
+    ensures { result ≡ is_allowed rules.now (address_of address.now.six (seen address.now.numbers) address.now.port) }
 {
     rules.iter().any(|rule| allows_one(rule, address))
 }
