@@ -1,14 +1,11 @@
 -- Names of which none was met so far, and none is met again.
-use Rattle.std.proofs.Common.{◌≡◌, ◌∙◌, ap, sym, refl, ℕ, List, [], ◌∷◌, Bool, true, false, not, ◌&&◌}
+use Rattle.std.proofs.Common.{◌≡◌, ◌∙◌, ap, sym, refl, List, [], ◌∷◌, Bool, true, false, not, ◌&&◌}
 use Rattle.std.specs.Prelude.{◌||◌}
 use Rattle.std.specs.List.{list_all, list_any}
 use Rattle.comp_rules.specs.Rules.{all_differ}
 
-abbrev pub Names : Type 0
-Names = List (List ℕ)
-
 -- they differ, and none of them was met
-abbrev pub are_new : (same : List ℕ → List ℕ → Bool) (met : List ℕ → Bool) → Names → Bool
+abbrev pub are_new : {A : Type 0} (same : A → A → Bool) (met : A → Bool) → List A → Bool
 are_new same met names = all_differ same names && list_all (λ q. not (met q)) names
 
 and_true : (b : Bool) → b ≡ (b && true)
@@ -19,11 +16,11 @@ and_false : (b : Bool) → (b && false) ≡ false
 and_false true = refl
 and_false false = refl
 
-none_met : (met : List ℕ → Bool) → ((q : List ℕ) → met q ≡ false) → (names : Names) → list_all (λ q. not (met q)) names ≡ true
+none_met : {A : Type 0} (met : A → Bool) → ((q : A) → met q ≡ false) → (names : List A) → list_all (λ q. not (met q)) names ≡ true
 none_met met none [] = refl
 none_met met none (x ∷ xs) = ap (λ b. not b && list_all (λ q. not (met q)) xs) (none x) ∙ none_met met none xs
 
-pub starts_new : (same : List ℕ → List ℕ → Bool) (met : List ℕ → Bool) → ((q : List ℕ) → met q ≡ false) → (names : Names) → all_differ same names ≡ are_new same met names
+pub starts_new : {A : Type 0} (same : A → A → Bool) (met : A → Bool) → ((q : A) → met q ≡ false) → (names : List A) → all_differ same names ≡ are_new same met names
 starts_new same met none names = and_true (all_differ same names) ∙ ap (λ b. all_differ same names && b) (sym (none_met met none names))
 
 -- one more was met
@@ -34,7 +31,7 @@ swap false true true s = refl
 swap false true false s = refl
 swap false false r s = refl
 
-met_more : (same : List ℕ → List ℕ → Bool) (met more : List ℕ → Bool) (x : List ℕ) → ((q : List ℕ) → more q ≡ (same x q || met q)) → (xs : Names)
+met_more : {A : Type 0} (same : A → A → Bool) (met more : A → Bool) (x : A) → ((q : A) → more q ≡ (same x q || met q)) → (xs : List A)
     → list_all (λ q. not (more q)) xs ≡ (not (list_any (same x) xs) && list_all (λ q. not (met q)) xs)
 met_more same met more x grows [] = refl
 met_more same met more x grows (y ∷ ys) =
@@ -54,15 +51,15 @@ turned false true c = refl
 turned false false c = refl
 
 -- the first name is new
-pub goes_on : (same : List ℕ → List ℕ → Bool) (met more : List ℕ → Bool) (x : List ℕ) (xs : Names)
-    → ((q : List ℕ) → more q ≡ (same x q || met q)) → met x ≡ false → are_new same met (x ∷ xs) ≡ are_new same more xs
+pub goes_on : {A : Type 0} (same : A → A → Bool) (met more : A → Bool) (x : A) (xs : List A)
+    → ((q : A) → more q ≡ (same x q || met q)) → met x ≡ false → are_new same met (x ∷ xs) ≡ are_new same more xs
 goes_on same met more x xs grows new =
     ap (λ b. (not (list_any (same x) xs) && all_differ same xs) && (not b && list_all (λ q. not (met q)) xs)) new
     ∙ (turned (list_any (same x) xs) (all_differ same xs) (list_all (λ q. not (met q)) xs)
     ∙ ap (λ b. all_differ same xs && b) (sym (met_more same met more x grows xs)))
 
 -- it was met
-pub ends_here : (same : List ℕ → List ℕ → Bool) (met : List ℕ → Bool) (x : List ℕ) (xs : Names) → met x ≡ true → are_new same met (x ∷ xs) ≡ false
+pub ends_here : {A : Type 0} (same : A → A → Bool) (met : A → Bool) (x : A) (xs : List A) → met x ≡ true → are_new same met (x ∷ xs) ≡ false
 ends_here same met x xs old =
     ap (λ b. (not (list_any (same x) xs) && all_differ same xs) && (not b && list_all (λ q. not (met q)) xs)) old
     ∙ and_false (not (list_any (same x) xs) && all_differ same xs)
