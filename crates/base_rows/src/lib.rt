@@ -2,13 +2,13 @@
 #![tactic(auto)]
 
 #[cfg(test)]
+mod files_and_sinks;
+#[cfg(test)]
 mod formats;
 #[cfg(test)]
 mod instructions;
 #[cfg(test)]
 mod numbers;
-#[cfg(test)]
-mod files_and_sinks;
 #[cfg(test)]
 mod steps;
 #[cfg(test)]
