@@ -147,7 +147,7 @@ fn other_operands(rt: HostRuntime) -> Result<(), Fail> {
         app[OPERAND] = operand;
         let ran = run_app(rt.alloc(), &app)?;
         assert_eq!(rt; ran.code, 0, "operand {operand}");
-        let Some(out) = ran.out else {
+        let Some(out) = &ran.out else {
             return Err(Fail::from("no output"));
         };
         assert_eq!(rt; out.len(), SEVEN_OUT.len());
