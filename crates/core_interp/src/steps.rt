@@ -128,47 +128,19 @@ impl Running {
         ensures grows { IfOk result (λ _. length self.new.controls.items ≤ length self.old.controls.items + 1) }
     {
         match instr_at(code, self.at) {
-            Instr::Plain(op) => {
-                let op = *op;
-                self.plain(alloc, spaces, store, op)
-            }
-            Instr::I64Const(value) => {
-                let value = *value;
-                self.constant(store, value)
-            }
+            Instr::Plain(op) => self.plain(alloc, spaces, store, *op),
+            Instr::I64Const(value) => self.constant(store, *value),
             Instr::SelectTyped(_) => self.plain(alloc, spaces, store, Op::Select),
             Instr::Unreachable => Ok(Flow::Failed),
-            Instr::Block(ty) => {
-                let ty = *ty;
-                self.block(code, spaces, store, ty)
-            }
-            Instr::Loop(ty) => {
-                let ty = *ty;
-                self.begin_loop(spaces, store, ty)
-            }
-            Instr::If(ty) => {
-                let ty = *ty;
-                self.begin_if(code, spaces, store, ty)
-            }
-            Instr::Br(label) => {
-                let label = *label;
-                Ok(self.br(store, label))
-            }
-            Instr::BrIf(label) => {
-                let label = *label;
-                Ok(self.br_if(store, label))
-            }
+            Instr::Block(ty) => self.block(code, spaces, store, *ty),
+            Instr::Loop(ty) => self.begin_loop(spaces, store, *ty),
+            Instr::If(ty) => self.begin_if(code, spaces, store, *ty),
+            Instr::Br(label) => Ok(self.br(store, *label)),
+            Instr::BrIf(label) => Ok(self.br_if(store, *label)),
             Instr::BrTable(_) => Ok(self.br_table(code, store)),
             Instr::Return => Ok(self.return_from(store)),
-            Instr::Call(index) => {
-                let index = *index;
-                self.call(spaces, store, index)
-            }
-            Instr::CallIndirect { ty, table } => {
-                let ty = *ty;
-                let table = *table;
-                self.call_indirect(spaces, store, ty, table)
-            }
+            Instr::Call(index) => self.call(spaces, store, *index),
+            Instr::CallIndirect { ty, table } => self.call_indirect(spaces, store, *ty, *table),
             Instr::Else => unreachable!(),
             Instr::End => unreachable!(),
         }
