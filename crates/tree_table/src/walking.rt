@@ -157,15 +157,8 @@ fn walk_parts<'a, N: NameRead, L: Ledger>(
     let mut text: &'a [u8] = path;
     'parts: loop {
         let (part, rest) = first_part(text);
-        match take_part(
-            names,
-            node,
-            current,
-            part,
-            is_last(rest, depth),
-            follow,
-            steps,
-        ) {
+        let last = is_last(rest, depth);
+        match take_part(names, node, current, part, last, follow, steps) {
             Turn::Stops(fault) => return Err(fault),
             Turn::Ends(at) => return Ok(at),
             Turn::Goes(next) => {

@@ -24,7 +24,7 @@ returns-in-Stops-clause-fault g c =
     let tail = rest_parts rest ++ later in
     let answer = resolve look start c.args.path.now follow in
     let is = cut c.parts.text.now part rest later c.first_part.ensures.last c.first_part.ensures.more in
-    let t = turned look start follow (40 - links) c.parts.text.now part rest c.parts.waiting c.parts.depth c.is_last.result below answer (omega arith) c.first_part.ensures.last c.first_part.ensures.more c.is_last.ensures.some c.is_last.ensures.none inv.leads.2 in
+    let t = turned look start follow (40 - links) c.parts.text.now part rest c.parts.waiting c.parts.depth c.is_last-last.result below answer (omega arith) c.first_part.ensures.last c.first_part.ensures.more c.is_last-last.ensures.some c.is_last-last.ensures.none inv.leads.2 in
     sym t.1 ∙ c.in-Stops.ensures.meets below inv.leads.1 after tail t.0
 
 pub returns-in-Stops-clause-probes : goal.returns-in-Stops-clause-probes
@@ -56,7 +56,7 @@ returns-in-Ends-clause-found g c =
     let tail = rest_parts rest ++ later in
     let answer = resolve look start c.args.path.now follow in
     let is = cut c.parts.text.now part rest later c.first_part.ensures.last c.first_part.ensures.more in
-    let t = turned look start follow (40 - links) c.parts.text.now part rest c.parts.waiting c.parts.depth c.is_last.result below answer (omega arith) c.first_part.ensures.last c.first_part.ensures.more c.is_last.ensures.some c.is_last.ensures.none inv.leads.2 in
+    let t = turned look start follow (40 - links) c.parts.text.now part rest c.parts.waiting c.parts.depth c.is_last-last.result below answer (omega arith) c.first_part.ensures.last c.first_part.ensures.more c.is_last-last.ensures.some c.is_last-last.ensures.none inv.leads.2 in
     let m = c.in-Ends.ensures.meets below inv.leads.1 in
     (m.0, m.1, sym t.1 ∙ m.2 after tail t.0)
 
@@ -89,7 +89,7 @@ parts-preserved-in-Some g c =
     let tail = rest_parts rest ++ later in
     let answer = resolve look start c.args.path.now follow in
     let is = cut c.parts.text.now part rest later c.first_part.ensures.last c.first_part.ensures.more in
-    let t = turned look start follow (40 - links) c.parts.text.now part rest c.parts.waiting c.parts.depth c.is_last.result below answer (omega arith) c.first_part.ensures.last c.first_part.ensures.more c.is_last.ensures.some c.is_last.ensures.none inv.leads.2 in
+    let t = turned look start follow (40 - links) c.parts.text.now part rest c.parts.waiting c.parts.depth c.is_last-last.result below answer (omega arith) c.first_part.ensures.last c.first_part.ensures.more c.is_last-last.ensures.some c.is_last-last.ensures.none inv.leads.2 in
     let left = parts_of c.in-Some.rest.now ++ later in
     let left_is : left ≡ tail = ap (λ r. rest_parts r ++ later) (sym c.in-Some.is) in
     let m = c.in-Goes.ensures.meets below inv.leads.1 in
@@ -125,7 +125,7 @@ parts-smaller-in-None g c =
     let tail = rest_parts rest ++ later in
     let answer = resolve look start c.args.path.now follow in
     let is = cut c.parts.text.now part rest later c.first_part.ensures.last c.first_part.ensures.more in
-    let t = turned look start follow (40 - links) c.parts.text.now part rest c.parts.waiting c.parts.depth c.is_last.result below answer (omega arith) c.first_part.ensures.last c.first_part.ensures.more c.is_last.ensures.some c.is_last.ensures.none inv.leads.2 in
+    let t = turned look start follow (40 - links) c.parts.text.now part rest c.parts.waiting c.parts.depth c.is_last-last.result below answer (omega arith) c.first_part.ensures.last c.first_part.ensures.more c.is_last-last.ensures.some c.is_last-last.ensures.none inv.leads.2 in
     let left = parts_of (get_or c.parts.waiting (c.parts.depth - 1) (record { ref_ptr = (0, 0); now = [] })).now ++ stacked (take (c.parts.depth - 1) c.parts.waiting) in
     let some : 0 < c.parts.depth = omega (arith, c.if-depth-eq0.false) in
     let left_is : left ≡ tail = sym (stacked-pop c.parts.waiting c.parts.depth (record { ref_ptr = (0, 0); now = [] }) some (omega arith)) ∙ ap (λ r. rest_parts r ++ later) (sym c.in-None.is) in
@@ -151,7 +151,7 @@ parts-preserved-in-None g c =
     let tail = rest_parts rest ++ later in
     let answer = resolve look start c.args.path.now follow in
     let is = cut c.parts.text.now part rest later c.first_part.ensures.last c.first_part.ensures.more in
-    let t = turned look start follow (40 - links) c.parts.text.now part rest c.parts.waiting c.parts.depth c.is_last.result below answer (omega arith) c.first_part.ensures.last c.first_part.ensures.more c.is_last.ensures.some c.is_last.ensures.none inv.leads.2 in
+    let t = turned look start follow (40 - links) c.parts.text.now part rest c.parts.waiting c.parts.depth c.is_last-last.result below answer (omega arith) c.first_part.ensures.last c.first_part.ensures.more c.is_last-last.ensures.some c.is_last-last.ensures.none inv.leads.2 in
     let left = parts_of (get_or c.parts.waiting (c.parts.depth - 1) (record { ref_ptr = (0, 0); now = [] })).now ++ stacked (take (c.parts.depth - 1) c.parts.waiting) in
     let some : 0 < c.parts.depth = omega (arith, c.if-depth-eq0.false) in
     let left_is : left ≡ tail = sym (stacked-pop c.parts.waiting c.parts.depth (record { ref_ptr = (0, 0); now = [] }) some (omega arith)) ∙ ap (λ r. rest_parts r ++ later) (sym c.in-None.is) in
@@ -188,7 +188,7 @@ returns-then-links-eq-MOST_LINKS-clause-fault g c =
     let tail = rest_parts rest ++ later in
     let answer = resolve look start c.args.path.now follow in
     let is = cut c.parts.text.now part rest later c.first_part.ensures.last c.first_part.ensures.more in
-    let t = turned look start follow (40 - links) c.parts.text.now part rest c.parts.waiting c.parts.depth c.is_last.result below answer (omega arith) c.first_part.ensures.last c.first_part.ensures.more c.is_last.ensures.some c.is_last.ensures.none inv.leads.2 in
+    let t = turned look start follow (40 - links) c.parts.text.now part rest c.parts.waiting c.parts.depth c.is_last-last.result below answer (omega arith) c.first_part.ensures.last c.first_part.ensures.more c.is_last-last.ensures.some c.is_last-last.ensures.none inv.leads.2 in
     let m = c.in-Follows.ensures.meets below inv.leads.1 in
     sym t.1 ∙ m.1 after tail t.0 ∙ too_many look start follow links below c.in-Follows.target.now tail c.if-links-eq-MOST_LINKS.true
 
@@ -221,7 +221,7 @@ returns-then-begins_at_root-clause-fault g c =
     let tail = rest_parts rest ++ later in
     let answer = resolve look start c.args.path.now follow in
     let is = cut c.parts.text.now part rest later c.first_part.ensures.last c.first_part.ensures.more in
-    let t = turned look start follow (40 - links) c.parts.text.now part rest c.parts.waiting c.parts.depth c.is_last.result below answer (omega arith) c.first_part.ensures.last c.first_part.ensures.more c.is_last.ensures.some c.is_last.ensures.none inv.leads.2 in
+    let t = turned look start follow (40 - links) c.parts.text.now part rest c.parts.waiting c.parts.depth c.is_last-last.result below answer (omega arith) c.first_part.ensures.last c.first_part.ensures.more c.is_last-last.ensures.some c.is_last-last.ensures.none inv.leads.2 in
     let m = c.in-Follows.ensures.meets below inv.leads.1 in
     sym t.1 ∙ m.1 after tail t.0 ∙ rooted look start follow links below c.in-Follows.target.now tail (omega (arith, c.if-links-eq-MOST_LINKS.false)) (sym c.begins_at_root.ensures ∙ c.if-begins_at_root.true)
 
@@ -254,7 +254,7 @@ parts-smaller-in-Some-rest g c =
     let tail = rest_parts rest ++ later in
     let answer = resolve look start c.args.path.now follow in
     let is = cut c.parts.text.now part rest later c.first_part.ensures.last c.first_part.ensures.more in
-    let t = turned look start follow (40 - links) c.parts.text.now part rest c.parts.waiting c.parts.depth c.is_last.result below answer (omega arith) c.first_part.ensures.last c.first_part.ensures.more c.is_last.ensures.some c.is_last.ensures.none inv.leads.2 in
+    let t = turned look start follow (40 - links) c.parts.text.now part rest c.parts.waiting c.parts.depth c.is_last-last.result below answer (omega arith) c.first_part.ensures.last c.first_part.ensures.more c.is_last-last.ensures.some c.is_last-last.ensures.none inv.leads.2 in
     let few : links < 40 = omega (arith, c.if-links-eq-MOST_LINKS.false) in
     let left = parts_of c.in-Follows.target.now ++ stacked (take (c.parts.depth + 1) (set c.parts.waiting c.parts.depth c.in-Some-rest.rest)) in
     let left_is : left ≡ parts_of c.in-Follows.target.now ++ tail =
@@ -282,7 +282,7 @@ parts-preserved-in-Some-rest g c =
     let tail = rest_parts rest ++ later in
     let answer = resolve look start c.args.path.now follow in
     let is = cut c.parts.text.now part rest later c.first_part.ensures.last c.first_part.ensures.more in
-    let t = turned look start follow (40 - links) c.parts.text.now part rest c.parts.waiting c.parts.depth c.is_last.result below answer (omega arith) c.first_part.ensures.last c.first_part.ensures.more c.is_last.ensures.some c.is_last.ensures.none inv.leads.2 in
+    let t = turned look start follow (40 - links) c.parts.text.now part rest c.parts.waiting c.parts.depth c.is_last-last.result below answer (omega arith) c.first_part.ensures.last c.first_part.ensures.more c.is_last-last.ensures.some c.is_last-last.ensures.none inv.leads.2 in
     let few : links < 40 = omega (arith, c.if-links-eq-MOST_LINKS.false) in
     let left = parts_of c.in-Follows.target.now ++ stacked (take (c.parts.depth + 1) (set c.parts.waiting c.parts.depth c.in-Some-rest.rest)) in
     let left_is : left ≡ parts_of c.in-Follows.target.now ++ tail =
@@ -325,7 +325,7 @@ parts-smaller g c =
     let tail = rest_parts rest ++ later in
     let answer = resolve look start c.args.path.now follow in
     let is = cut c.parts.text.now part rest later c.first_part.ensures.last c.first_part.ensures.more in
-    let t = turned look start follow (40 - links) c.parts.text.now part rest c.parts.waiting c.parts.depth c.is_last.result below answer (omega arith) c.first_part.ensures.last c.first_part.ensures.more c.is_last.ensures.some c.is_last.ensures.none inv.leads.2 in
+    let t = turned look start follow (40 - links) c.parts.text.now part rest c.parts.waiting c.parts.depth c.is_last-last.result below answer (omega arith) c.first_part.ensures.last c.first_part.ensures.more c.is_last-last.ensures.some c.is_last-last.ensures.none inv.leads.2 in
     let few : links < 40 = omega (arith, c.if-links-eq-MOST_LINKS.false) in
     let left = parts_of c.in-Follows.target.now ++ later in
     let left_is : left ≡ parts_of c.in-Follows.target.now ++ tail =
@@ -353,7 +353,7 @@ parts-preserved g c =
     let tail = rest_parts rest ++ later in
     let answer = resolve look start c.args.path.now follow in
     let is = cut c.parts.text.now part rest later c.first_part.ensures.last c.first_part.ensures.more in
-    let t = turned look start follow (40 - links) c.parts.text.now part rest c.parts.waiting c.parts.depth c.is_last.result below answer (omega arith) c.first_part.ensures.last c.first_part.ensures.more c.is_last.ensures.some c.is_last.ensures.none inv.leads.2 in
+    let t = turned look start follow (40 - links) c.parts.text.now part rest c.parts.waiting c.parts.depth c.is_last-last.result below answer (omega arith) c.first_part.ensures.last c.first_part.ensures.more c.is_last-last.ensures.some c.is_last-last.ensures.none inv.leads.2 in
     let few : links < 40 = omega (arith, c.if-links-eq-MOST_LINKS.false) in
     let left = parts_of c.in-Follows.target.now ++ later in
     let left_is : left ≡ parts_of c.in-Follows.target.now ++ tail =
