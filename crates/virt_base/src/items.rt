@@ -3,6 +3,7 @@ ghost use Rattle.std.specs.Prelude.{◌≡◌, ◌==◌, length, IfOk, OnOk, OnE
 use crate::fault::NoMemory;
 use std::alloc::Global;
 use std::marker::Model;
+use std::ops::DerefSlice;
 
 /// A list, which contracts see as one, kept in a `Vec`.
 #[derive(Debug, Drop)]
@@ -19,6 +20,16 @@ impl<T> Model for Items<T> {
     ghost Value = { List T };
 
     ghost view = { λ a. a.items.items };
+}
+
+impl<T> DerefSlice for Items<T> {
+    type Elem = T;
+
+    ghost deref_gives = { λ list slice. slice ≡ list };
+
+    fn deref(&self) -> &[T] {
+        self.items.as_slice()
+    }
 }
 
 impl<T> Items<T> {
