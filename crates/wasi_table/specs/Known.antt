@@ -1,6 +1,5 @@
 -- Tables each word of which is known: a keyword, a form with its parts behind it, a name that was defined before, or a label.
 use Rattle.std.specs.Prelude.{ℕ, zero, suc, ◌+◌, Bool, true, false, ◌&&◌, List, [], ◌∷◌, drop, Option, Some, None, if◌then◌else◌}
-use Rattle.wit_types.specs.Plain.{Name}
 use Rattle.wasi_table.specs.declared.forms.Form.{Form}
 use Rattle.wasi_table.specs.declared.forms.Form.TheVariants.{Absent, Bool as BoolForm, U8, U16, U32, U64, Str, List as ListForm, Option as OptionForm, Result, Tuple, Own, Borrow, Arrow}
 use Rattle.wasi_table.specs.Forms.{form_named}

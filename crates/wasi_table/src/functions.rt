@@ -23,16 +23,14 @@ use wit_types::{FuncType, Labels};
 fn behind_arrow(words: Rest) -> Rest
     ensures { words_in result ≡ behind_arrow (words_in words.entry) }
 {
-    match next_word(words) {
-        None => None,
-        Some((word, rest)) => {
-            if word == "->" {
-                rest
-            } else {
-                behind_arrow(rest)
-            }
+    let mut left = words;
+    while let Some((word, rest)) = next_word(left) {
+        if word == "->" {
+            return rest;
         }
+        left = rest;
     }
+    None
 }
 
 fn push_name(alloc: Global, word: &str, names: &mut Labels) -> Result<(), NoMemory>
@@ -51,13 +49,12 @@ fn push_name(alloc: Global, word: &str, names: &mut Labels) -> Result<(), NoMemo
 pub fn push_names(alloc: Global, words: Rest, names: &mut Labels) -> Result<(), NoMemory>
     ensures { OnOk result (names.new ≡ names.old ++ names_in (words_in words.entry)) }
 {
-    match next_word(words) {
-        None => Ok(()),
-        Some((word, rest)) => {
-            push_name(alloc, word, names)?;
-            push_names(alloc, rest, names)
-        }
+    let mut left = words;
+    while let Some((word, rest)) = next_word(left) {
+        push_name(alloc, word, names)?;
+        left = rest;
     }
+    Ok(())
 }
 
 fn func_type(alloc: Global, known: &[Known], words: Rest) -> Result<FuncType, NoMemory>
@@ -149,13 +146,12 @@ fn push_methods(
 ) -> Result<(), NoMemory>
     ensures { OnOk result (map plain_named_func functions.new ≡ map plain_named_func functions.old ++ methods_in (map plain_known known.now) resource.now (lines_in lines.entry)) }
 {
-    match next_line(lines) {
-        None => Ok(()),
-        Some((line, rest)) => {
-            push_method(alloc, known, resource, line, functions)?;
-            push_methods(alloc, known, resource, rest, functions)
-        }
+    let mut left = lines;
+    while let Some((line, rest)) = next_line(left) {
+        push_method(alloc, known, resource, line, functions)?;
+        left = rest;
     }
+    Ok(())
 }
 
 fn push_function(
@@ -203,11 +199,10 @@ pub fn push_functions(
 ) -> Result<(), NoMemory>
     ensures { OnOk result (map plain_named_func functions.new ≡ map plain_named_func functions.old ++ functions_in (map plain_known known.now) (items_in items.entry)) }
 {
-    match next_item(items) {
-        None => Ok(()),
-        Some((item, rest)) => {
-            push_item(alloc, known, item_in(item), functions)?;
-            push_functions(alloc, known, rest, functions)
-        }
+    let mut left = items;
+    while let Some((item, rest)) = next_item(left) {
+        push_item(alloc, known, item_in(item), functions)?;
+        left = rest;
     }
+    Ok(())
 }

@@ -59,13 +59,12 @@ fn push_names_in_line(alloc: Global, line: &'static str, names: &mut Labels) -> 
 fn push_names_behind(alloc: Global, lines: Rest, names: &mut Labels) -> Result<(), NoMemory>
     ensures { OnOk result (names.new ≡ names.old ++ names_behind (lines_in lines.entry)) }
 {
-    match next_line(lines) {
-        None => Ok(()),
-        Some((line, rest)) => {
-            push_names_in_line(alloc, line, names)?;
-            push_names_behind(alloc, rest, names)
-        }
+    let mut left = lines;
+    while let Some((line, rest)) = next_line(left) {
+        push_names_in_line(alloc, line, names)?;
+        left = rest;
     }
+    Ok(())
 }
 
 fn names_of(alloc: Global, item: Item) -> Result<Labels, NoMemory>
@@ -154,13 +153,12 @@ fn declare_items(
 ) -> Result<(), NoMemory>
     ensures { OnOk result (map plain_known known.new.items ≡ declared number (map plain_known known.old.items) (items_in items.entry)) }
 {
-    match next_item(items) {
-        None => Ok(()),
-        Some((item, rest)) => {
-            declare(alloc, number, item_in(item), known)?;
-            declare_items(alloc, number, rest, known)
-        }
+    let mut left = items;
+    while let Some((item, rest)) = next_item(left) {
+        declare(alloc, number, item_in(item), known)?;
+        left = rest;
     }
+    Ok(())
 }
 
 fn declare_rest(
@@ -172,13 +170,14 @@ fn declare_rest(
     requires { number + left table < 2 ^ 32 }
     ensures { OnOk result (map plain_known known.new.items ≡ declared_all number (map plain_known known.old.items) (interfaces_in table.entry)) }
 {
-    match next_interface(table) {
-        None => Ok(()),
-        Some((items, rest)) => {
-            declare_items(alloc, number, Some(items), known)?;
-            declare_rest(alloc, number + 1, rest, known)
-        }
+    let mut number = number;
+    let mut left = table;
+    while let Some((items, rest)) = next_interface(left) {
+        declare_items(alloc, number, Some(items), known)?;
+        number += 1;
+        left = rest;
     }
+    Ok(())
 }
 
 /// Adds what the interfaces of a table define, which are numbered from this on.
@@ -233,13 +232,12 @@ fn push_used(
 fn push_uses(alloc: Global, known: &[Known], items: Rest, uses: &mut Uses) -> Result<(), NoMemory>
     ensures { OnOk result (uses.new ≡ uses.old ++ uses_in (map plain_known known.now) (items_in items.entry)) }
 {
-    match next_item(items) {
-        None => Ok(()),
-        Some((item, rest)) => {
-            push_used(alloc, known, item_in(item), uses)?;
-            push_uses(alloc, known, rest, uses)
-        }
+    let mut left = items;
+    while let Some((item, rest)) = next_item(left) {
+        push_used(alloc, known, item_in(item), uses)?;
+        left = rest;
     }
+    Ok(())
 }
 
 fn types_from(alloc: Global, known: Vec<Known>) -> Result<NamedTypes, NoMemory>
@@ -335,16 +333,16 @@ fn number_in(number: u32, table: Rest, name: &[u8]) -> Option<u32>
     requires { number + left table < 2 ^ 32 }
     ensures { result ≡ numbered number (interfaces_in table.entry) name.now }
 {
-    match next_interface(table) {
-        None => None,
-        Some((items, rest)) => {
-            if is_named(items, name) {
-                Some(number)
-            } else {
-                number_in(number + 1, rest, name)
-            }
+    let mut number = number;
+    let mut left = table;
+    while let Some((items, rest)) = next_interface(left) {
+        if is_named(items, name) {
+            return Some(number);
         }
+        number += 1;
+        left = rest;
     }
+    None
 }
 
 /// The number of the first interface with a name, where those of a table are numbered from this on.
