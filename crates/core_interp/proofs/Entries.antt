@@ -1,5 +1,5 @@
 -- The call from outside, in what is in progress.
-use Rattle.std.proofs.Common.{◌≡◌, ℕ, zero, suc, ◌+◌, ◌<◌, ◌≤◌, ◌-◌, List, [], ◌∷◌, ◌++◌, length, take, drop, Some, refl, sym, ap, ◌∙◌, arith}
+use Rattle.std.proofs.Common.{◌≡◌, ℕ, zero, suc, ◌+◌, ◌≤◌, ◌-◌, List, [], ◌∷◌, ◌++◌, length, take, drop, Some, refl, sym, ap, ◌∙◌, arith}
 use Rattle.std.specs.Prelude.{reverse, slice_get}
 use Rattle.core_interp.specs.declared.control.Control.{Control}
 use Rattle.core_interp.specs.declared.control.Control.TheVariants.{Label, Called, Entry}

@@ -2,13 +2,12 @@
 use Rattle.std.specs.Prelude.{ℕ, ◌≡◌, ◌+◌, ◌-◌, ◌<◌, ◌≤◌, List, [], ◌∷◌, ◌++◌, Option, Some, None, length, drop, reverse, replicate, slice_get}
 use Rattle.virt_base.specs.declared.core_type.CoreType.{CoreType}
 use Rattle.core_store.specs.declared.value.CoreValue.{CoreValue}
-use Rattle.core_store.specs.declared.value.CoreSpaces.{CoreSpaces}
 use Rattle.core_store.specs.declared.value.StoreFunc.{StoreFunc}
 use Rattle.core_store.specs.declared.value.StoreFunc.TheVariants.{Inside, Outside}
 use Rattle.wasm_ast.specs.declared.module.CoreFunc.{CoreFunc}
 use Rattle.core_store.specs.State.{State}
 use Rattle.core_eval.specs.Words.{words, values_in, HaveTypes}
-use Rattle.core_eval.specs.Config.{Reply, Outcome, Done, Trapped, Asks, Spent, TooDeep, bare}
+use Rattle.core_eval.specs.Config.{Reply, Outcome, Done, Trapped, Asks, Spent, bare}
 use Rattle.core_eval.specs.Eval.{Enter, arguments, function_type, deep, go, finish, eval}
 use Rattle.core_slots.specs.Stacked.{Stacked, with_operands}
 use Rattle.core_interp.specs.declared.machine.Stage.{Stage}

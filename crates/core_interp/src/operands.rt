@@ -1,12 +1,13 @@
 //! Instructions on operands alone.
 
-ghost use Rattle.std.specs.Prelude.{◌≡◌, ◌≤◌, IfOk, length};
+ghost use Rattle.std.specs.Prelude.{◌≡◌, ◌<◌, ◌≤◌, IfOk, length, drop};
 ghost use Rattle.core_integer.specs.Integer.{IsOperand};
 ghost use Rattle.core_store.specs.declared.value.CoreSpaces.{CoreSpaces};
 ghost use Rattle.core_store.specs.State.{State};
 ghost use Rattle.core_eval.specs.Plain.{operand_in};
 ghost use Rattle.core_eval.specs.Words.{i32_in};
 ghost use Rattle.core_eval.specs.Scene.{scene_of};
+ghost use Rattle.core_slots.specs.Stacked.{with_operands};
 ghost use Rattle.core_interp.specs.Groups.{IsOnOperands};
 ghost use Rattle.core_eval.specs.Fine.{takes, Names};
 ghost use Rattle.core_interp.specs.Plains.{Did, Puts};
@@ -47,31 +48,31 @@ pub fn calculate(slots: &mut Slots, op: NumericOp) -> Result<bool, NoMemory>
     let code = op.code();
     match numeric_of(code) {
         Some(kind) => {
-            let last = slots.pop();
             if kind.params == 1 {
-                return put(slots, integer(code, operand(kind.from, last), 0));
+                let outcome = integer(code, operand(kind.from, slots.top()), 0);
+                return Ok(put(slots, outcome));
             }
-            let first = slots.pop();
-            put(
-                slots,
-                integer(code, operand(kind.from, first), operand(kind.from, last)),
-            )
+            let last = slots.pop();
+            let first = slots.top();
+            let outcome = integer(code, operand(kind.from, first), operand(kind.from, last));
+            Ok(put(slots, outcome))
         }
         None => unreachable!(),
     }
 }
 
-// The result of a numeric instruction, if it has one.
-#[inline]
-fn put(slots: &mut Slots, outcome: Result<u64, Trap>) -> Result<bool, NoMemory>
-    ensures { IfOk result (Puts outcome slots.old slots.new) }
+// The result of a numeric instruction, if it has one, in place of the topmost operand.
+#[inline(always)]
+fn put(slots: &mut Slots, outcome: Result<u64, Trap>) -> bool
+    requires { 0 < length slots.old.operands }
+    ensures { Puts outcome (with_operands slots.old (drop 1 slots.old.operands)) slots.new result }
 {
     match outcome {
         Ok(value) => {
-            slots.push(value)?;
-            Ok(true)
+            slots.set_top(value);
+            true
         }
-        Err(_) => Ok(false),
+        Err(_) => false,
     }
 }
 

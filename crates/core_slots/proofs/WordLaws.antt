@@ -1,7 +1,7 @@
 -- The slots in one list of words.
 use Rattle.std.proofs.Common.{zero, suc, refl, ◌≡◌, ℕ, ◌+◌, ◌-◌, ◌<◌, ◌≤◌, List, [], ◌∷◌, ◌++◌, length, take, drop, get_or, sym, ap, ◌∙◌, arith, append_assoc, length-drop}
 use Rattle.std.specs.Prelude.{reverse, replicate, slice_set}
-use Rattle.std.proofs.lemmas.List.{reverse-append, reverse-reverse, length-reverse, length-take-le, take-append-drop, take_at, drop_at, take_all, drop_all, take-take, take-append-le, drop-append-le, drop-drop, drop-take, take-set-le, drop-set-lt, drop-set-add, take_more_set, take_more, get_or-drop}
+use Rattle.std.proofs.lemmas.List.{reverse-append, reverse-reverse, length-reverse, length-set, length-take-le, take-append-drop, take_at, drop_at, take_all, drop_all, take-take, take-append-le, drop-append-le, drop-drop, drop-take, take-set-le, drop-set-lt, drop-set-add, take_more_set, take_more, get_or-drop}
 use Rattle.std.proofs.Math.Seq.{take-set-lt}
 use Rattle.core_eval.specs.Config.{kept}
 use Rattle.core_slots.specs.Stacked.{Held, Stacked, with_operands, with_local, opened, closed}
@@ -181,6 +181,47 @@ put_at ws vs l o n p bs s laid e fits at =
     let n3 = length-drop o ws in
     let hi = laid.high in
     push_at (take n ws) vs l o bs _ (laid_shorter ws l o n bs laid (omega arith) (omega arith)) (ap (λ k. stacked (take k ws) l o bs) at ∙ drop_top_at ws l o p bs s laid e fits)
+
+pub some_words : (ws : List ℕ) (l o : ℕ) (bs : List Base) (s : Stacked) → stacked ws l o bs ≡ s → 0 < length s.operands → 0 < length ws
+some_words ws l o bs s e some =
+    let n1 : length (reverse (drop o ws)) ≡ length s.operands = ap (λ (x : Stacked). length x.operands) e in
+    let n2 = length-reverse (drop o ws) in
+    let n3 = length-drop o ws in
+    omega arith
+
+-- the topmost word
+last_word : (n : ℕ) (xs : List ℕ) → n + 1 ≡ length xs → drop n xs ≡ get_or xs n 0 ∷ []
+last_word n [] e = absurd (omega arith)
+last_word zero (x ∷ []) e = refl
+last_word zero (x ∷ y ∷ xs) e = absurd (omega arith)
+last_word (suc n) (x ∷ xs) e = last_word n xs (omega arith)
+
+first_is : (xs : List ℕ) (w : ℕ) → 0 < length xs → w ∷ [] ≡ reverse (take 1 xs) → xs ≡ w ∷ drop 1 xs
+first_is [] w lt e = absurd (omega arith)
+first_is (x ∷ xs) w lt e = ap (λ v. v ∷ xs) (same x w e)
+  where
+    same : (x w : ℕ) → w ∷ [] ≡ x ∷ [] → x ≡ w
+    same x w e = cc
+
+pub first_at : (ws : List ℕ) (l o n w : ℕ) (bs : List Base) (s : Stacked) → IsLaid ws l o bs → stacked ws l o bs ≡ s → 0 < length s.operands → n ≡ length ws - 1 → w ≡ get_or ws n 0 → s ≡ with_operands s (w ∷ drop 1 s.operands)
+first_at ws l o n w bs s laid e some en ew =
+    let n1 : length (reverse (drop o ws)) ≡ length s.operands = ap (λ (x : Stacked). length x.operands) e in
+    let n2 = length-reverse (drop o ws) in
+    let n3 = length-drop o ws in
+    let hi = laid.high in
+    let one : drop (length ws - 1) ws ≡ get_or ws (length ws - 1) 0 ∷ [] = last_word (length ws - 1) ws (omega arith) in
+    let here : w ∷ [] ≡ reverse (take 1 s.operands) = ap (λ v. v ∷ []) (ew ∙ ap (λ k. get_or ws k 0) en) ∙ sym one ∙ top_at ws l o 1 bs s laid e (omega arith) in
+    ap (with_operands s) (first_is s.operands w some here)
+
+pub set_top_at : (ws : List ℕ) (l o n v : ℕ) (bs : List Base) (s : Stacked) → IsLaid ws l o bs → stacked ws l o bs ≡ s → 0 < length s.operands → n ≡ length ws - 1 → stacked (slice_set ws n v) l o bs ≡ with_operands s (v ∷ drop 1 s.operands)
+set_top_at ws l o n v bs s laid e some en =
+    let n1 : length (reverse (drop o ws)) ≡ length s.operands = ap (λ (x : Stacked). length x.operands) e in
+    let n2 = length-reverse (drop o ws) in
+    let n3 = length-drop o ws in
+    let hi = laid.high in
+    let within : n < length ws = omega arith in
+    let whole : slice_set ws n v ≡ take n ws ++ (v ∷ []) = sym (take_all (n + 1) (slice_set ws n v) (omega (arith, length-set ws n v))) ∙ take_more_set ws n v within in
+    ap (λ xs. stacked xs l o bs) whole ∙ put_at ws (v ∷ []) l o n 1 bs s laid e (omega arith) en
 
 -- values are turned to words one after another
 pub words_none : (vs : List CoreValue) → words (take 0 vs) ≡ []

@@ -75,6 +75,25 @@ impl Slots {
         }
     }
 
+    /// The topmost operand.
+    #[inline]
+    pub fn top(&self) -> u64
+        requires { 0 < length self.now.operands }
+        ensures { self.now ≡ with_operands self.now (result ∷ drop 1 self.now.operands) }
+    {
+        self.words[self.words.len() - 1]
+    }
+
+    /// Writes another word over the topmost operand.
+    #[inline]
+    pub fn set_top(&mut self, value: u64)
+        requires { 0 < length self.old.operands }
+        ensures { self.new ≡ with_operands self.old (value ∷ drop 1 self.old.operands) }
+    {
+        let last = self.words.len() - 1;
+        self.words[last] = value;
+    }
+
     pub fn local(&self, at: u32) -> u64
         requires { at < length self.now.locals }
         ensures { slice_get self.now.locals at ≡ Some result }
