@@ -54,6 +54,141 @@ impl Model for NumericOp {
     ghost inverse = { λ n. record { code = n } };
 }
 
+/// The instructions by name (WebAssembly core specification, "Numeric Instructions" of the binary format).
+impl NumericOp {
+    pub const I32_EQZ: NumericOp = NumericOp { code: 0x45 };
+
+    pub const I32_EQ: NumericOp = NumericOp { code: 0x46 };
+
+    pub const I32_NE: NumericOp = NumericOp { code: 0x47 };
+
+    pub const I32_LT_S: NumericOp = NumericOp { code: 0x48 };
+
+    pub const I32_LT_U: NumericOp = NumericOp { code: 0x49 };
+
+    pub const I32_GT_S: NumericOp = NumericOp { code: 0x4A };
+
+    pub const I32_GT_U: NumericOp = NumericOp { code: 0x4B };
+
+    pub const I32_LE_S: NumericOp = NumericOp { code: 0x4C };
+
+    pub const I32_LE_U: NumericOp = NumericOp { code: 0x4D };
+
+    pub const I32_GE_S: NumericOp = NumericOp { code: 0x4E };
+
+    pub const I32_GE_U: NumericOp = NumericOp { code: 0x4F };
+
+    pub const I64_EQZ: NumericOp = NumericOp { code: 0x50 };
+
+    pub const I64_EQ: NumericOp = NumericOp { code: 0x51 };
+
+    pub const I64_NE: NumericOp = NumericOp { code: 0x52 };
+
+    pub const I64_LT_S: NumericOp = NumericOp { code: 0x53 };
+
+    pub const I64_LT_U: NumericOp = NumericOp { code: 0x54 };
+
+    pub const I64_GT_S: NumericOp = NumericOp { code: 0x55 };
+
+    pub const I64_GT_U: NumericOp = NumericOp { code: 0x56 };
+
+    pub const I64_LE_S: NumericOp = NumericOp { code: 0x57 };
+
+    pub const I64_LE_U: NumericOp = NumericOp { code: 0x58 };
+
+    pub const I64_GE_S: NumericOp = NumericOp { code: 0x59 };
+
+    pub const I64_GE_U: NumericOp = NumericOp { code: 0x5A };
+
+    pub const I32_CLZ: NumericOp = NumericOp { code: 0x67 };
+
+    pub const I32_CTZ: NumericOp = NumericOp { code: 0x68 };
+
+    pub const I32_POPCNT: NumericOp = NumericOp { code: 0x69 };
+
+    pub const I32_ADD: NumericOp = NumericOp { code: 0x6A };
+
+    pub const I32_SUB: NumericOp = NumericOp { code: 0x6B };
+
+    pub const I32_MUL: NumericOp = NumericOp { code: 0x6C };
+
+    pub const I32_DIV_S: NumericOp = NumericOp { code: 0x6D };
+
+    pub const I32_DIV_U: NumericOp = NumericOp { code: 0x6E };
+
+    pub const I32_REM_S: NumericOp = NumericOp { code: 0x6F };
+
+    pub const I32_REM_U: NumericOp = NumericOp { code: 0x70 };
+
+    pub const I32_AND: NumericOp = NumericOp { code: 0x71 };
+
+    pub const I32_OR: NumericOp = NumericOp { code: 0x72 };
+
+    pub const I32_XOR: NumericOp = NumericOp { code: 0x73 };
+
+    pub const I32_SHL: NumericOp = NumericOp { code: 0x74 };
+
+    pub const I32_SHR_S: NumericOp = NumericOp { code: 0x75 };
+
+    pub const I32_SHR_U: NumericOp = NumericOp { code: 0x76 };
+
+    pub const I32_ROTL: NumericOp = NumericOp { code: 0x77 };
+
+    pub const I32_ROTR: NumericOp = NumericOp { code: 0x78 };
+
+    pub const I64_CLZ: NumericOp = NumericOp { code: 0x79 };
+
+    pub const I64_CTZ: NumericOp = NumericOp { code: 0x7A };
+
+    pub const I64_POPCNT: NumericOp = NumericOp { code: 0x7B };
+
+    pub const I64_ADD: NumericOp = NumericOp { code: 0x7C };
+
+    pub const I64_SUB: NumericOp = NumericOp { code: 0x7D };
+
+    pub const I64_MUL: NumericOp = NumericOp { code: 0x7E };
+
+    pub const I64_DIV_S: NumericOp = NumericOp { code: 0x7F };
+
+    pub const I64_DIV_U: NumericOp = NumericOp { code: 0x80 };
+
+    pub const I64_REM_S: NumericOp = NumericOp { code: 0x81 };
+
+    pub const I64_REM_U: NumericOp = NumericOp { code: 0x82 };
+
+    pub const I64_AND: NumericOp = NumericOp { code: 0x83 };
+
+    pub const I64_OR: NumericOp = NumericOp { code: 0x84 };
+
+    pub const I64_XOR: NumericOp = NumericOp { code: 0x85 };
+
+    pub const I64_SHL: NumericOp = NumericOp { code: 0x86 };
+
+    pub const I64_SHR_S: NumericOp = NumericOp { code: 0x87 };
+
+    pub const I64_SHR_U: NumericOp = NumericOp { code: 0x88 };
+
+    pub const I64_ROTL: NumericOp = NumericOp { code: 0x89 };
+
+    pub const I64_ROTR: NumericOp = NumericOp { code: 0x8A };
+
+    pub const I32_WRAP_I64: NumericOp = NumericOp { code: 0xA7 };
+
+    pub const I64_EXTEND_I32_S: NumericOp = NumericOp { code: 0xAC };
+
+    pub const I64_EXTEND_I32_U: NumericOp = NumericOp { code: 0xAD };
+
+    pub const I32_EXTEND8_S: NumericOp = NumericOp { code: 0xC0 };
+
+    pub const I32_EXTEND16_S: NumericOp = NumericOp { code: 0xC1 };
+
+    pub const I64_EXTEND8_S: NumericOp = NumericOp { code: 0xC2 };
+
+    pub const I64_EXTEND16_S: NumericOp = NumericOp { code: 0xC3 };
+
+    pub const I64_EXTEND32_S: NumericOp = NumericOp { code: 0xC4 };
+}
+
 impl NumericOp {
     /// The instruction of this opcode, if it is one.
     pub fn new(code: u8) -> Option<NumericOp>
