@@ -1,5 +1,5 @@
 -- Whatever is done to a group is done alike with more steps, where that holds of what meets its imports.
-use Rattle.std.proofs.Common.{◌≡◌, ℕ, zero, suc, ◌+◌, ◌-◌, ◌≤◌, List, [], ◌∷◌, ◌++◌, Option, Some, None, Bool, true, false, length, refl, sym, ◌∙◌, ap, subst, arith}
+use Rattle.std.proofs.Common.{◌≡◌, ℕ, zero, suc, ◌+◌, ◌-◌, ◌≤◌, List, [], ◌∷◌, ◌++◌, Option, Some, None, Bool, true, false, refl, ◌∙◌, ap, arith}
 use Rattle.core_store.specs.State.{State}
 use Rattle.core_store.specs.declared.value.CoreValue.{CoreValue}
 use Rattle.core_eval.specs.Words.{words, values_in}
@@ -8,14 +8,12 @@ use Rattle.core_eval.specs.Eval.{eval}
 use Rattle.core_eval.specs.Laws.{Further}
 use Rattle.core_eval.proofs.Further.{further}
 use Rattle.wit_types.specs.Plain.{Plain}
-use Rattle.wit_types.specs.Layout.{alignment, size}
 use Rattle.abi_layout.specs.Functions.{core_params}
 use Rattle.abi_layout.specs.Storing.{Step, Ask, Write, Place, Refuse, Lowered}
-use Rattle.host_port.specs.declared.call.Resource.{Resource}
-use Rattle.comp_worlds.specs.Acts.{Out, Next, Over, Spent, Act, ◌>>◌, gives, spent, takes_step, with_more, Extends}
+use Rattle.comp_worlds.specs.Acts.{Out, Next, Over, Spent, Act, takes_step, Extends}
 use Rattle.comp_worlds.specs.Passing.{Passed, params_tuple, answer_tuple, most_results, spills_over}
-use Rattle.comp_worlds.specs.Groups.{Nesting, deeper, has_room, at_depth, store_at, Import, Options, Target, Mine, Theirs, type_of, Func, LoweredFunc, ResourceNew, ResourceDrop, ResourceRep, Owner, Stage, Provides, Makes, Begins, Group, Config, World, Due, Nothing, Served, Below, Answer, Origin, Inside, Ports}
-use Rattle.comp_worlds.specs.Locals.{Local, with_store, Args}
+use Rattle.comp_worlds.specs.Groups.{Nesting, deeper, has_room, at_depth, store_at, Options, Target, Mine, Theirs, type_of, Func, LoweredFunc, ResourceNew, ResourceDrop, ResourceRep, Owner, Stage, Provides, Makes, Begins, Group, Config, World, Due, Nothing, Served, Below, Origin, Inside, Ports}
+use Rattle.comp_worlds.specs.Locals.{Local, with_store}
 use Rattle.comp_worlds.specs.Calls.{with_config, on_end, on, below_end, below, Pause, Finished, Question, core_end, core, store_of, too_deep, if_room, finds_room, begins_call, Run, owns, asks_for, stores, lowers_closed, lowers_params, finds_place, lowers_result, post_returns, answers, during, leaves, place_in, calls, destructs, visits, drops, destructs_own, drops_by, drops_if, performs, goes_on, drives, runs, deep_enough, answers_if, drops_given, group, starts, does, does_all, is_made}
 use Rattle.comp_worlds.specs.Laws.{PortsGrow}
 use Rattle.comp_worlds.proofs.Growing.{prefix_nil, Longer, Same, then_longer, gives_longer, traps_longer, spent_longer, more_longer, step_longer}

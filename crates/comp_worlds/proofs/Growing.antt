@@ -1,7 +1,7 @@
 -- With more steps, and deeper, the same is done.
-use Rattle.std.proofs.Common.{◌≡◌, ℕ, zero, suc, ◌+◌, ◌≤◌, List, [], ◌∷◌, ◌++◌, refl, sym, ◌∙◌, ap, subst, arith, append_assoc, append-nil}
+use Rattle.std.proofs.Common.{◌≡◌, ℕ, zero, suc, ◌+◌, List, [], ◌∷◌, ◌++◌, refl, sym, ◌∙◌, ap, subst, arith, append_assoc, append-nil}
 use Rattle.host_port.specs.Calls.{PlainObservation}
-use Rattle.comp_worlds.specs.Acts.{End, end_item, Out, Next, Over, Spent, seen_of, IsPrefixOf, seen_before, then_do, Act, ◌>>◌, gives, traps, spent, takes_step, with_more, shows, Extends}
+use Rattle.comp_worlds.specs.Acts.{end_item, Out, Next, Over, Spent, seen_of, IsPrefixOf, seen_before, then_do, Act, ◌>>◌, gives, traps, spent, takes_step, with_more, shows, Extends}
 
 -- ---- beginnings of what is seen
 

@@ -1,17 +1,15 @@
 -- What runs over a host does alike with more steps.
-use Rattle.std.proofs.Common.{◌≡◌, ℕ, suc, ◌+◌, List, [], ◌∷◌, Option, Some, None, refl}
-use Rattle.wit_types.specs.Plain.{Plain}
+use Rattle.std.proofs.Common.{ℕ, ◌+◌, List, [], ◌∷◌, refl}
 use Rattle.host_port.specs.declared.call.Resource.{Resource}
-use Rattle.host_port.specs.Calls.{PlainAnswer, PlainObservation, Gives, Trap, Ended, Bad}
+use Rattle.host_port.specs.Calls.{PlainAnswer, Gives, Trap, Ended, Bad}
 use Rattle.host_port.specs.Hosts.{HostStep}
-use Rattle.comp_worlds.specs.Acts.{Extends, ◌>>◌}
+use Rattle.comp_worlds.specs.Acts.{Extends}
 use Rattle.comp_worlds.specs.Passing.{Passed, answer_tuple}
-use Rattle.comp_worlds.specs.Groups.{Nesting, Import, Group, Due, Origin, Inside, Outside, Ports}
-use Rattle.comp_worlds.specs.Calls.{group}
+use Rattle.comp_worlds.specs.Groups.{Nesting, Import, Group, Origin, Inside, Outside, Ports}
 use Rattle.comp_worlds.specs.Hosts.{call_of, answered_by, reacts, loses, stays, asks_host, hosted}
-use Rattle.comp_worlds.specs.Observed.{State, stack, first_state, are_made, Call, asks_export, leaves_export, makes_calls, runs_calls}
+use Rattle.comp_worlds.specs.Observed.{stack, first_state, are_made, Call, makes_calls, runs_calls}
 use Rattle.comp_worlds.specs.Laws.{PortsGrow, MoreStepsExtend, HostsGrow}
-use Rattle.comp_worlds.proofs.Growing.{Longer, Same, then_longer, gives_longer, shows_longer}
+use Rattle.comp_worlds.proofs.Growing.{Same, then_longer, gives_longer, shows_longer}
 use Rattle.comp_worlds.proofs.GroupGrowing.{begins_longer, below_longer, asked_longer, left_longer, group_grows, made_longer}
 
 stays_longer : (S : Type 0) → Same (stays {S = S})

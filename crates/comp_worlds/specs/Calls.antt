@@ -1,8 +1,7 @@
 -- What is done to a group: canonical calls (Component Model, CanonicalABI.md, `canon_lift`, `canon_lower`, `canon_resource_new`,
 -- `canon_resource_drop`, `canon_resource_rep`), core code that makes them, and the making of a group. The order of the ten parts of a
 -- call, the two flags and the tests of them are this project's own.
-use Rattle.std.specs.Prelude.{ℕ, zero, suc, ◌+◌, ◌-◌, ◌==◌, ◌++◌, if◌then◌else◌, List, [], ◌∷◌, length, map, slice_index, Option, Some, None, Bool, true, false}
-use Rattle.virt_base.specs.declared.core_type.CoreType.TheVariants.{I32}
+use Rattle.std.specs.Prelude.{ℕ, zero, suc, ◌+◌, ◌-◌, ◌==◌, ◌++◌, List, [], ◌∷◌, length, map, slice_index, Option, Some, None, Bool, true, false}
 use Rattle.core_memory.specs.Number.{bytes_of}
 use Rattle.core_store.specs.State.{State, empty_with}
 use Rattle.core_store.specs.declared.value.CoreValue.{CoreValue}
@@ -11,17 +10,15 @@ use Rattle.core_eval.specs.Words.{words, values_in}
 use Rattle.core_eval.specs.Config.{Reply, Outcome, Done, Trapped as CoreTrapped, Asks, Spent as CoreSpent, TooDeep as CoreTooDeep}
 use Rattle.core_eval.specs.Eval.{eval}
 use Rattle.wit_types.specs.Plain.{Plain, PlainFunc}
-use Rattle.wit_types.specs.PlainValue.{PlainValue}
-use Rattle.wit_types.specs.Layout.{alignment, size, flat, flat_fields}
-use Rattle.abi_layout.specs.Functions.{FlatFunc, lifted, lowered, core_params}
-use Rattle.abi_layout.specs.Storing.{Step, Ask, Write, Place, Refuse, FlatItem, Lowered}
-use Rattle.abi_layout.specs.Handles.{handles, renumbered}
-use Rattle.host_port.specs.declared.call.Resource.{Resource}
+use Rattle.wit_types.specs.Layout.{alignment, size}
+use Rattle.abi_layout.specs.Functions.{lowered, core_params}
+use Rattle.abi_layout.specs.Storing.{Step, Ask, Write, Place, Refuse, Lowered}
+use Rattle.abi_layout.specs.Handles.{renumbered}
 use Rattle.handle_space.specs.HandleMap.{empty}
-use Rattle.comp_worlds.specs.Acts.{End, Trapped, TooDeep, Out, Next, Over, Spent, Act, ◌>>◌, gives, traps, spent, takes_step, with_more}
-use Rattle.comp_worlds.specs.Passing.{Handle, Passed, params_tuple, answer_tuple, handles_of, most_params, most_results, spills_over, lower_params, lower_result}
-use Rattle.comp_worlds.specs.Groups.{Nesting, Endless, Nested, deeper, has_room, at_depth, store_at, Import, Options, Lifting, Target, Mine, Theirs, type_of, Func, LoweredFunc, ResourceNew, ResourceDrop, ResourceRep, Owner, Stage, Provides, Makes, Begins, Group, Config, World, Due, Nothing, Served, Below, Answer, Origin, Inside, Outside, Ports}
-use Rattle.comp_worlds.specs.Locals.{Local, with_store, is_open, enter, exit, close, reopen, Args, lifts, ends_loans, has_no_borrow, adds_handles, has_place, is_granted, writes, base_of, flat_word, Numbers, makes, reads, removes, provides, makes_module}
+use Rattle.comp_worlds.specs.Acts.{Trapped, TooDeep, Out, Next, Over, Spent, Act, ◌>>◌, gives, traps, spent, takes_step, with_more}
+use Rattle.comp_worlds.specs.Passing.{Passed, params_tuple, answer_tuple, handles_of, most_params, most_results, spills_over, lower_params, lower_result}
+use Rattle.comp_worlds.specs.Groups.{Nesting, deeper, has_room, at_depth, store_at, Options, Target, Mine, Theirs, type_of, Func, LoweredFunc, ResourceNew, ResourceDrop, ResourceRep, Owner, Stage, Provides, Makes, Begins, Group, Config, World, Due, Nothing, Served, Below, Answer, Origin, Inside, Ports}
+use Rattle.comp_worlds.specs.Locals.{Local, with_store, is_open, enter, exit, close, reopen, lifts, ends_loans, has_no_borrow, adds_handles, has_place, is_granted, writes, base_of, flat_word, Numbers, makes, reads, removes, provides, makes_module}
 
 -- ---- 1. what is done to a world
 

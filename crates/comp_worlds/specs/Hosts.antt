@@ -6,7 +6,7 @@ use Rattle.abi_layout.specs.Handles as abi
 use Rattle.abi_layout.specs.Handles.{handles, renumbered}
 use Rattle.host_port.specs.declared.call.Resource.{Resource}
 use Rattle.host_port.specs.Calls.{PlainCall, PlainAnswer, PlainObservation, Gives, Trap, Ended, Bad}
-use Rattle.host_port.specs.Hosts.{HostStep, Reaction, Loss}
+use Rattle.host_port.specs.Hosts.{HostStep}
 use Rattle.comp_worlds.specs.Acts.{Trapped, ScriptEnded, BadAnswer, Out, Next, Over, Act, ◌>>◌}
 use Rattle.comp_worlds.specs.Passing.{Passed, params_tuple, answer_tuple, in_tuple, values_in, blank}
 use Rattle.comp_worlds.specs.Groups.{Nesting, Import, Nothing, Answer, Origin, Inside, Outside, Ports}

@@ -1,16 +1,13 @@
 -- What one instance does by itself, whatever its handles stand for.
-use Rattle.std.specs.Prelude.{ℕ, ◌+◌, ◌==◌, ◌++◌, ◌&&◌, nat_le, if◌then◌else◌, List, [], ◌∷◌, length, map, slice_index, Option, Some, None, Bool, true, false, not, Result, Ok, Err}
+use Rattle.std.specs.Prelude.{ℕ, ◌+◌, ◌++◌, ◌&&◌, nat_le, if◌then◌else◌, List, [], ◌∷◌, length, slice_index, Option, Some, None, Bool, true, false, not, Result, Ok, Err}
 use Rattle.std.specs.Option.{option_map, option_and_then}
 use Rattle.std.specs.Prelude.{slice_set}
-use Rattle.virt_base.specs.declared.core_type.CoreType.TheVariants.{I32}
 use Rattle.wasm_ast.specs.declared.module.CoreFunc.{CoreFunc}
 use Rattle.core_memory.specs.Linear.{written}
-use Rattle.core_memory.specs.Number.{bytes_of}
 use Rattle.core_store.specs.State.{State, memory_at}
 use Rattle.core_store.specs.declared.value.StoreFunc.TheVariants as functions
 use Rattle.wit_types.specs.Plain.{Plain}
 use Rattle.wit_types.specs.PlainValue.{PlainValue}
-use Rattle.wit_types.specs.Layout.{alignment, size}
 use Rattle.abi_layout.specs.Loading.{is_aligned}
 use Rattle.abi_layout.specs.Storing.{Base, Target, Answer, FlatItem, Number, AnswerTo}
 use Rattle.abi_layout.specs.Handles.{handles}

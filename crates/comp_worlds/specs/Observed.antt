@@ -1,5 +1,5 @@
 -- What is observed of groups over a host: they are made, and calls are made from outside. (This project's own.)
-use Rattle.std.specs.Prelude.{◌≡◌, ℕ, List, [], ◌∷◌, Option, Some, None, true}
+use Rattle.std.specs.Prelude.{◌≡◌, ℕ, List, [], ◌∷◌, Some, true}
 use Rattle.wit_types.specs.Plain.{Name}
 use Rattle.wit_types.specs.PlainValue.{PlainValues, RecordValue}
 use Rattle.wit_types.specs.HasType.{are_of}

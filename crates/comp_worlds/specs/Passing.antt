@@ -1,17 +1,17 @@
 -- Values as they pass from one instance to another, and their handles (Component Model, CanonicalABI.md, "Lifting and Lowering
 -- Values"). A value passes without the numbers of its handles, beside a list of what they stand for: numbers of a host, or whatever
 -- a handle of the tables stands for. All handles of a value are exchanged in one pass, after it was loaded and before it is stored.
-use Rattle.std.specs.Prelude.{ℕ, ◌+◌, ◌==◌, ◌∷◌, Bool, true, false, not, ◌||◌, ◌&&◌, nat_lt, nat_le, if◌then◌else◌, List, [], ◌++◌, map, length, slice_index, Option, Some, None}
+use Rattle.std.specs.Prelude.{ℕ, ◌∷◌, Bool, true, false, not, nat_lt, if◌then◌else◌, List, [], map, length, Option, Some, None}
 use Rattle.std.specs.Option.{option_map, option_and_then}
 use Rattle.std.specs.List.{list_any}
-use Rattle.wit_types.specs.Plain.{Plain, Parts, PlainFunc, RecordForm, AsTuple, BoolType, SignedType, UnsignedType, CharType, StringType, ListType, RecordType, VariantType, FlagsType, OwnType, BorrowType, End, More}
+use Rattle.wit_types.specs.Plain.{Plain, Parts, PlainFunc, AsTuple, RecordType, OwnType, BorrowType, End, More}
 use Rattle.wit_types.specs.PlainValue.{PlainValue, PlainValues, RecordValue, End as NoValues, More as Values}
-use Rattle.wit_types.specs.Layout.{alignment, size, flat}
+use Rattle.wit_types.specs.Layout.{flat}
 use Rattle.abi_layout.specs.Loading.{loads, lift_flat, low_word}
 use Rattle.abi_layout.specs.Storing.{Lowered, AnswerTo, lower_flat, spills, stores}
 use Rattle.abi_layout.specs.Handles.{handles, renumbered}
 use Rattle.abi_layout.specs.Handles as abi
-use Rattle.handle_space.specs.HandleMap.{Entry, HandleMap, Answered, Held, answered, own_entry, borrow_entry, lend, unlend, take_own, add}
+use Rattle.handle_space.specs.HandleMap.{Entry, HandleMap, Answered, answered, own_entry, borrow_entry, lend, unlend, take_own, add}
 
 -- ---- the parameters, and the result, as one tuple
 
