@@ -1,0 +1,12 @@
+pub mod Chains
+pub mod Places
+pub mod Sequences
+pub mod Sim
+pub mod Ranges
+pub mod Tables
+pub mod Steps
+pub mod Turning
+pub mod Whole
+pub mod Law
+pub mod Called
+pub mod Lists

@@ -1,0 +1,4 @@
+pub mod Instructions
+pub mod Bounds
+pub mod Handles
+pub mod Does

@@ -1,0 +1,16 @@
+//! The core code of routines.
+#![tactic(auto)]
+
+mod body;
+mod bounds;
+mod calls;
+mod code;
+mod labels;
+mod laws;
+mod numbers;
+
+pub use body::compile;
+pub use bounds::nesting_of;
+pub use calls::HandleCalls;
+pub use code::put_routine;
+pub use laws::routines_do;
