@@ -1,5 +1,5 @@
 -- What one part more adds to the facts of parts.
-use Rattle.std.proofs.Common.{◌≡◌, ◌∙◌, ap, sym, refl, ℕ, ◌+◌, List, [], ◌∷◌, ◌++◌, Bool, true, false, Option, Some, max, append_assoc, append-nil, arith}
+use Rattle.std.proofs.Common.{◌≡◌, ◌∙◌, ap, sym, refl, ◌+◌, List, [], ◌∷◌, ◌++◌, Bool, true, false, Option, Some, max, append_assoc, append-nil, arith}
 use Rattle.std.specs.Prelude.{◌||◌}
 use Rattle.virt_base.specs.declared.core_type.CoreType.{CoreType}
 use Rattle.virt_base.specs.declared.core_type.CoreType.TheVariants.{I32}
@@ -8,8 +8,8 @@ use Rattle.wit_types.specs.Layout.{join, flat, flat_fields, flat_cases}
 use Rattle.wit_types.specs.Limits.{depth, greatest_depth, parts, all_parts}
 use Rattle.abi_layout.specs.Flat.{within, add_within, append_within, join_within}
 use Rattle.abi_layout.proofs.FlatLemmas.{append_within-within, add_within-twice, join_within-within, join_assoc}
-use Rattle.comp_rules.specs.Resources.{has_borrow, has_borrow_in}
-use Rattle.comp_rules.specs.Flat.{is_pointed, is_pointed_in}
+use Rattle.comp_facts.specs.Handles.{has_borrow, has_borrow_in, has_handle, has_handle_in}
+use Rattle.comp_facts.specs.Needs.{is_pointed, is_pointed_in}
 use Rattle.comp_facts.specs.Facts.{and_part, and_bare}
 
 pub depth-and : (ps : Parts) (n : Name) (t : Plain) → greatest_depth (and_part ps n t) ≡ max (greatest_depth ps) (depth t)
@@ -34,6 +34,11 @@ pub borrows-and : (ps : Parts) (n : Name) (t : Plain) → has_borrow_in (and_par
 borrows-and End n t = or_false (has_borrow t)
 borrows-and (More m u rest) n t = ap (λ b. has_borrow u || b) (borrows-and rest n t) ∙ sym (or_assoc (has_borrow u) (has_borrow_in rest) (has_borrow t))
 borrows-and (Bare m rest) n t = borrows-and rest n t
+
+pub handles-and : (ps : Parts) (n : Name) (t : Plain) → has_handle_in (and_part ps n t) ≡ (has_handle_in ps || has_handle t)
+handles-and End n t = or_false (has_handle t)
+handles-and (More m u rest) n t = ap (λ b. has_handle u || b) (handles-and rest n t) ∙ sym (or_assoc (has_handle u) (has_handle_in rest) (has_handle t))
+handles-and (Bare m rest) n t = handles-and rest n t
 
 pub pointed-and : (ps : Parts) (n : Name) (t : Plain) → is_pointed_in (and_part ps n t) ≡ (is_pointed_in ps || is_pointed t)
 pointed-and End n t = or_false (is_pointed t)
@@ -85,6 +90,11 @@ pub borrows-bare : (ps : Parts) (n : Name) → has_borrow_in (and_bare ps n) ≡
 borrows-bare End n = refl
 borrows-bare (More m u rest) n = ap (λ b. has_borrow u || b) (borrows-bare rest n)
 borrows-bare (Bare m rest) n = borrows-bare rest n
+
+pub handles-bare : (ps : Parts) (n : Name) → has_handle_in (and_bare ps n) ≡ has_handle_in ps
+handles-bare End n = refl
+handles-bare (More m u rest) n = ap (λ b. has_handle u || b) (handles-bare rest n)
+handles-bare (Bare m rest) n = handles-bare rest n
 
 pub pointed-bare : (ps : Parts) (n : Name) → is_pointed_in (and_bare ps n) ≡ is_pointed_in ps
 pointed-bare End n = refl

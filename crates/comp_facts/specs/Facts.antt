@@ -4,8 +4,8 @@ use Rattle.wit_types.specs.Plain.{Name, Plain, Parts, PlainFunc, End, More, Bare
 use Rattle.wit_types.specs.Layout.{flat, flat_fields, flat_cases}
 use Rattle.wit_types.specs.Limits.{depth, greatest_depth, parts, all_parts}
 use Rattle.abi_layout.specs.Flat.{types_of, within}
-use Rattle.comp_rules.specs.Resources.{has_borrow, has_borrow_in}
-use Rattle.comp_rules.specs.Flat.{is_pointed, is_pointed_in}
+use Rattle.comp_facts.specs.Handles.{has_borrow, has_borrow_in, has_handle, has_handle_in}
+use Rattle.comp_facts.specs.Needs.{is_pointed, is_pointed_in}
 use Rattle.comp_facts.specs.declared.facts.Facts.{Facts}
 use Rattle.comp_facts.specs.declared.funcs.FuncFacts.{FuncFacts}
 use Rattle.comp_facts.specs.declared.parts.PartFacts.{PartFacts}
@@ -15,6 +15,7 @@ pub record IsFactsOf (ty : Plain) (f : Facts) : Type 0 where
   pub depth : f.depth ≡ min (depth ty) 101
   pub parts : f.parts ≡ min (parts ty) 1000001
   pub borrows : f.borrows ≡ has_borrow ty
+  pub handles : f.handles ≡ has_handle ty
   pub pointed : f.pointed ≡ is_pointed ty
   pub flat : types_of f.flat ≡ within (flat ty)
 
@@ -23,6 +24,7 @@ pub record AreFactsOf (ps : Parts) (f : PartFacts) : Type 0 where
   pub depth : f.depth ≡ min (greatest_depth ps) 101
   pub parts : f.parts ≡ min (all_parts ps) 1000001
   pub borrows : f.borrows ≡ has_borrow_in ps
+  pub handles : f.handles ≡ has_handle_in ps
   pub pointed : f.pointed ≡ is_pointed_in ps
   pub fields : types_of f.fields ≡ within (flat_fields ps)
   pub cases : types_of f.cases ≡ within (flat_cases ps)

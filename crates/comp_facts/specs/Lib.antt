@@ -1,1 +1,5 @@
+pub mod Handles
+pub mod Needs
+pub mod Measures
+pub mod Primitives
 pub mod Facts

@@ -1,6 +1,6 @@
 ghost use Rattle.std.specs.Prelude.{◌≡◌, ℕ, ◌≤◌, List};
 ghost use Rattle.wit_types.specs.Plain.{Plain, Parts, Name, RecordForm, VariantForm, ListType, RecordType, VariantType, FlagsType, OwnType, BorrowType};
-ghost use Rattle.comp_rules.specs.Types.{primitive_type};
+ghost use Rattle.comp_facts.specs.Primitives.{primitive_type};
 
 use crate::parts::PartFacts;
 use abi_layout::{Flat, place_and_length, single, variant};
@@ -16,6 +16,8 @@ pub struct Facts {
     pub parts: u32,
     /// It has a borrowed handle.
     pub borrows: bool,
+    /// It has a handle, owned or borrowed.
+    pub handles: bool,
     /// It has a string or a list.
     pub pointed: bool,
     pub flat: Flat,
@@ -24,10 +26,11 @@ pub struct Facts {
 }
 
 /// A type without parts.
-fn leaf(borrows: bool, pointed: bool, flat: Flat) -> Facts
+fn leaf(borrows: bool, handles: bool, pointed: bool, flat: Flat) -> Facts
     ensures depth { result.depth ≡ 1 }
     ensures parts { result.parts ≡ 1 }
     ensures borrows { result.borrows ≡ borrows }
+    ensures handles { result.handles ≡ handles }
     ensures pointed { result.pointed ≡ pointed }
     ensures flat { result.flat ≡ flat }
 {
@@ -35,6 +38,7 @@ fn leaf(borrows: bool, pointed: bool, flat: Flat) -> Facts
         depth: 1,
         parts: 1,
         borrows,
+        handles,
         pointed,
         flat,
     }
@@ -47,36 +51,36 @@ impl Facts {
         ensures { IsFactsOf (primitive_type primitive) result }
     {
         match primitive {
-            Primitive::Bool => leaf(false, false, single(CoreType::I32)),
-            Primitive::S8 => leaf(false, false, single(CoreType::I32)),
-            Primitive::U8 => leaf(false, false, single(CoreType::I32)),
-            Primitive::S16 => leaf(false, false, single(CoreType::I32)),
-            Primitive::U16 => leaf(false, false, single(CoreType::I32)),
-            Primitive::S32 => leaf(false, false, single(CoreType::I32)),
-            Primitive::U32 => leaf(false, false, single(CoreType::I32)),
-            Primitive::S64 => leaf(false, false, single(CoreType::I64)),
-            Primitive::U64 => leaf(false, false, single(CoreType::I64)),
-            Primitive::Char => leaf(false, false, single(CoreType::I32)),
-            Primitive::String => leaf(false, true, place_and_length()),
+            Primitive::Bool => leaf(false, false, false, single(CoreType::I32)),
+            Primitive::S8 => leaf(false, false, false, single(CoreType::I32)),
+            Primitive::U8 => leaf(false, false, false, single(CoreType::I32)),
+            Primitive::S16 => leaf(false, false, false, single(CoreType::I32)),
+            Primitive::U16 => leaf(false, false, false, single(CoreType::I32)),
+            Primitive::S32 => leaf(false, false, false, single(CoreType::I32)),
+            Primitive::U32 => leaf(false, false, false, single(CoreType::I32)),
+            Primitive::S64 => leaf(false, false, false, single(CoreType::I64)),
+            Primitive::U64 => leaf(false, false, false, single(CoreType::I64)),
+            Primitive::Char => leaf(false, false, false, single(CoreType::I32)),
+            Primitive::String => leaf(false, false, true, place_and_length()),
         }
     }
 
     pub fn own() -> Facts
         ensures { (r : ℕ) → IsFactsOf (OwnType r) result }
     {
-        leaf(false, false, single(CoreType::I32))
+        leaf(false, true, false, single(CoreType::I32))
     }
 
     pub fn borrow() -> Facts
         ensures { (r : ℕ) → IsFactsOf (BorrowType r) result }
     {
-        leaf(true, false, single(CoreType::I32))
+        leaf(true, true, false, single(CoreType::I32))
     }
 
     pub fn flags() -> Facts
         ensures { (labels : List Name) → IsFactsOf (FlagsType labels) result }
     {
-        leaf(false, false, single(CoreType::I32))
+        leaf(false, false, false, single(CoreType::I32))
     }
 
     /// A list of such items.
@@ -87,6 +91,7 @@ impl Facts {
             depth: u32::min(item.depth + 1, 101),
             parts: u32::min(item.parts + 1, 1_000_001),
             borrows: item.borrows,
+            handles: item.handles,
             pointed: true,
             flat: place_and_length(),
         }
@@ -100,6 +105,7 @@ impl Facts {
             depth: u32::min(fields.depth + 1, 101),
             parts: u32::min(fields.parts + 1, 1_000_001),
             borrows: fields.borrows,
+            handles: fields.handles,
             pointed: fields.pointed,
             flat: fields.fields,
         }
@@ -113,6 +119,7 @@ impl Facts {
             depth: u32::min(cases.depth + 1, 101),
             parts: u32::min(cases.parts + 1, 1_000_001),
             borrows: cases.borrows,
+            handles: cases.handles,
             pointed: cases.pointed,
             flat: variant(&cases.cases),
         }

@@ -1,8 +1,9 @@
 ghost use Rattle.std.specs.Prelude.{◌≡◌, ◌≤◌, false, min, nat_lt, IfSome};
 ghost use Rattle.wit_types.specs.Plain.{PlainFunc};
 ghost use Rattle.abi_layout.specs.Functions.{params_spill, result_spills};
-ghost use Rattle.comp_types.specs.Measures.{func_depth, func_parts, answer_depth, answer_parts};
-ghost use Rattle.comp_rules.specs.Flat.{needs_memory, lift_needs_realloc, lower_needs_realloc, is_pointed_answer};
+ghost use Rattle.comp_facts.specs.Measures.{func_depth, func_parts, answer_depth, answer_parts};
+ghost use Rattle.comp_facts.specs.Handles.{func_has_handle};
+ghost use Rattle.comp_facts.specs.Needs.{needs_memory, lift_needs_realloc, lower_needs_realloc, is_pointed_answer};
 
 use crate::facts::Facts;
 use crate::parts::PartFacts;
@@ -65,6 +66,17 @@ impl FuncFacts {
             None => false,
             Some(answer) => answer.pointed,
         }
+    }
+
+    /// Whether it has a handle, owned or borrowed.
+    pub fn has_handle(&self) -> bool
+        ensures { (ty : PlainFunc) → IsFuncFactsOf ty self.now → result ≡ func_has_handle ty }
+    {
+        let answer = match &self.answer {
+            None => false,
+            Some(answer) => answer.handles,
+        };
+        self.params.handles || answer
     }
 
     /// Whether a canonical function of this type needs a memory.

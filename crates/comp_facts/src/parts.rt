@@ -12,6 +12,8 @@ pub struct PartFacts {
     /// The parts of all of them; 1,000,001 stands for more than 1,000,000.
     pub parts: u32,
     pub borrows: bool,
+    /// A handle is in one of them, owned or borrowed.
+    pub handles: bool,
     pub pointed: bool,
     /// The flat types of the fields, one behind another.
     pub fields: Flat,
@@ -38,6 +40,7 @@ impl PartFacts {
             depth: 0,
             parts: 0,
             borrows: false,
+            handles: false,
             pointed: false,
             fields: Flat::empty(),
             cases: Flat::empty(),
@@ -55,6 +58,7 @@ impl PartFacts {
             depth: u32::max(self.depth, ty.depth),
             parts: u32::min(self.parts + ty.parts, 1_000_001),
             borrows: either(self.borrows, ty.borrows),
+            handles: either(self.handles, ty.handles),
             pointed: either(self.pointed, ty.pointed),
             fields,
             cases: joined(&self.cases, &ty.flat),

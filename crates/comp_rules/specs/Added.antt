@@ -32,10 +32,10 @@ use Rattle.core_validate.specs.declared.item.CoreExport.{CoreExport}
 use Rattle.core_validate.specs.declared.item.ModuleType.{ModuleType}
 use Rattle.core_validate.specs.Typed as core
 use Rattle.wit_types.specs.Plain.{Name, PlainFunc}
-use Rattle.comp_types.specs.Items.{Item, Kind, Entries, Signature, FuncItem, InstanceItem, KindItem, ResourceKind, InstanceKind, End, More, look_up}
+use Rattle.comp_types.specs.Items.{Item, Kind, Entries, Signature, FuncItem, InstanceItem, KindItem, ResourceKind, InstanceKind, End, More, look_up, and_entry}
 use Rattle.comp_grammar.specs.Trees.{Part, Tree, CoreModule, Nested, End as NoParts, More as Section}
 use Rattle.comp_rules.specs.Declarations.{Declaration, Declarations, ATypeDef, AnInstanceType, ATypeAlias, ATypeExport, Done, Then}
-use Rattle.comp_rules.specs.Spaces.{Space, TypeEntry, NestedComponent, empty_space, core_item_at, kind_at, item_at, and_entry, and_core_item, and_type, entry_of, and_item}
+use Rattle.comp_rules.specs.Spaces.{Space, TypeEntry, NestedComponent, empty_space, core_item_at, kind_at, item_at, and_core_item, and_type, entry_of, and_item}
 use Rattle.comp_rules.specs.Resources.{without, named_in, distinct, numbered, renamed, given_by}
 use Rattle.comp_rules.specs.Types.{func_in, instance_in, kind_of}
 use Rattle.comp_rules.specs.Flat.{lowered_type}

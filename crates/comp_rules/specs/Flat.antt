@@ -1,9 +1,7 @@
--- The core types of lifted and lowered functions, and what these need of their options (Canonical ABI, "Flattening" and
--- "canon lift"; Component Model, Explainer.md, "Canonical ABI").
-use Rattle.std.specs.Prelude.{Bool, true, false, ◌||◌, Option, Some, None}
+-- The core types of lifted and lowered functions (Canonical ABI, "Flattening").
 use Rattle.wasm_ast.specs.declared.module.CoreFunc.{CoreFunc}
-use Rattle.wit_types.specs.Plain.{Plain, Parts, PlainFunc, StringType, ListType, RecordType, VariantType, End, More, Bare}
-use Rattle.abi_layout.specs.Functions.{FlatFunc, lifted, lowered, params_spill, result_spills}
+use Rattle.wit_types.specs.Plain.{PlainFunc}
+use Rattle.abi_layout.specs.Functions.{FlatFunc, lifted, lowered}
 
 abbrev pub core_type : FlatFunc → CoreFunc
 core_type f = record { params = f.params; results = f.results }
@@ -13,35 +11,3 @@ lifted_type ty = core_type (lifted ty)
 
 abbrev pub lowered_type : PlainFunc → CoreFunc
 lowered_type ty = core_type (lowered ty)
-
--- ---- what lies in memory
-
--- a string or a list stands in the type
-abbrev mutual
-  pub is_pointed : Plain → Bool
-  is_pointed StringType = true
-  is_pointed (ListType item) = true
-  is_pointed (RecordType form fields) = is_pointed_in fields
-  is_pointed (VariantType form cases) = is_pointed_in cases
-  is_pointed _ = false
-
-  pub is_pointed_in : Parts → Bool
-  is_pointed_in End = false
-  is_pointed_in (More name ty rest) = is_pointed ty || is_pointed_in rest
-  is_pointed_in (Bare name rest) = is_pointed_in rest
-
-abbrev pub is_pointed_answer : Option Plain → Bool
-is_pointed_answer None = false
-is_pointed_answer (Some ty) = is_pointed ty
-
--- of lifted and lowered functions alike
-abbrev pub needs_memory : PlainFunc → Bool
-needs_memory ty = (is_pointed_in ty.params || is_pointed_answer ty.answer) || (params_spill ty || result_spills ty)
-
--- what a lifted function is given is stored into its own instance
-abbrev pub lift_needs_realloc : PlainFunc → Bool
-lift_needs_realloc ty = is_pointed_in ty.params || params_spill ty
-
--- so is what a lowered function answers, but its spilled results go to the caller's place
-abbrev pub lower_needs_realloc : PlainFunc → Bool
-lower_needs_realloc ty = is_pointed_answer ty.answer

@@ -56,20 +56,6 @@ abbrev pub distinct : List ℕ → List ℕ
 distinct [] = []
 distinct (r ∷ rs) = r ∷ filter (λ x. not (x == r)) (distinct rs)
 
--- a type has a borrowed handle in it
-abbrev mutual
-  pub has_borrow : Plain → Bool
-  has_borrow (ListType item) = has_borrow item
-  has_borrow (RecordType form fields) = has_borrow_in fields
-  has_borrow (VariantType form cases) = has_borrow_in cases
-  has_borrow (BorrowType r) = true
-  has_borrow _ = false
-
-  pub has_borrow_in : Parts → Bool
-  has_borrow_in NoParts = false
-  has_borrow_in (Part name ty rest) = has_borrow ty || has_borrow_in rest
-  has_borrow_in (Bare name rest) = has_borrow_in rest
-
 -- ---- new numbers
 
 -- the numbers from the next one on, for resources in order

@@ -49,6 +49,8 @@ use Rattle.comp_names.specs.declared.names.Annotation.TheVariants as annotations
 use Rattle.comp_names.specs.Labels.{is_label}
 use Rattle.comp_names.specs.Names.{is_legal, annotation_of}
 use Rattle.comp_names.specs.Same.{is_same_name}
+use Rattle.comp_facts.specs.Handles.{has_borrow}
+use Rattle.comp_facts.specs.Needs.{needs_memory, lift_needs_realloc, lower_needs_realloc}
 use Rattle.comp_types.specs.Items.{Item, Kind, Entries, FuncItem, InstanceItem, KindItem, ResourceKind, ValueKind, FuncKind, InstanceKind, End, More, look_up, names}
 use Rattle.comp_types.specs.Measures.{kind_depth, kind_parts}
 use Rattle.comp_types.specs.Equality.{IsEqualType, IsSameItem, HasEach}
@@ -56,9 +58,9 @@ use Rattle.comp_types.specs.Subtyping.{IsSubtype}
 use Rattle.comp_rules.specs.declared.lengths.Lengths.{Lengths}
 use Rattle.comp_rules.specs.Declarations.{Declaration, ATypeDef, AnInstanceType, ATypeAlias, ATypeExport}
 use Rattle.comp_rules.specs.Spaces.{Space, TypeEntry, NestedComponent, core_func_at, kind_at, item_at}
-use Rattle.comp_rules.specs.Resources.{is_among, named_in_kind, named_in_func, has_borrow}
+use Rattle.comp_rules.specs.Resources.{is_among, named_in_kind, named_in_func}
 use Rattle.comp_rules.specs.Types.{value_of, func_in, instance_in, kind_of}
-use Rattle.comp_rules.specs.Flat.{lifted_type, needs_memory, lift_needs_realloc, lower_needs_realloc}
+use Rattle.comp_rules.specs.Flat.{lifted_type}
 use Rattle.comp_rules.specs.CoreMatching.{same_func, same_text, meets, core_look_up}
 use Rattle.comp_rules.specs.Definitions.{Definition, ACoreInstance, AnInstance, AnAlias, AType, ACanon, AnImport, AnExport}
 use Rattle.comp_rules.specs.Added.{named_items, described, exported}

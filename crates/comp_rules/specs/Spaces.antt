@@ -99,10 +99,6 @@ item_at s sorts.Instance i = option_map InstanceItem (slice_get s.instances i)
 
 -- ---- one more
 
-abbrev pub and_entry : Entries → Name → Item → Entries
-and_entry End name item = More name item End
-and_entry (More n i rest) name item = More n i (and_entry rest name item)
-
 abbrev pub and_core_item : Space → CoreItem → Space
 and_core_item s (core_items.Func ty) = record s { core_functions = s.core_functions ++ core_items.Func ty ∷ [] }
 and_core_item s (core_items.Table ty limits) = record s { core_tables = s.core_tables ++ core_items.Table ty limits ∷ [] }

@@ -2,30 +2,16 @@
 -- in its place, so that what is asked of the rest can still be asked.
 use Rattle.std.specs.Prelude.{ℕ, List, [], ◌∷◌, Option, Some, None, map}
 use Rattle.std.specs.Option.{option_map}
-use Rattle.wasm_ast.specs.declared.component.Primitive.{Primitive}
-use Rattle.wasm_ast.specs.declared.component.Primitive.TheVariants as primitives
 use Rattle.wasm_ast.specs.declared.component.ValType.{ValType}
 use Rattle.wasm_ast.specs.declared.component.ValType.TheVariants as values
 use Rattle.wasm_ast.specs.declared.component.LabelType.{LabelType}
 use Rattle.wasm_ast.specs.declared.component.CaseType.{CaseType}
 use Rattle.wasm_ast.specs.declared.component.TypeDef.{TypeDef}
 use Rattle.wasm_ast.specs.declared.component.TypeDef.TheVariants as defs
-use Rattle.wit_types.specs.Plain.{OneByte, TwoBytes, FourBytes, EightBytes, AsRecord, AsTuple, AsVariant, AsEnum, AsOption, AsResult, Plain, Parts, PlainFunc, BoolType, SignedType, UnsignedType, CharType, StringType, ListType, RecordType, VariantType, FlagsType, OwnType, BorrowType, End, More, Bare, bare, case_part}
+use Rattle.wit_types.specs.Plain.{AsRecord, AsTuple, AsVariant, AsEnum, AsOption, AsResult, Plain, Parts, PlainFunc, BoolType, ListType, RecordType, VariantType, FlagsType, OwnType, BorrowType, End, More, Bare, bare, case_part}
+use Rattle.comp_facts.specs.Primitives.{primitive_type}
 use Rattle.comp_types.specs.Items.{Kind, Entries, ResourceKind, ValueKind, FuncKind, InstanceKind, End as NoEntries}
 use Rattle.comp_rules.specs.Spaces.{Space, kind_at}
-
-abbrev pub primitive_type : Primitive → Plain
-primitive_type primitives.Bool = BoolType
-primitive_type primitives.S8 = SignedType OneByte
-primitive_type primitives.U8 = UnsignedType OneByte
-primitive_type primitives.S16 = SignedType TwoBytes
-primitive_type primitives.U16 = UnsignedType TwoBytes
-primitive_type primitives.S32 = SignedType FourBytes
-primitive_type primitives.U32 = UnsignedType FourBytes
-primitive_type primitives.S64 = SignedType EightBytes
-primitive_type primitives.U64 = UnsignedType EightBytes
-primitive_type primitives.Char = CharType
-primitive_type primitives.String = StringType
 
 -- ---- what an index names
 

@@ -2,7 +2,7 @@
 -- resource; the names of parameters do not, nor does the order of the entries of an instance. In each relation `Meets x y` says
 -- that the resource x of the first type may stand where the second type has the resource y.
 use Rattle.std.specs.Prelude.{◌≡◌, ℕ, List, Contains, All, Bool, IsTrue, ⊤, ◌⊎◌, Option as Opt, Some, None}
-use Rattle.wit_types.specs.Plain.{Plain, Parts, PlainFunc, BoolType, SignedType, UnsignedType, CharType, StringType, ListType, RecordType, VariantType, FlagsType, OwnType, BorrowType, End as NoParts, More as Part, Bare}
+use Rattle.wit_types.specs.Plain.{Plain, Parts, PlainFunc, ListType, RecordType, VariantType, OwnType, BorrowType, End as NoParts, More as Part, Bare}
 use Rattle.comp_types.specs.Items.{Item, Kind, Entries, FuncItem, InstanceItem, KindItem, ResourceKind, ValueKind, FuncKind, InstanceKind, End, More, look_up, names}
 
 -- ---- value types and functions

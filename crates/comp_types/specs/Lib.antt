@@ -3,3 +3,9 @@ pub mod Equality
 pub mod Subtyping
 pub mod Substitution
 pub mod Measures
+pub mod Resources
+pub mod Codes
+pub mod Sizes
+pub mod Views
+pub mod Kept
+pub mod Falls

@@ -9,6 +9,7 @@ returns c = λ form ps h. record {
   depth = omega (arith, c.min.ensures, h.depth);
   parts = omega (arith, c.min-2.ensures, h.parts);
   borrows = h.borrows;
+  handles = h.handles;
   pointed = h.pointed;
   flat = numbered (flat_cases ps) (types_of c.args.cases.now.cases) (types_of c.variant.result) c.variant.ensures h.cases;
 }
