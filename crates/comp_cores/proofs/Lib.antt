@@ -1,0 +1,4 @@
+pub mod EachLemmas
+pub mod NamedLemmas
+pub mod ArgumentLemmas
+pub mod JudgedLemmas
