@@ -13,6 +13,7 @@ use Rattle.wasm_ast.specs.declared.component.Canon.{Canon}
 use Rattle.wasm_ast.specs.declared.component.ComponentImport.{ComponentImport}
 use Rattle.wasm_ast.specs.declared.component.ComponentExport.{ComponentExport}
 use Rattle.wasm_ast.specs.declared.module.Module.{Module}
+use Rattle.wasm_ast.specs.Boxed.{Held}
 use Rattle.comp_grammar.specs.Trees.{CoreModule, Nested, CoreInstances, Instances, Aliases, Types, Canons, Imports, Exports, Custom, More, plain_section, plain_row, plain_sections, plain}
 use Rattle.comp_grammar.specs.Components.{add}
 
@@ -53,7 +54,7 @@ pub plain-Exports : (items : List ComponentExport) → plain_section (sections.E
 unfolding plain_section
 plain-Exports items = refl
 
-pub plain-CoreModule : (span : Span) (m : Module) → plain_section (sections.CoreModule span m) ≡ CoreModule span m
+pub plain-CoreModule : (span : Span) (m : Held Module) → plain_section (sections.CoreModule span m) ≡ CoreModule span m.value
 unfolding plain_section
 plain-CoreModule span m = refl
 

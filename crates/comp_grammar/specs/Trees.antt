@@ -34,7 +34,7 @@ mutual
 
 unfoldable mutual
   pub plain_section : Section → Part
-  plain_section (sections.CoreModule span m) = CoreModule span m
+  plain_section (sections.CoreModule span m) = CoreModule span m.value
   plain_section (sections.Nested' span shape row) = Nested span (plain_row row)
   plain_section (sections.CoreInstances items) = CoreInstances items
   plain_section (sections.Instances items) = Instances items

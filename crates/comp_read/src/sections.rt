@@ -13,7 +13,7 @@ use comp_items::{
 use core_read::CoreModules;
 use std::alloc::Global;
 use virt_base::Cursor;
-use wasm_ast::{Module, Section, Span};
+use wasm_ast::{Boxed, Module, Section, Span};
 use wasm_format::{Reader, Sized, Spanned, Spanning, Stop, Vecs, take_name};
 
 /// The content of custom sections, of which only the name is looked at.
@@ -93,8 +93,8 @@ pub fn low_section(alloc: Global, c: &mut Cursor<'_>, id: u8) -> Result<Section,
     match id {
         0 => Ok(Section::Custom(read_custom(alloc, c)?)),
         1 => {
-            let placed = read_core_module(alloc, c)?;
-            Ok(Section::CoreModule(placed.0, placed.1))
+            let (span, module) = read_core_module(alloc, c)?;
+            Ok(Section::CoreModule(span, Boxed::new(alloc, module)?))
         }
         2 => Ok(Section::CoreInstances(Sized(Vecs(CoreInstanceReader)).read(alloc, c)?)),
         _ => Err(lacks(c, id)),

@@ -1,3 +1,4 @@
+use crate::boxed::Boxed;
 use crate::module::Module;
 use virt_base::{Items, Text};
 
@@ -252,7 +253,7 @@ pub struct ComponentExport {
 #[cycle(component)]
 #[derive(Debug, Drop)]
 pub enum Section {
-    CoreModule(Span, Module),
+    CoreModule(Span, Boxed<Module>),
     Nested(Span, Component),
     CoreInstances(Items<CoreInstance>),
     Instances(Items<Instance>),
