@@ -25,10 +25,6 @@ followed-push : (xs : List Value) (x : Value) (ys : PlainValues) → followed (v
 followed-push [] x ys = refl
 followed-push (v ∷ xs) x ys = ap (Values (plain_value v)) (followed-push xs x ys)
 
-pub behind-start : (o : Option PlainValues) → o ≡ behind NoValues o
-behind-start None = refl
-behind-start (Some ys) = refl
-
 behind-push : (xs ys : List Value) (x : Value) (rest : Option PlainValues) → ys ≡ xs ++ x ∷ [] → behind (values_of xs) (option_map (Values (plain_value x)) rest) ≡ behind (values_of ys) rest
 behind-push xs ys x None is = refl
 behind-push xs ys x (Some vs) is = ap Some (sym (followed-push xs x vs)) ∙ ap (λ (v : List Value). Some (followed (values_of v) vs)) (sym is)
@@ -47,9 +43,6 @@ ended due o xs so is = so ∙ ap (behind (values_of xs)) is ∙ ap Some (followe
 
 -- ---- items of one size
 
-pub items_start : (load : ℕ → Option PlainValue) (size place n m : ℕ) (xs : List Value) → xs ≡ [] → m ≡ n → items_at load size place n ≡ behind (values_of xs) (items_at load size place m)
-items_start load size place n m xs none same = behind-start (items_at load size place n) ∙ ap (λ (v : List Value). behind (values_of v) (items_at load size place n)) (sym none) ∙ ap (λ k. behind (values_of xs) (items_at load size place k)) (sym same)
-
 items_step : (load : ℕ → Option PlainValue) (size at m k : ℕ) → m ≡ k + 1 → items_at load size at m ≡ option_and_then (λ v. option_map (Values v) (items_at load size (at + size) k)) (load at)
 items_step load size at m k is = ap (items_at load size at) (is ∙ add-one k)
 
@@ -65,11 +58,6 @@ items_end load size at m due xs so is = ended due (items_at load size at m) xs s
 
 -- ---- fields
 
-pub fields_start : (m : List ℕ) (ps qs : Parts) (at offset : ℕ) (xs : List Value) → xs ≡ [] → qs ≡ ps → offset ≡ 0 → fields_at m ps at 0 ≡ behind (values_of xs) (fields_at m qs at offset)
-fields_start m ps qs at offset xs none same zero_is =
-    behind-start (fields_at m ps at 0) ∙ ap (λ (v : List Value). behind (values_of v) (fields_at m ps at 0)) (sym none)
-    ∙ ap (λ (v : Parts). behind (values_of xs) (fields_at m v at 0)) (sym same) ∙ ap (λ k. behind (values_of xs) (fields_at m qs at k)) (sym zero_is)
-
 parts_more : (m : List ℕ) (due : Option PlainValues) (ps rest : Parts) (name : List ℕ) (ty : Plain) (at offset start next : ℕ) (xs ys : List Value) (x : Value) →
     due ≡ behind (values_of xs) (fields_at m ps at offset) → ps ≡ More name ty rest → start ≡ align_to offset (alignment ty) → next ≡ start + size ty → loads_at m ty (at + start) ≡ Some (plain_value x) → ys ≡ xs ++ x ∷ [] →
     due ≡ behind (values_of ys) (fields_at m rest at next)
@@ -77,12 +65,6 @@ parts_more m due ps rest name ty at offset start next xs ys x so is begin end on
     let put : loads_at m ty (at + align_to offset (alignment ty)) ≡ Some (plain_value x) = ap (λ k. loads_at m ty (at + k)) (sym begin) ∙ one in
     more due (fields_at m ps at offset) (fields_at m rest at (align_to offset (alignment ty) + size ty)) (loads_at m ty (at + align_to offset (alignment ty))) xs ys x so (ap (λ (v : Parts). fields_at m v at offset) is) put push
     ∙ ap (λ k. behind (values_of ys) (fields_at m rest at k)) (ap (λ k. k + size ty) (sym begin) ∙ sym end)
-
-parts_stop : (m : List ℕ) (due : Option PlainValues) (ps rest : Parts) (name : List ℕ) (ty : Plain) (at offset start : ℕ) (xs : List Value) →
-    due ≡ behind (values_of xs) (fields_at m ps at offset) → ps ≡ More name ty rest → start ≡ align_to offset (alignment ty) → loads_at m ty (at + start) ≡ None → due ≡ None
-parts_stop m due ps rest name ty at offset start xs so is begin one =
-    let none : loads_at m ty (at + align_to offset (alignment ty)) ≡ None = ap (λ k. loads_at m ty (at + k)) (sym begin) ∙ one in
-    stopped due (fields_at m ps at offset) (fields_at m rest at (align_to offset (alignment ty) + size ty)) (loads_at m ty (at + align_to offset (alignment ty))) xs so (ap (λ (v : Parts). fields_at m v at offset) is) none
 
 pub fields_cut : (fs : List Field) (i : ℕ) (f : Field) → i < length fs → f ≡ get_or fs i f → fields_of (drop i fs) ≡ More (out-Field f).name (plain (out-Field f).ty) (fields_of (drop (i + 1) fs))
 fields_cut fs i f lt is =
@@ -100,21 +82,11 @@ pub fields_more : (m : List ℕ) (due : Option PlainValues) (fs : List Field) (i
 fields_more m due fs i f at offset start next xs ys x lt here so begin end one push =
     parts_more m due (fields_of (drop i fs)) (fields_of (drop (i + 1) fs)) (out-Field f).name (plain (out-Field f).ty) at offset start next xs ys x so (fields_cut fs i f lt here) begin end one push
 
-pub fields_stop : (m : List ℕ) (due : Option PlainValues) (fs : List Field) (i : ℕ) (f : Field) (at offset start : ℕ) (xs : List Value) → i < length fs → f ≡ get_or fs i f →
-    due ≡ behind (values_of xs) (fields_at m (fields_of (drop i fs)) at offset) → start ≡ align_to offset (alignment (plain (out-Field f).ty)) → loads_at m (plain (out-Field f).ty) (at + start) ≡ None → due ≡ None
-fields_stop m due fs i f at offset start xs lt here so begin one =
-    parts_stop m due (fields_of (drop i fs)) (fields_of (drop (i + 1) fs)) (out-Field f).name (plain (out-Field f).ty) at offset start xs so (fields_cut fs i f lt here) begin one
-
 pub types_more : (m : List ℕ) (due : Option PlainValues) (ts : List WitType) (i : ℕ) (t : WitType) (at offset start next : ℕ) (xs ys : List Value) (x : Value) → i < length ts → t ≡ get_or ts i t →
     due ≡ behind (values_of xs) (fields_at m (types_of (drop i ts)) at offset) → start ≡ align_to offset (alignment (plain t)) → next ≡ start + size (plain t) →
     loads_at m (plain t) (at + start) ≡ Some (plain_value x) → ys ≡ xs ++ x ∷ [] → due ≡ behind (values_of ys) (fields_at m (types_of (drop (i + 1) ts)) at next)
 types_more m due ts i t at offset start next xs ys x lt here so begin end one push =
     parts_more m due (types_of (drop i ts)) (types_of (drop (i + 1) ts)) [] (plain t) at offset start next xs ys x so (types_cut ts i t lt here) begin end one push
-
-pub types_stop : (m : List ℕ) (due : Option PlainValues) (ts : List WitType) (i : ℕ) (t : WitType) (at offset start : ℕ) (xs : List Value) → i < length ts → t ≡ get_or ts i t →
-    due ≡ behind (values_of xs) (fields_at m (types_of (drop i ts)) at offset) → start ≡ align_to offset (alignment (plain t)) → loads_at m (plain t) (at + start) ≡ None → due ≡ None
-types_stop m due ts i t at offset start xs lt here so begin one =
-    parts_stop m due (types_of (drop i ts)) (types_of (drop (i + 1) ts)) [] (plain t) at offset start xs so (types_cut ts i t lt here) begin one
 
 pub fields_end : (m : List ℕ) (due : Option PlainValues) (ps : Parts) (at offset : ℕ) (xs : List Value) → due ≡ behind (values_of xs) (fields_at m ps at offset) → ps ≡ End → due ≡ Some (values_of xs)
 fields_end m due ps at offset xs so is = ended due (fields_at m ps at offset) xs so (ap (λ (v : Parts). fields_at m v at offset) is)

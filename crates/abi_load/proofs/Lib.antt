@@ -1,8 +1,8 @@
 pub mod Views
-pub mod Numbers
 pub mod Runs
 pub mod Strings
 pub mod Chains
 pub mod Steps
 pub mod Payloads
 pub mod Sizes
+pub mod Lifts

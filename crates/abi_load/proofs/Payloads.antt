@@ -1,5 +1,5 @@
 -- The payload of a case by the lists of a type's cases.
-use Rattle.std.proofs.Common.{◌≡◌, ℕ, ◌+◌, ◌<◌, ◌≤◌, ap, refl, sym, ◌∙◌, max, List, [], ◌∷◌, length, get_or, Option, Some, None, arith, suc, zero, inl, inr, subst}
+use Rattle.std.proofs.Common.{◌≡◌, ℕ, ◌+◌, ◌<◌, ◌≤◌, ap, refl, sym, ◌∙◌, max, List, [], ◌∷◌, length, get_or, Option, Some, None, arith, suc, zero, inl, inr}
 use Rattle.std.specs.Prelude.{option_map, option_and_then, if◌then◌else◌, nat_lt, ◌==◌, Box}
 use Rattle.std.proofs.lemmas.Bool.{cases_lt}
 use Rattle.std.proofs.lemmas.Bool.Decides.{nat_tests}
@@ -18,10 +18,10 @@ use Rattle.wit_types.specs.Limits.{all_parts}
 use Rattle.wit_types.proofs.PlainLemmas.{plain-Enum, plain-Result}
 use Rattle.abi_layout.proofs.LayoutLemmas.{count-bare, count-cases_of, count-two, greatest_alignment-two, all_parts-case_part, alignment_bounds}
 use Rattle.wit_types.specs.Plain.{VariantType, AsEnum, plain, Name, Plain, Parts, End, More, Bare, bare, payload_of, cases_of, case_part}
-use Rattle.wit_types.specs.PlainValue.{PlainValue, VariantValue, Payload, Without, With, plain_value}
+use Rattle.wit_types.specs.PlainValue.{PlainValue, VariantValue, Without, With, plain_value}
 use Rattle.abi_layout.specs.Loading.{read, case_at, loads_at, payload_offset}
 use Rattle.abi_load.specs.Loaded.{payload_at, chosen_at, variant_at, enum_at}
-use Rattle.abi_load.proofs.Steps.{variant_of, variant_none, variant_unread, variant_leads}
+use Rattle.abi_load.proofs.Steps.{variant_of, variant_none, variant_leads}
 
 pub first_case : (m : List ℕ) (name : Name) (p : Option Plain) (rest : Parts) (at : ℕ) → case_at m (case_part name p rest) zero at ≡ payload_at m p at
 first_case m name None rest at = refl
@@ -96,12 +96,6 @@ payload_parts [] n d lt = absurd (omega arith)
 payload_parts (c ∷ cs) zero d lt = omega (arith, all_parts-case_part (out-Case c).name (payload_of (out-Case c).ty) (cases_of cs))
 payload_parts (c ∷ cs) (suc n) d lt = omega (arith, all_parts-case_part (out-Case c).name (payload_of (out-Case c).ty) (cases_of cs), payload_parts cs n d (omega arith))
 
-pub payload_parts_at : (cs : List Case) (n : ℕ) (c : Case) → n < length cs → c ≡ get_or cs n c → all_parts (case_part [] (payload_of (out-Case c).ty) End) ≤ all_parts (cases_of cs)
-payload_parts_at cs n c lt is = subst (λ (z : Case). all_parts (case_part [] (payload_of (out-Case z).ty) End) ≤ all_parts (cases_of cs)) (sym is) (payload_parts cs n c lt)
-
-pub case_of : (m : List ℕ) (cs : List Case) (n at : ℕ) (c : Case) (o : Option Payload) → n < length cs → c ≡ get_or cs n c → payload_at m (payload_of (out-Case c).ty) at ≡ o → case_at m (cases_of cs) n at ≡ o
-case_of m cs n at c o lt is so = case_at-cases_of m cs n at c lt ∙ ap (λ (z : Case). payload_at m (payload_of (out-Case z).ty) at) (sym is) ∙ so
-
 -- ---- an option
 
 pub option_offset : (p : Plain) (align offset : ℕ) → align ≡ alignment p → offset ≡ align_to (discriminant_size 2) align → offset ≡ payload_offset (Bare [] (More [] p End))
@@ -155,15 +149,8 @@ result_past m p q at n is past =
     let place = at + payload_offset (case_part [] p (case_part [] q End)) in
     variant_none m (case_part [] p (case_part [] q End)) at 1 n place (two_wide p q) refl is (case_at-two m p q n place past)
 
-pub result_unread : (m : List ℕ) (p q : Option Plain) (at : ℕ) → read m at 1 ≡ None → variant_at m (case_part [] p (case_part [] q End)) at ≡ None
-result_unread m p q at is = variant_unread m (case_part [] p (case_part [] q End)) at 1 (two_wide p q) is
-
 pub result_loaded : (m : List ℕ) (ty : WitType) (ok err : Option (Rc WitType Global)) (at : ℕ) → ty ≡ Results ok err → loads_at m (plain ty) at ≡ variant_at m (case_part [] (payload_of ok) (case_part [] (payload_of err) End)) at
 result_loaded m ty ok err at is = ap (λ (p : Plain). loads_at m p at) (ap (λ (w : WitType). plain w) is ∙ plain-Result ok err)
-
--- the case that the number names
-pub named : (n : ℕ) (p q : Option Plain) → n ≡ 0 → (if n == 0 then p else q) ≡ p
-named n p q is = ap (λ (k : ℕ). if k == 0 then p else q) is
 
 pub other_named : (n : ℕ) (p q : Option Plain) → 0 < n → (if n == 0 then p else q) ≡ q
 other_named n p q some = grind (arith, nat_tests)

@@ -8,7 +8,7 @@ use Rattle.wit_types.specs.declared.types.Cases.{Cases, out-Cases}
 use Rattle.wit_types.specs.declared.types.Types.{Types}
 use Rattle.wit_types.specs.declared.types.WitType.{WitType}
 use Rattle.wit_types.specs.declared.types.WitType.TheVariants.{Record, Tuple, Variant, List as Listed, Option as Optional, Result as Results}
-use Rattle.wit_types.specs.Plain.{RecordType, VariantType, ListType, AsRecord, AsTuple, AsVariant, AsOption, AsResult, End, More, Bare, plain, payload_of, case_part, fields_of, types_of, cases_of}
+use Rattle.wit_types.specs.Plain.{RecordType, VariantType, AsRecord, AsTuple, AsVariant, AsOption, AsResult, End, More, Bare, plain, payload_of, case_part, fields_of, types_of, cases_of}
 use Rattle.wit_types.specs.Limits.{parts, all_parts}
 use Rattle.wit_types.proofs.PlainLemmas.{plain-Record, plain-Tuple, plain-Variant, plain-Option, plain-Result, plain-List}
 
@@ -23,9 +23,6 @@ plain_is-Variant ty cs c xs is held same = rw (is, plain-Variant, same, held) re
 
 pub plain_is-Option : (ty : WitType) (b : Rc WitType Global) (t : WitType) → ty ≡ Optional b → t ≡ b.value → plain ty ≡ VariantType AsOption (Bare [] (More [] (plain t) End))
 plain_is-Option ty b t is held = rw (is, plain-Option, held) refl
-
-pub plain_is-List : (ty : WitType) (b : Rc WitType Global) (t : WitType) → ty ≡ Listed b → t ≡ b.value → plain ty ≡ ListType (plain t)
-plain_is-List ty b t is held = rw (is, plain-List, held) refl
 
 pub plain_is-Result : (ty : WitType) (ok err : Option (Rc WitType Global)) → ty ≡ Results ok err → plain ty ≡ VariantType AsResult (case_part [] (payload_of ok) (case_part [] (payload_of err) End))
 plain_is-Result ty ok err is = rw (is, plain-Result) refl

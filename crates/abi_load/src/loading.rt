@@ -122,14 +122,8 @@ fn load_variant(
         return Err(LoadFault::Trap);
     }
     let offset = payload_offset(cases.len(), layout_of_cases(cases).align);
-    load_case(
-        alloc,
-        store,
-        memory,
-        number,
-        &cases[index].ty,
-        at + offset as u64,
-    )
+    let place = at + offset as u64;
+    load_case(alloc, store, memory, number, &cases[index].ty, place)
 }
 
 #[cycle(load_at)]
