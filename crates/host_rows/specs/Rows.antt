@@ -59,7 +59,7 @@ pub record ScratchExamples : Type 0 where
   -- an open file stays
   pub held : descriptor.unlink-file-at sample_view ScratchRoot (codes "x") ≡ fails 4
   pub removed : descriptor.unlink-file-at closed_view ScratchRoot (codes "x") ≡ stores (removed sample_scratch 0) done
-  pub of_the_root : descriptor.unlink-file-at closed_view ScratchRoot (codes ".") ≡ fails 4
+  pub of_the_root : descriptor.unlink-file-at closed_view ScratchRoot (codes ".") ≡ fails 14
   -- open-at
   pub made : descriptor.open-at sample_view ScratchRoot 0 (codes "./y") 1 2 ≡ gives_ok_in (created sample_scratch 1 (codes "y")) (ScratchFile 1 true)
   pub trailing : descriptor.open-at sample_view ScratchRoot 0 (codes "y/") 1 2 ≡ fails 20

@@ -151,7 +151,7 @@ remove-directory-at v _ path = fails code.read_only
 
 -- unlink-file-at(path)
 abbrev pub unlink-file-at : View → Content → List ℕ → Row
-unlink-file-at v ScratchRoot path = in_scratch (lead_in v.scratch path) (fails code.busy) (λ n. if v.held n then fails code.busy else stores (removed v.scratch n) done)
+unlink-file-at v ScratchRoot path = in_scratch (lead_in v.scratch path) (fails code.is_directory) (λ n. if v.held n then fails code.busy else stores (removed v.scratch n) done)
 unlink-file-at v (ScratchFile n may_write) path = fails code.not_directory
 unlink-file-at v _ path = fails code.read_only
 

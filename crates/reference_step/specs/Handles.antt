@@ -1,5 +1,6 @@
 -- The live handles of an application, and what they stand for.
-use Rattle.std.specs.Prelude.{ℕ, zero, suc, ◌+◌, ◌==◌, not, Bool, false, true, List, [], ◌∷◌, ◌++◌, length, map, filter, find, count_by, Option, Some, None, is_some, if◌then◌else◌}
+use Rattle.std.specs.Prelude.{ℕ, suc, ◌==◌, Bool, false, true, List, [], ◌∷◌, count_by, slice_index_or, slice_set, Option, Some, None, is_some, option_map}
+use Rattle.std.specs.List.{list_any}
 use Rattle.tree_table.specs.Paths.{Path}
 
 -- an entry of a folder: its descriptor-type, and its name
@@ -31,9 +32,8 @@ pub data Content : Type 0 where
   ScratchIn : (number : ℕ) → (place : ℕ) → Content
   ScratchOut : (number : ℕ) → (place : Option ℕ) → Content
 
--- a live handle: its number, the number of its kind, and what it stands for
+-- a live handle: the number of its kind, and what it stands for
 pub record LiveHandle : Type 0 where
-  pub id : ℕ
   pub kind : ℕ
   pub content : Content
 
@@ -73,10 +73,30 @@ holds number (ScratchIn other _) = other == number
 holds number (ScratchOut other _) = other == number
 holds number _ = false
 
-abbrev pub handle_at : List LiveHandle → ℕ → Option LiveHandle
-handle_at live id = find (λ h. h.id == id) live
+-- ---- places: what stands at each number, from 0
 
-abbrev pub is_live : List LiveHandle → ℕ → Bool
+module _ {E : Type 0} where
+  -- the least number at which nothing stands
+  abbrev pub first_free : List (Option E) → ℕ
+  first_free [] = 0
+  first_free (None ∷ places) = 0
+  first_free (Some e ∷ places) = suc (first_free places)
+
+  -- one more stands there
+  abbrev pub with_entry : List (Option E) → E → List (Option E)
+  with_entry [] new = Some new ∷ []
+  with_entry (None ∷ places) new = Some new ∷ places
+  with_entry (Some e ∷ places) new = Some e ∷ with_entry places new
+
+-- ---- the live handles, each at the place of its number
+
+abbrev pub Live : Type 0
+Live = List (Option LiveHandle)
+
+abbrev pub handle_at : Live → ℕ → Option LiveHandle
+handle_at live id = slice_index_or live id None
+
+abbrev pub is_live : Live → ℕ → Bool
 is_live live id = is_some (handle_at live id)
 
 abbrev pub content_in : Option LiveHandle → Content
@@ -84,35 +104,38 @@ content_in None = Always
 content_in (Some h) = h.content
 
 -- what a live handle stands for
-abbrev pub content_of : List LiveHandle → ℕ → Content
+abbrev pub content_of : Live → ℕ → Content
 content_of live id = content_in (handle_at live id)
 
--- the first of so many numbers, from this one on, that is not live, or the one behind them
-abbrev pub least_from : ℕ → ℕ → List LiveHandle → ℕ
-least_from zero id live = id
-least_from (suc more) id live = if is_live live id then least_from more (id + 1) live else id
-
 -- the least number that is not live
-abbrev pub fresh_id : List LiveHandle → ℕ
-fresh_id live = least_from (length live) 0 live
+abbrev pub fresh_id : Live → ℕ
+fresh_id live = first_free live
 
-abbrev pub live_of_kind : ℕ → List LiveHandle → ℕ
-live_of_kind kind live = count_by (λ h. h.kind == kind) live
+abbrev pub is_of_kind : ℕ → Option LiveHandle → Bool
+is_of_kind kind None = false
+is_of_kind kind (Some h) = h.kind == kind
 
-abbrev pub with_handle : List LiveHandle → ℕ → Content → List LiveHandle
-with_handle live kind content = live ++ record { id = fresh_id live; kind = kind; content = content } ∷ []
+abbrev pub live_of_kind : ℕ → Live → ℕ
+live_of_kind kind live = count_by (is_of_kind kind) live
 
-abbrev pub without_handle : List LiveHandle → ℕ → List LiveHandle
-without_handle live id = filter (λ h. not (h.id == id)) live
+-- a new handle gets the least number that is not live
+abbrev pub with_handle : Live → ℕ → Content → Live
+with_handle live kind content = with_entry live (record { kind = kind; content = content })
+
+abbrev pub without_handle : Live → ℕ → Live
+without_handle live id = slice_set live id None
 
 abbrev pub standing_for : Content → LiveHandle → LiveHandle
 standing_for content h = record h { content = content }
 
 -- the handle stands for something else
-abbrev pub with_content : List LiveHandle → ℕ → Content → List LiveHandle
-with_content live id content = map (λ h. if h.id == id then standing_for content h else h) live
+abbrev pub with_content : Live → ℕ → Content → Live
+with_content live id content = slice_set live id (option_map (standing_for content) (handle_at live id))
+
+abbrev pub holds_open : ℕ → Option LiveHandle → Bool
+holds_open number None = false
+holds_open number (Some h) = holds number h.content
 
 -- whether a live handle holds a scratch file
-abbrev pub is_held : List LiveHandle → ℕ → Bool
-is_held [] number = false
-is_held (h ∷ live) number = if holds number h.content then true else is_held live number
+abbrev pub is_held : Live → ℕ → Bool
+is_held live number = list_any (holds_open number) live

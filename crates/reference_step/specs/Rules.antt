@@ -9,7 +9,7 @@ use Rattle.policy_data.specs.declared.words.Deny.TheVariants.{Trap as DenyByTrap
 use Rattle.policy_data.specs.declared.policy.Policy.{Policy}
 use Rattle.host_port.specs.Calls.{PlainCall}
 use Rattle.reference_step.specs.Atoms.{atoms_of, handles}
-use Rattle.reference_step.specs.Handles.{LiveHandle, handle_at, live_of_kind}
+use Rattle.reference_step.specs.Handles.{Live, handle_at, is_of_kind, live_of_kind}
 use Rattle.reference_step.specs.Listed.{Listed}
 use Rattle.reference_step.specs.Access.{Access, Hosted, Denied, Virtual, access}
 use Rattle.reference_step.specs.Refused.{refused}
@@ -128,18 +128,14 @@ alike_results None (Some ty) = false
 alike_results (Some ty) None = false
 alike_results (Some ty) (Some other) = alike ty other
 
-abbrev pub is_of_kind : ℕ → Option LiveHandle → Bool
-is_of_kind kind None = false
-is_of_kind kind (Some h) = h.kind == kind
-
 -- the handles that arguments give: the number of the kind, and their own
 abbrev pub given : Listed → PlainCall → List (ℕ × ℕ)
 given f c = handles (atoms_of f.function.ty.params c.args)
 
-abbrev pub are_live : List LiveHandle → List (ℕ × ℕ) → Bool
+abbrev pub are_live : Live → List (ℕ × ℕ) → Bool
 are_live live wanted = list_all (λ h. is_of_kind h.0 (handle_at live h.1)) wanted
 
-abbrev pub passes : List LiveHandle → Listed → PlainCall → Bool
+abbrev pub passes : Live → Listed → PlainCall → Bool
 passes live f c = are_of f.function.ty.params c.args && (alike_results f.function.ty.answer c.answer && are_live live (given f c))
 
 -- ---- room: as many places of a kind must be free as the result has own handles of it outside lists
@@ -171,13 +167,13 @@ owns_of kind None = 0
 owns_of kind (Some ty) = owns kind ty
 
 -- whether so many more handles of a kind fit
-abbrev pub fit : Policy → List LiveHandle → ℕ → ℕ → Bool
+abbrev pub fit : Policy → Live → ℕ → ℕ → Bool
 fit p live kind more = nat_le (more + live_of_kind kind live) p.slots
 
 abbrev pub kinds : List ℕ
 kinds = 0 ∷ 1 ∷ 2 ∷ 3 ∷ 4 ∷ 5 ∷ 6 ∷ 7 ∷ 8 ∷ 9 ∷ 10 ∷ 11 ∷ 12 ∷ 13 ∷ []
 
-abbrev pub has_places : Policy → List LiveHandle → Option Plain → Bool
+abbrev pub has_places : Policy → Live → Option Plain → Bool
 has_places p live ty = list_all (λ kind. owns_of kind ty == 0 || fit p live kind (owns_of kind ty)) kinds
 
 -- ---- error codes by package

@@ -6,7 +6,7 @@ use Rattle.policy_data.specs.declared.policy.Policy.{Policy}
 use Rattle.policy_data.specs.declared.data.Scratch.{Scratch}
 use Rattle.tree_table.specs.declared.entries.NamedTree.{NamedTree}
 use Rattle.tree_table.specs.Scratches.{ScratchMap, empty_scratch}
-use Rattle.reference_step.specs.Handles.{Content, LiveHandle, content_of, is_held}
+use Rattle.reference_step.specs.Handles.{Content, Live, content_of, is_held}
 use Rattle.reference_step.specs.Values.{ok, error_code}
 
 -- what stays as it is: the policy, its trees, and the version under which each interface is listed
@@ -18,7 +18,7 @@ pub record Setup : Type 0 where
 -- the state: what stays, the live handles, the scratch folder, and the state of the host that is asked
 pub record Reference (S : Type 0) : Type 0 where
   pub setup : Setup
-  pub live : List LiveHandle
+  pub live : Live
   pub scratch : ScratchMap
   pub inner : S
 

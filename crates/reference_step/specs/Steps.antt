@@ -16,7 +16,7 @@ use Rattle.host_port.specs.Calls.{PlainCall, PlainAnswer, PlainObservation, Give
 use Rattle.host_port.specs.Hosts.{HostStep, Reaction, Loss}
 use Rattle.reference_step.specs.Codes as code
 use Rattle.reference_step.specs.Values.{error_code, list, list_in, record_of, fields_in, nth, text_in, id_in}
-use Rattle.reference_step.specs.Handles.{Content, Host, Node, ScratchRoot, Always, LiveHandle, descriptor, is_host, handle_at, content_of, fresh_id, with_handle, without_handle, with_content}
+use Rattle.reference_step.specs.Handles.{Content, Host, Node, ScratchRoot, Always, Live, LiveHandle, descriptor, is_host, handle_at, content_of, fresh_id, with_handle, without_handle, with_content}
 use Rattle.reference_step.specs.Atoms.{atoms_of, result_atoms, weight, handles, renumbered_of, renumbered_result}
 use Rattle.reference_step.specs.Listed.{Listed, listed_function, kind_named, homes, with_version}
 use Rattle.reference_step.specs.State.{Setup, Reference, view_of, Effect, Row, Traps, Does}
@@ -37,14 +37,14 @@ module _ {S : Type 0} (h : HostStep S) where
   -- ---- handles that enter: each gets the least number that is not live, in the order of the value
 
   -- those that are live then, and the numbers that were given
-  abbrev pub entered : List LiveHandle → List (ℕ × Content) → List LiveHandle × List ℕ
+  abbrev pub entered : Live → List (ℕ × Content) → Live × List ℕ
   entered live [] = (live, [])
   entered live (new ∷ rest) =
       let others = entered (with_handle live new.0 new.1) rest in
       (others.0, fresh_id live ∷ others.1)
 
   -- the value with the numbers of the handles that entered
-  abbrev pub enters : Reference S → List PlainObservation → Option Plain → Option PlainValue → List LiveHandle × List ℕ → Reaction (Reference S)
+  abbrev pub enters : Reference S → List PlainObservation → Option Plain → Option PlainValue → Live × List ℕ → Reaction (Reference S)
   enters r seen ty v new = record { seen = seen; answer = Gives (renumbered_result ty v new.1); next = record r { live = new.0 } }
 
   -- ---- weight
@@ -62,7 +62,7 @@ module _ {S : Type 0} (h : HostStep S) where
   host_id (Host id) = id
   host_id _ = 0
 
-  abbrev pub host_ids : List LiveHandle → List (ℕ × ℕ) → List ℕ
+  abbrev pub host_ids : Live → List (ℕ × ℕ) → List ℕ
   host_ids live ids = map (λ g. host_id (content_of live g.1)) ids
 
   -- the same call with the host's numbers
@@ -191,7 +191,7 @@ module _ {S : Type 0} (h : HostStep S) where
 
   -- ---- functions that are answered without the host
 
-  abbrev pub becomes : List LiveHandle → PlainValue → Option Content → List LiveHandle
+  abbrev pub becomes : Live → PlainValue → Option Content → Live
   becomes live self None = live
   becomes live self (Some content) = with_content live (id_in self) content
 
@@ -233,7 +233,7 @@ module _ {S : Type 0} (h : HostStep S) where
   abbrev pub is_empty_poll : Listed → PlainCall → Bool
   is_empty_poll f c = bytes_eq f.function.name (codes "poll") && is_none_given (given f c)
 
-  abbrev pub are_host : List LiveHandle → List (ℕ × ℕ) → Bool
+  abbrev pub are_host : Live → List (ℕ × ℕ) → Bool
   are_host live ids = list_all (λ g. is_host (content_of live g.1)) ids
 
   -- whether the host is asked: the policy says so, and every handle that is given is the host's
@@ -285,19 +285,19 @@ module _ {S : Type 0} (h : HostStep S) where
 
   -- ---- drops of handles: one that is not live, or of another kind, changes nothing
 
-  abbrev pub lost : Reference S → LiveHandle → Content → Loss (Reference S)
-  lost r handle (Host id) =
-      let loss = host_drops r.setup r.inner handle.kind id in
-      record { seen = loss.seen; next = record r { live = without_handle r.live handle.id; inner = loss.next } }
-  lost r handle _ = record { seen = []; next = record r { live = without_handle r.live handle.id } }
+  abbrev pub lost : Reference S → ℕ → ℕ → Content → Loss (Reference S)
+  lost r id kind (Host theirs) =
+      let loss = host_drops r.setup r.inner kind theirs in
+      record { seen = loss.seen; next = record r { live = without_handle r.live id; inner = loss.next } }
+  lost r id kind _ = record { seen = []; next = record r { live = without_handle r.live id } }
 
-  abbrev pub dropped : Reference S → ℕ → Option LiveHandle → Loss (Reference S)
-  dropped r kind None = record { seen = []; next = r }
-  dropped r kind (Some handle) = if handle.kind == kind then lost r handle handle.content else record { seen = []; next = r }
+  abbrev pub dropped : Reference S → ℕ → ℕ → Option LiveHandle → Loss (Reference S)
+  dropped r id kind None = record { seen = []; next = r }
+  dropped r id kind (Some handle) = if handle.kind == kind then lost r id kind handle.content else record { seen = []; next = r }
 
   abbrev pub dropped_as : Reference S → ℕ → Option ℕ → Loss (Reference S)
   dropped_as r id None = record { seen = []; next = r }
-  dropped_as r id (Some kind) = dropped r kind (handle_at r.live id)
+  dropped_as r id (Some kind) = dropped r id kind (handle_at r.live id)
 
   abbrev pub drops : Reference S → Resource → ℕ → Loss (Reference S)
   drops r resource id = dropped_as r id (kind_named r.setup.version resource)
