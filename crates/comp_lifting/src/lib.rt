@@ -1,0 +1,11 @@
+//! The canonical functions of a component: the rules that are asked of them, and what they add to a scope.
+#![tactic(auto)]
+
+mod canons;
+mod core_types;
+mod functions;
+mod lifts;
+mod lowers;
+mod resources;
+
+pub use canons::define_canon;
