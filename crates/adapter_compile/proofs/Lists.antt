@@ -1,8 +1,11 @@
 -- Routines as lists, as trees and as code.
-use Rattle.std.proofs.Common.{◌≡◌, ℕ, zero, suc, ◌+◌, ◌≤◌, max, List, [], ◌∷◌, ◌++◌, Option, Some, None, Vec, Global, length, drop, reverse, sym, ap, ◌∙◌, arith, append_assoc, append-nil}
+use Rattle.std.proofs.Common.{◌≡◌, ℕ, zero, suc, ◌+◌, ◌≤◌, max, List, [], ◌∷◌, ◌++◌, Option, Some, None, Vec, Global, length, drop, reverse, sym, ap, ◌∙◌, arith, append_assoc, append-nil, replicate}
 use Rattle.std.proofs.Math.Nat.{max-zero, zero-max, max-le, le-max_left, le-max_right}
 use Rattle.std.proofs.lemmas.List.{reverse-append}
+use Rattle.std.proofs.lemmas.Grind.{flat_map-append}
 use Rattle.std.specs.Prelude.{slice_get}
+use Rattle.wasm_ast.specs.declared.module.LocalRun.{LocalRun}
+use Rattle.core_store.specs.Locals.{each_local}
 use Rattle.wasm_ast.specs.declared.instr.BlockType.TheVariants.{Empty}
 use Rattle.wasm_ast.specs.declared.instr.Instr.{Instr}
 use Rattle.wasm_ast.specs.declared.instr.Instr.TheVariants.{If as IfOf, Else, End}
@@ -136,6 +139,12 @@ module _ (ws : List Width) (calls : HandleCalls) (ls : Labels) (d : ℕ) where
 pub reverse_pushed : (old new : List (Option ℕ)) (x : Option ℕ) → new ≡ old ++ x ∷ [] → reverse new ≡ x ∷ reverse old
 reverse_pushed old new x e = ap reverse e ∙ reverse-append old (x ∷ [])
 
+pub brackets_left : (i : ℕ) (list : List Statement) (st : Statement) (most : ℕ) → slice_get list i ≡ Some st → brackets (before st Stop) ≤ most → (brackets (code_of (drop i list)) ≤ most → brackets (code_of list) ≤ most) → brackets (code_of (drop (i + 1) list)) ≤ most → brackets (code_of list) ≤ most
+brackets_left i list st most there le so_far rest =
+    let e : brackets (code_of (drop i list)) ≡ max (brackets (before st Stop)) (brackets (code_of (drop (i + 1) list))) = ap (λ l. brackets (code_of l)) (drop_from i list st there) ∙ brackets_before st (code_of (drop (i + 1) list)) in
+    let both = max-le le rest in
+    so_far (omega (arith, e, both))
+
 -- ---- instructions that were put one behind another
 
 joined : (x y o rest : List Instr) → o ≡ x ++ y → o ++ rest ≡ x ++ (y ++ rest)
@@ -150,3 +159,7 @@ choice_written old o1 o2 o3 o4 o5 first other test e1 e2 e3 e4 e5 =
 
 pub turns_written : (old o1 o2 body : List Instr) (count counter : ℕ) → o1 ≡ old ++ turns_begin count counter → o2 ≡ o1 ++ body → o2 ++ turns_end counter ≡ old ++ turns_code count counter body
 turns_written old o1 o2 body count counter e1 e2 = joined o1 body o2 (turns_end counter) e2 ∙ joined old (turns_begin count counter) o1 (body ++ turns_end counter) e1
+
+-- one run of locals more
+pub run_more : (runs : List LocalRun) (run : LocalRun) → each_local (runs ++ run ∷ []) ≡ each_local runs ++ replicate run.count run.ty
+run_more runs run = flat_map-append (λ (r : LocalRun). replicate r.count r.ty) runs (run ∷ []) ∙ ap (λ l. each_local runs ++ l) (append-nil (replicate run.count run.ty))

@@ -1,5 +1,5 @@
 -- What the core code of a routine does, by core evaluation.
-use Rattle.std.specs.Prelude.{◌≡◌, ℕ, ◌+◌, ◌*◌, ◌<◌, ◌≤◌, ◌^◌, List, [], ◌++◌, Bool, true, ◌⊎◌, Some, map, length, slice_get}
+use Rattle.std.specs.Prelude.{◌≡◌, ℕ, ◌+◌, ◌*◌, ◌<◌, ◌≤◌, ◌^◌, List, [], ◌++◌, Bool, true, ◌⊎◌, Some, map, length, slice_get, take, drop, replicate}
 use Rattle.std.specs.List.{All}
 use Rattle.virt_base.specs.declared.core_type.CoreType.{CoreType}
 use Rattle.virt_base.specs.declared.core_type.CoreType.TheVariants as types
@@ -102,41 +102,45 @@ RoutinesDo =
 
 -- ---- a whole function
 
--- its type: the routine's locals are the parameters, and it has no result
+-- its type: so many of the routine's locals are the parameters, and it has no result
 abbrev pub core_type : Width → CoreType
 core_type Narrow = types.I32
 core_type Broad = types.I64
 
-abbrev pub routine_type : List Width → CoreFunc
-routine_type ws = record { params = map core_type ws; results = [] }
+abbrev pub routine_type : ℕ → List Width → CoreFunc
+routine_type params ws = record { params = map core_type (take params ws); results = [] }
 
 abbrev pub core_value : Local → CoreValue
 core_value (Small v) = values.I32 v
 core_value (Wide v) = values.I64 v
 
+-- the locals behind the parameters are zeros
+abbrev pub BeginsAsZeros : ℕ → List Local → Type 0
+BeginsAsZeros params ls = map value (drop params ls) ≡ replicate (length (drop params ls)) 0
+
 -- the function of a body is at this place of the store, and may be called
-pub record IsPlaced (ws : List Width) (body : Body) (home : Home) (f : ℕ) : Type 0 where
+pub record IsPlaced (params : ℕ) (ws : List Width) (body : Body) (home : Home) (f : ℕ) : Type 0 where
   pub instance : ℕ
-  pub function : slice_get home.store.functions f ≡ Some (Inside (routine_type ws) instance (each_local body.locals) body.code)
+  pub function : slice_get home.store.functions f ≡ Some (Inside (routine_type params ws) instance (each_local body.locals) body.code)
   pub spaces : spaces_of home.store.instances instance ≡ home.spaces
   pub enters : can_enter home.store ≡ true
 
--- a call of the function at a place does what the routine does from a state
-pub record DoesCalled (numbers : Numbers) (home : Home) (f : ℕ) (s : State) (made : List Bool) (run : RoutineRun) : Type 0 where
+-- a call of the function at a place does what the routine does from a state, whose first locals are the arguments
+pub record DoesCalled (numbers : Numbers) (home : Home) (f params : ℕ) (s : State) (made : List Bool) (run : RoutineRun) : Type 0 where
   pub steps : ℕ
   pub effects : List Effect
   pub made' : List Bool
   pub some : 0 < steps
   pub few : steps ≤ 32 * (1 + run.count)
   pub has : run.state.effects ≡ s.effects ++ effects
-  pub begins : (rs : List Reply) → eval (store_with home s.memory made) f (map core_value s.locals) rs 0 ≡ Spent
+  pub begins : (rs : List Reply) → eval (store_with home s.memory made) f (map core_value (take params s.locals)) rs 0 ≡ Spent
   pub goes : (n : ℕ) →
-      Follows numbers Outcome (λ o. o) (λ rs. eval (store_with home s.memory made) f (map core_value s.locals) rs (steps + n)) s.table effects
+      Follows numbers Outcome (λ o. o) (λ rs. eval (store_with home s.memory made) f (map core_value (take params s.locals)) rs (steps + n)) s.table effects
       (ArrivesAt numbers Outcome (λ o. o) run.end run.state.table (λ rs. Done [] (store_with home run.state.memory made') n))
 
 -- a body does so at each place, from every state
-abbrev pub Compiles : List Width → HandleCalls → Code → Body → Type 0
-Compiles ws calls code body =
+abbrev pub Compiles : ℕ → List Width → HandleCalls → Code → Body → Type 0
+Compiles params ws calls code body =
     (numbers : Numbers) (home : Home) (f : ℕ) (s : State) (made : List Bool) →
-    HasCalls calls code → IsHome calls numbers home → IsPlaced ws body home f → map local_width s.locals ≡ ws → IsInRange s →
-    DoesCalled numbers home f s made (routine_run code s)
+    HasCalls calls code → IsHome calls numbers home → IsPlaced params ws body home f → map local_width s.locals ≡ ws → BeginsAsZeros params s.locals → IsInRange s →
+    DoesCalled numbers home f params s made (routine_run code s)

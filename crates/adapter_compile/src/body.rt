@@ -1,12 +1,12 @@
 // Routines as functions.
 
-ghost use Rattle.std.specs.Prelude.{◌≡◌, ◌+◌, ◌<◌, ◌^◌, [], IfOk, length, replicate};
+ghost use Rattle.std.specs.Prelude.{◌≡◌, ◌+◌, ◌<◌, ◌≤◌, ◌^◌, ◌++◌, [], IfOk, length, map, replicate};
 ghost use Rattle.virt_base.specs.declared.core_type.CoreType.TheVariants.{I32};
 ghost use Rattle.core_store.specs.Locals.{each_local};
 ghost use Rattle.adapter_code.specs.Code.{code_of};
 ghost use Rattle.adapter_code.specs.WellFormed.{IsWellFormed};
 ghost use Rattle.adapter_compile.specs.Bounds.{brackets};
-ghost use Rattle.adapter_compile.specs.Does.{Compiles};
+ghost use Rattle.adapter_compile.specs.Does.{Compiles, core_type as type_of};
 
 use crate::bounds::nesting_of;
 use crate::calls::HandleCalls;
@@ -16,36 +16,53 @@ use std::alloc::Global;
 use virt_base::{CoreType, Items, NoMemory};
 use wasm_ast::{Body, Instr, LocalRun};
 
-/// The body of a function that does what a routine does. The routine's locals are its parameters, and it has no result.
+/// The body of a function that does what a routine does. So many of the routine's locals are its parameters, the others begin
+/// as 0, and it has no result.
 ///
 /// A call ends after at least one and at most 32 steps for each statement that the routine runs and 32 more, with the
 /// routine's end, memory, handles and effects.
 pub fn compile(
     alloc: Global,
+    params: usize,
     widths: &[Width],
     calls: &HandleCalls,
     routine: &[Statement],
 ) -> Result<Body, NoMemory>
     requires fine { IsWellFormed widths.now [] (code_of routine.now) }
     requires shallow { length widths.now + brackets (code_of routine.now) < 2 ^ 32 }
-    ensures { IfOk result (λ body. Compiles widths.now calls.now (code_of routine.now) body) }
+    requires params { params ≤ length widths.now }
+    ensures { IfOk result (λ body. Compiles params widths.now calls.now (code_of routine.now) body) }
 {
     let mut code = Vec::new(alloc);
     put_routine(alloc, &mut code, widths, calls, routine)?;
     code.push(Instr::End)?;
-    let locals = counters(alloc, nesting_of(routine))?;
+    let locals = declared(alloc, &widths[params..], nesting_of(routine))?;
     let code = Items::new(code);
     Ok(Body { locals, code })
 }
 
-// The declaration of so many counters.
-fn counters(alloc: Global, count: u32) -> Result<Items<LocalRun>, NoMemory>
-    ensures { IfOk result (λ runs. each_local runs ≡ replicate count I32) }
+// The declaration of locals of these widths, and of so many counters.
+fn declared(alloc: Global, widths: &[Width], counters: u32) -> Result<Items<LocalRun>, NoMemory>
+    ensures { IfOk result (λ runs. each_local runs ≡ map type_of widths.now ++ replicate counters I32) }
 {
-    let mut runs = Items::empty(alloc);
-    if count > 0 {
+    let mut runs = Vec::new(alloc);
+    for width in widths {
+        let ty = core_type(*width);
+        runs.push(LocalRun { count: 1, ty })?;
+    }
+    if counters > 0 {
         let ty = CoreType::I32;
+        let count = counters;
         runs.push(LocalRun { count, ty })?;
     }
-    Ok(runs)
+    Ok(Items::new(runs))
+}
+
+fn core_type(width: Width) -> CoreType
+    ensures { result ≡ type_of width }
+{
+    match width {
+        Width::Narrow => CoreType::I32,
+        Width::Broad => CoreType::I64,
+    }
 }

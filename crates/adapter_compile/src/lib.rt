@@ -10,7 +10,7 @@ mod laws;
 mod numbers;
 
 pub use body::compile;
-pub use bounds::nesting_of;
+pub use bounds::{is_shallow, nesting_of};
 pub use calls::HandleCalls;
 pub use code::put_routine;
 pub use laws::routines_do;
