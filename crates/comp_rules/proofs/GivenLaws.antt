@@ -3,9 +3,8 @@ use Rattle.std.proofs.Common.{◌≡◌, ◌∙◌, ap, sym, subst, ℕ, List, [
 use Rattle.std.proofs.lemmas.List.Elements.{All-nil, All-cons, All-append}
 use Rattle.comp_types.specs.Items.{Item, Kind, Entries, FuncItem, InstanceItem, KindItem, ResourceKind, ValueKind, FuncKind, InstanceKind, End, More, look_up}
 use Rattle.comp_types.specs.Equality.{IsSameItem, HasEach}
-use Rattle.comp_types.specs.Subtyping.{Takes}
+use Rattle.comp_types.specs.Subtyping.{Takes, IsArgument, AreGiven}
 use Rattle.comp_rules.specs.Resources.{given_by, given_for}
-use Rattle.comp_rules.specs.Rules.{IsArgument, AreGiven}
 
 abbrev Agrees : (ℕ → ℕ) → ℕ × ℕ → Type 0
 Agrees partner pair = partner pair.0 ≡ pair.1

@@ -53,8 +53,8 @@ use Rattle.comp_facts.specs.Handles.{has_borrow}
 use Rattle.comp_facts.specs.Needs.{needs_memory, lift_needs_realloc, lower_needs_realloc}
 use Rattle.comp_types.specs.Items.{Item, Kind, Entries, FuncItem, InstanceItem, KindItem, ResourceKind, ValueKind, FuncKind, InstanceKind, End, More, look_up, names}
 use Rattle.comp_types.specs.Measures.{kind_depth, kind_parts}
-use Rattle.comp_types.specs.Equality.{IsEqualType, IsSameItem, HasEach}
-use Rattle.comp_types.specs.Subtyping.{IsSubtype}
+use Rattle.comp_types.specs.Equality.{IsEqualType}
+use Rattle.comp_types.specs.Subtyping.{IsSubtype, MeetsImports}
 use Rattle.comp_rules.specs.declared.lengths.Lengths.{Lengths}
 use Rattle.comp_rules.specs.Declarations.{Declaration, ATypeDef, AnInstanceType, ATypeAlias, ATypeExport}
 use Rattle.comp_rules.specs.Spaces.{Space, TypeEntry, NestedComponent, core_func_at, kind_at, item_at}
@@ -554,19 +554,6 @@ StatedTypesFit s (AnExport e) = IsStatedIfAny s (item_at s e.sort e.index) e.des
 StatedTypesFit s _ = ⊤
 
 -- ---- rule 23: the names of the arguments of a component differ, and each import has an argument that is a subtype of it
-
--- of an instance that is imported, an argument has at least the entries; all else is equal
-abbrev pub IsArgument : (Meets : ℕ → ℕ → Type 0) → Item → Item → Type 0
-IsArgument Meets given (InstanceItem entries) = (others : Entries) × (given ≡ InstanceItem others) × HasEach Meets others entries
-IsArgument Meets given item = IsSameItem Meets given item
-
-abbrev pub AreGiven : (Meets : ℕ → ℕ → Type 0) → (args imports : Entries) → Type 0
-AreGiven Meets args End = ⊤
-AreGiven Meets args (More name item rest) = (given : Item) × (look_up name args ≡ Some given) × IsArgument Meets given item × AreGiven Meets args rest
-
--- with one partner for each resource that the component imports
-abbrev pub MeetsImports : (args imports : Entries) → Type 0
-MeetsImports args imports = (partner : ℕ → ℕ) × AreGiven (λ x y. x ≡ partner y) args imports
 
 abbrev pub MeetsComponent : Entries → Option NestedComponent → Type 0
 MeetsComponent args None = ⊤

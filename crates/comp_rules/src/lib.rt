@@ -6,7 +6,7 @@ ghost use Rattle.comp_grammar.specs.Trees.{Tree};
 ghost use Rattle.comp_types.specs.Items.{Entries};
 ghost use Rattle.comp_types.specs.Subtyping.{Takes};
 ghost use Rattle.comp_rules.specs.Resources.{given_by};
-ghost use Rattle.comp_rules.specs.Rules.{AreGiven};
+ghost use Rattle.comp_types.specs.Subtyping.{AreGiven};
 ghost use Rattle.comp_rules.specs.Validity.{BreaksComponent, IsValidComponent};
 
 mod lengths;

@@ -1,1 +1,9 @@
 pub mod EntryLemmas
+pub mod PairLemmas
+pub mod ValueLemmas
+pub mod Only
+pub mod MeetLaws
+pub mod ValueLaws
+pub mod UnpackLemmas
+pub mod ItemLaws
+pub mod EqualLaws

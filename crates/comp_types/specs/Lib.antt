@@ -9,3 +9,4 @@ pub mod Sizes
 pub mod Views
 pub mod Kept
 pub mod Falls
+pub mod Matching

@@ -1,5 +1,6 @@
 -- Types with other resources: each number that stands first in a pair of the list becomes its partner, and nothing else changes.
-use Rattle.std.specs.Prelude.{ℕ, List, [], ◌∷◌, map, nat_eq, if◌then◌else◌, Option as Opt, Some, None}
+use Rattle.std.specs.Prelude.{ℕ, List, [], ◌∷◌, ◌++◌, map, nat_eq, if◌then◌else◌, Option as Opt, Some, None}
+use Rattle.std.specs.Map.{lookup}
 use Rattle.wit_types.specs.Plain.{Plain, Parts, PlainFunc, ListType, RecordType, VariantType, OwnType, BorrowType, End as NoParts, More as Part, Bare}
 use Rattle.comp_types.specs.Items.{Item, Kind, Entries, FuncItem, InstanceItem, KindItem, ResourceKind, ValueKind, FuncKind, InstanceKind, End, More}
 
@@ -7,6 +8,18 @@ use Rattle.comp_types.specs.Items.{Item, Kind, Entries, FuncItem, InstanceItem, 
 abbrev pub partner_in : List (ℕ × ℕ) → ℕ → ℕ
 partner_in [] resource = resource
 partner_in (pair ∷ by) resource = if nat_eq pair.0 resource then pair.1 else partner_in by resource
+
+-- the partner in the first pair that names the resource, if there is one
+abbrev pub partner_of : List (ℕ × ℕ) → ℕ → Opt ℕ
+partner_of by resource = lookup (nat_eq resource) by
+
+-- with one pair more, unless the resource has a partner already
+abbrev pub and_pair_to : List (ℕ × ℕ) → ℕ → ℕ → Opt ℕ → List (ℕ × ℕ)
+and_pair_to by resource partner None = by ++ (resource, partner) ∷ []
+and_pair_to by resource partner (Some _) = by
+
+abbrev pub and_pair : List (ℕ × ℕ) → ℕ → ℕ → List (ℕ × ℕ)
+and_pair by resource partner = and_pair_to by resource partner (partner_of by resource)
 
 abbrev mutual
   pub value_with : (ℕ → ℕ) → Plain → Plain

@@ -1,10 +1,19 @@
 //! The types of what components import and export: their equality, subtyping and substitution.
 #![tactic(auto)]
 
+mod declared;
 mod known;
+mod match_func;
+mod match_item;
+mod match_value;
+mod relations;
+mod substitution;
 mod types;
+mod unpack;
 
 pub use known::{KnownFunc, KnownValue};
+pub use relations::{equal, is_given, subtype};
+pub use substitution::Substitution;
 pub use types::{
     DeclaredInstance, InstanceEntries, InstanceEntry, InstanceType, ItemType, TypeItem,
 };

@@ -1,4 +1,4 @@
-ghost use Rattle.std.specs.Prelude.{◌≡◌, min, IfOk, OnOk, OnErr};
+ghost use Rattle.std.specs.Prelude.{◌≡◌, min, option_map, IfOk, OnOk, OnErr};
 
 use crate::known::{KnownFunc, KnownValue};
 use std::alloc::Global;
@@ -129,6 +129,18 @@ impl InstanceEntries {
         ensures { result ≡ entries_have_resource self.now }
     {
         self.has_resource
+    }
+
+    /// The first entry of that name.
+    pub fn look_up(&self, name: &Text) -> Option<&ItemType>
+        ensures { option_map (λ ty. item_of ty.now) result ≡ look_up name.now self.now }
+    {
+        for entry in self.items.as_slice() {
+            if entry.name.bytes() == name.bytes() {
+                return Some(&entry.ty);
+            }
+        }
+        None
     }
 
     /// One entry more, behind the others. Where memory runs out nothing changes.
