@@ -139,7 +139,7 @@ module _ {S : Type 0} (G : Group) (p : Ports S) (grow : PortsGrow p) (run run' :
       then_longer _ _ _ _ (on_longer k _) (λ l.
       then_longer _ _ _ _ (answers_longer d Inside target l.passed) (λ answer.
       then_longer _ _ _ _ (on_longer k _) (λ _.
-      then_longer _ _ _ _ (result_longer (during G p run d answer.due) k options (answer_tuple (type_of target)) (place_in G p run (type_of target) args) answer.passed) (λ results.
+      then_longer _ _ _ _ (result_longer (during d answer.due) k options (answer_tuple (type_of target)) (place_in (type_of target) args) answer.passed) (λ results.
       then_longer _ _ _ _ (leaves_longer d answer.due) (λ _. gives_longer _))))))
 
   destructs_longer : (d : Nesting) (k x : ℕ) (destructor : Option ℕ) → Longer (destructs G p run d k x destructor) (destructs G p run' d k x destructor)

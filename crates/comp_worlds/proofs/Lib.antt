@@ -1,3 +1,15 @@
 pub mod Growing
 pub mod GroupGrowing
 pub mod ObservedGrowing
+pub mod Similar
+pub mod Maps
+pub mod Loans
+pub mod Natural
+pub mod Joint
+pub mod Meeting
+pub mod Closed
+pub mod Answering
+pub mod Answered
+pub mod Calling
+pub mod Meets
+pub mod Outside

@@ -111,6 +111,20 @@ unborrowed r x = Some 0
 abbrev pub plainly : Numbers ℕ
 plainly = record { made = λ n. n; number = λ n. n }
 
+-- a lifted function is in progress until its call is left
+abbrev pub during : Nesting → Due → Nesting
+during d Nothing = d
+during d (Served k lifting results) = deeper d
+during d (Below due) = during d due
+
+-- where the result goes, if it goes through memory: the parameter behind the others
+abbrev pub place_in : PlainFunc → List ℕ → ℕ
+place_in ty args = slice_index args (length (core_params ty))
+
+-- numbers as core values of 32 bits
+abbrev pub as_words : List ℕ → List CoreValue
+as_words ws = map values.I32 ws
+
 module _ {S : Type 0} (G : Group) (p : Ports S) (run : Run S) where
   -- a function by an option that must be there: `realloc`
   abbrev pub asks_for : Nesting → ℕ → Option ℕ → (align len : ℕ) → Act (World S) (List CoreValue)
@@ -176,14 +190,8 @@ module _ {S : Type 0} (G : Group) (p : Ports S) (run : Run S) where
       lowers_params (deeper d) k lifting.options (params_tuple lifting.ty) passed >> λ args.
       run (deeper d) k lifting.code (values_in 0 (core_params lifting.ty) args) >> λ results.
       on k (lifts most_results (answer_tuple lifting.ty) lifting.options (words results)) >> λ l.
-      on k has_no_borrow >> λ _.
+      on k (has_no_borrow l.loans) >> λ _.
       gives (record { passed = l.passed; due = Served k lifting results })
-
-  -- a lifted function is in progress until its call is left
-  abbrev pub during : Nesting → Due → Nesting
-  during d Nothing = d
-  during d (Served k lifting results) = deeper d
-  during d (Below due) = during d due
 
   -- the parts 9 and 10
   abbrev pub leaves : Nesting → Due → Act (World S) (Unit {0})
@@ -192,10 +200,6 @@ module _ {S : Type 0} (G : Group) (p : Ports S) (run : Run S) where
   leaves d (Served k lifting results) =
       post_returns (deeper d) k results lifting.post >> λ _.
       on k exit
-
-  -- where the result goes, if it goes through memory: the parameter behind the others
-  abbrev pub place_in : PlainFunc → List ℕ → ℕ
-  place_in ty args = slice_index args (length (core_params ty))
 
   -- a call of a lowered function by core code of the instance k
   abbrev pub calls : Nesting → ℕ → Target → Options → List ℕ → Act (World S) (List CoreValue)
@@ -238,9 +242,6 @@ module _ {S : Type 0} (G : Group) (p : Ports S) (run : Run S) where
   abbrev pub drops_if : Nesting → ℕ → ℕ → Option ℕ → Act (World S) (List CoreValue)
   drops_if d k r None = gives []
   drops_if d k r (Some x) = drops_by d k r x (owns G k r) >> λ _. gives []
-
-  abbrev pub as_words : List ℕ → List CoreValue
-  as_words ws = map values.I32 ws
 
   abbrev pub performs : Nesting → ℕ → List ℕ → Option Func → Act (World S) (List CoreValue)
   performs d k args None = traps

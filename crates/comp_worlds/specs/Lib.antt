@@ -6,3 +6,4 @@ pub mod Calls
 pub mod Hosts
 pub mod Observed
 pub mod Laws
+pub mod Related

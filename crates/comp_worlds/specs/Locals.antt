@@ -75,10 +75,15 @@ lifts most ty options words c =
 abbrev pub ends_loans : {R : Type 0} → List ℕ → Config R → Option (Local R (Unit {0}))
 ends_loans loans c = Some (done (with_map c (unlend_all loans c.map)))
 
+-- a result lends nothing: in a valid component its type holds no borrowed handle
+abbrev pub lends_nothing : (loans : List ℕ) → Bool
+lends_nothing [] = true
+lends_nothing (i ∷ is) = false
+
 -- No borrowed handle of the call in progress is left. Only calls lower borrowed handles into an instance, and while it is entered
 -- no other call does, so all that are there are of this call.
-abbrev pub has_no_borrow : {R : Type 0} → Config R → Option (Local R (Unit {0}))
-has_no_borrow c = also (not (has_borrow c.map)) (Some (done c))
+abbrev pub has_no_borrow : {R : Type 0} → (loans : List ℕ) → Config R → Option (Local R (Unit {0}))
+has_no_borrow loans c = also (lends_nothing loans && not (has_borrow c.map)) (Some (done c))
 
 -- ---- lowering (CanonicalABI.md, `lower_flat_values` and `store`)
 

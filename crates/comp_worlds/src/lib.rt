@@ -4,4 +4,4 @@
 
 mod laws;
 
-pub use laws::more_steps_extend;
+pub use laws::{Worlds, more_steps_extend, related_hosts_are_seen_alike};

@@ -1,7 +1,13 @@
 //! What is seen of small groups of instances, by examples that compute.
 #![tactic(auto)]
 
+ghost use Rattle.std.specs.Prelude.{ℕ, List, []};
+ghost use Rattle.comp_worlds.specs.Groups.{Group};
+ghost use Rattle.comp_worlds.specs.Related.{SeenAlike};
+ghost use Rattle.world_rows.specs.Counters.{single, double, of_hosts, SameCount, SameAnswered, Given};
 ghost use Rattle.world_rows.specs.Rows.{ClockExamples, ReallocExamples, BorrowExamples, DestructorExamples, EnteredExamples};
+
+use comp_worlds::{Worlds, related_hosts_are_seen_alike};
 
 /// A component reads a clock, with steps and calls in progress counted. It does nothing when it runs.
 #[tactic(auto, using(crate::proofs::Compute::clock_examples))]
@@ -32,3 +38,36 @@ pub fn destructors_run()
 pub fn instances_are_entered()
     ensures { EnteredExamples }
 {}
+
+/// Two hosts that hand out handles, whose numbers differ.
+#[derive(Clone, Copy)]
+pub struct Counters;
+
+impl Worlds for Counters {
+    ghost first = { ℕ };
+
+    ghost second = { ℕ };
+
+    ghost one = { single };
+
+    ghost two = { double };
+
+    ghost adapter = { [] };
+
+    ghost host = { of_hosts };
+
+    ghost idle = { SameCount };
+
+    ghost answered = { SameAnswered };
+
+    ghost live = { Given };
+
+    fn known(self) {}
+}
+
+/// The premise of the law of related hosts holds of them, so that what is over one is seen to do what it does over the other.
+pub fn counters_are_seen_alike()
+    ensures { (G : Group) → SeenAlike [] single double of_hosts SameCount G }
+{
+    related_hosts_are_seen_alike::<Counters>();
+}
