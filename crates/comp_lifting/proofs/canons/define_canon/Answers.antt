@@ -15,14 +15,14 @@ pub returns-in-Lift : goal.returns-in-Lift
 returns-in-Lift c =
     let e : Lift c.in-Lift.func c.as_slice.result.now c.in-Lift.ty ≡ c.args.canon.now = ap (λ o. Lift c.in-Lift.func o c.in-Lift.ty) c.as_slice.ensures ∙ sym c.in-Lift.is in
     if_ok c.define_lift.result (λ rule k around s h.
-        let stands : canon_stands (lengths_of s) (Lift c.in-Lift.func c.as_slice.result.now c.in-Lift.ty) ≡ true =
-            ap (canon_stands (lengths_of s)) e ∙ (ap (λ l. canon_stands l c.args.canon.now) (sym (c.lengths.ensures s h)) ∙ sym c.if-not-canon_stands.ensures) in
-        subst (λ (x : Canon). Judged around s (ACanon x) c.define_lift.new.scope rule) e (k around s h stands)) c.define_lift.ensures
+    let stands : canon_stands (lengths_of s) (Lift c.in-Lift.func c.as_slice.result.now c.in-Lift.ty) ≡ true =
+    ap (canon_stands (lengths_of s)) e ∙ (ap (λ l. canon_stands l c.args.canon.now) (sym (c.lengths.ensures s h)) ∙ sym c.if-not-canon_stands.ensures) in
+    subst (λ (x : Canon). Judged around s (ACanon x) c.define_lift.new.scope rule) e (k around s h stands)) c.define_lift.ensures
 
 pub returns-in-Lower : goal.returns-in-Lower
 returns-in-Lower c =
     let e : Lower c.in-Lower.func c.as_slice-in-Lower.result.now ≡ c.args.canon.now = ap (Lower c.in-Lower.func) c.as_slice-in-Lower.ensures ∙ sym c.in-Lower.is in
     if_ok c.define_lower.result (λ rule k around s h.
-        let stands : canon_stands (lengths_of s) (Lower c.in-Lower.func c.as_slice-in-Lower.result.now) ≡ true =
-            ap (canon_stands (lengths_of s)) e ∙ (ap (λ l. canon_stands l c.args.canon.now) (sym (c.lengths.ensures s h)) ∙ sym c.if-not-canon_stands.ensures) in
-        subst (λ (x : Canon). Judged around s (ACanon x) c.define_lower.new.scope rule) e (k around s h stands)) c.define_lower.ensures
+    let stands : canon_stands (lengths_of s) (Lower c.in-Lower.func c.as_slice-in-Lower.result.now) ≡ true =
+    ap (canon_stands (lengths_of s)) e ∙ (ap (λ l. canon_stands l c.args.canon.now) (sym (c.lengths.ensures s h)) ∙ sym c.if-not-canon_stands.ensures) in
+    subst (λ (x : Canon). Judged around s (ACanon x) c.define_lower.new.scope rule) e (k around s h stands)) c.define_lower.ensures
