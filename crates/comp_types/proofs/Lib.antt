@@ -7,3 +7,6 @@ pub mod ValueLaws
 pub mod UnpackLemmas
 pub mod ItemLaws
 pub mod EqualLaws
+pub mod WithLemmas
+pub mod FactsWith
+pub mod ItemsWith
