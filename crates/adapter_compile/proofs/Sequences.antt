@@ -107,7 +107,13 @@ module _ (ws : List Width) (calls : HandleCalls) where
       (parts_in (None ∷ Some name ∷ ls) (suc d) body (turns_end c ++ R) (record { here = tail_seq c; other = Stop }) (record { here = Stop; other = Stop } ∷ parts R) refl)
       ∙ ap (onto (λ q. InBlock Empty (head_seq count c (seq_in ws calls (None ∷ Some name ∷ ls) (suc d) body (tail_seq c))) q)) (parts_in ls d more rest p ps e)
 
-  -- the sequence of a whole routine before other code
+  -- a whole routine before other code, and the sequence of both
+  pub parts_of : (code : Code) (rest : List Instr) (p : Part) (ps : List Part) → parts rest ≡ p ∷ ps → parts (routine_code ws calls code ++ rest) ≡ onto (InBlock Empty (seq_in ws calls [] 0 code Stop)) (p ∷ ps)
+  parts_of code rest p ps e =
+      ap (λ l. placed (Block Empty) (parts l)) (append_assoc (code_in ws calls [] 0 code) (End ∷ []) rest)
+      ∙ ap (placed (Block Empty)) (parts_in [] 0 code (End ∷ rest) (record { here = Stop; other = Stop }) (parts rest) refl)
+      ∙ ap (onto (InBlock Empty (seq_in ws calls [] 0 code Stop))) e
+
   pub tree_of : (code : Code) (behind : List Instr) → tree (routine_code ws calls code ++ behind) ≡ InBlock Empty (seq_in ws calls [] 0 code Stop) (tree behind)
   tree_of code behind =
       ap (λ l. (first (placed (Block Empty) (parts l))).here) (append_assoc (code_in ws calls [] 0 code) (End ∷ []) behind)
