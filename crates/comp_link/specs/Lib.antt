@@ -1,0 +1,4 @@
+pub mod Plans
+pub mod Linking
+pub mod Components
+pub mod Laws

@@ -1,0 +1,19 @@
+-- The examples compute.
+use Rattle.std.proofs.Common.{refl}
+use Rattle.comp_worlds.specs.Acts.{◌>>◌, gives, traps, spent, takes_step, with_more, shows}
+use Rattle.comp_worlds.specs.Calls.{on, below, core, store_of, finds_room, deep_enough}
+use Rattle.comp_worlds.specs.Hosts.{reacts, loses, stays}
+use Rattle.comp_worlds.specs.Observed.{runs_calls}
+use Rattle.link_rows.specs.Rows.{ReaderExamples, NestedExamples, ResourceExamples}
+
+pub reader_examples : ReaderExamples
+unfolding ◌>>◌ gives traps spent takes_step with_more shows on below core store_of finds_room deep_enough reacts loses stays runs_calls
+reader_examples = record { once = refl; fewer = refl }
+
+pub nested_examples : NestedExamples
+unfolding ◌>>◌ gives traps spent takes_step with_more shows on below core store_of finds_room deep_enough reacts loses stays runs_calls
+nested_examples = record { handed_on = refl; fewer = refl }
+
+pub resource_examples : ResourceExamples
+unfolding ◌>>◌ gives traps spent takes_step with_more shows on below core store_of finds_room deep_enough reacts loses stays runs_calls
+resource_examples = record { dropped = refl }
