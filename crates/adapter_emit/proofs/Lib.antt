@@ -1,0 +1,2 @@
+pub mod Destroying
+pub mod Asking
