@@ -69,10 +69,7 @@ impl Slots {
         requires { 0 < length self.old.operands }
         ensures { self.old ≡ with_operands self.new (result ∷ self.new.operands) }
     {
-        match self.words.pop() {
-            Some(x) => x,
-            None => unreachable!(),
-        }
+        self.words.take_last()
     }
 
     /// The topmost operand.
