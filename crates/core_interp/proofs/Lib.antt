@@ -17,3 +17,5 @@ pub mod Pauses
 pub mod Saying
 pub mod Beginning
 pub mod AtHand
+pub mod Came
+pub mod Totals

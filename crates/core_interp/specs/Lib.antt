@@ -4,4 +4,5 @@ pub mod Valid
 pub mod Jumping
 pub mod Plains
 pub mod Run
+pub mod Straight
 pub mod Session

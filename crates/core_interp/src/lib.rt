@@ -4,6 +4,7 @@
 mod blocks;
 mod bytes;
 mod calls;
+mod computing;
 mod control;
 mod fetch;
 mod leaves;
@@ -14,6 +15,7 @@ mod plain;
 mod refs;
 mod running;
 mod steps;
+mod straight;
 mod tables;
 mod variables;
 

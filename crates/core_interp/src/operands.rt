@@ -10,7 +10,7 @@ ghost use Rattle.core_eval.specs.Scene.{scene_of};
 ghost use Rattle.core_slots.specs.Stacked.{with_operands};
 ghost use Rattle.core_interp.specs.Groups.{IsOnOperands};
 ghost use Rattle.core_eval.specs.Fine.{takes, Names};
-ghost use Rattle.core_interp.specs.Plains.{Did, Puts};
+ghost use Rattle.core_interp.specs.Plains.{Did, Does, Puts};
 
 use crate::fetch::function_place;
 use core_integer::integer;
@@ -27,9 +27,9 @@ pub fn low(word: u64) -> u32
     (word % 0x1_0000_0000) as u32
 }
 
-// An operand of a numeric instruction, read at its type.
+/// An operand of a numeric instruction, read at its type.
 #[inline]
-fn operand(ty: CoreType, word: u64) -> u64
+pub fn operand(ty: CoreType, word: u64) -> u64
     ensures value { result ≡ operand_in ty word }
     ensures fits { IsOperand ty result }
 {
@@ -39,23 +39,22 @@ fn operand(ty: CoreType, word: u64) -> u64
     }
 }
 
-/// A numeric instruction.
-#[inline(always)]
-pub fn calculate(slots: &mut Slots, op: NumericOp) -> Result<bool, NoMemory>
+/// Does a numeric instruction, or answers that it traps.
+pub fn calculate(slots: &mut Slots, op: NumericOp) -> bool
     requires { takes (Op.Numeric op) ≤ length slots.old.operands }
-    ensures { IfOk result (λ went. (spaces : CoreSpaces) (store : State) → Did (Op.Numeric op) spaces slots.old store slots.new store went) }
+    ensures { (spaces : CoreSpaces) (store : State) → Did (Op.Numeric op) spaces slots.old store slots.new store result }
 {
     let code = op.code();
     match numeric_of(code) {
         Some(kind) => {
             if kind.params == 1 {
                 let outcome = integer(code, operand(kind.from, slots.top()), 0);
-                return Ok(put(slots, outcome));
+                return put(slots, outcome);
             }
             let last = slots.pop();
             let first = slots.top();
             let outcome = integer(code, operand(kind.from, first), operand(kind.from, last));
-            Ok(put(slots, outcome))
+            put(slots, outcome)
         }
         None => unreachable!(),
     }
@@ -74,6 +73,15 @@ fn put(slots: &mut Slots, outcome: Result<u64, Trap>) -> bool
         }
         Err(_) => false,
     }
+}
+
+/// A constant of 32 bits.
+#[inline(always)]
+pub fn put_constant(slots: &mut Slots, value: i32) -> Result<(), NoMemory>
+    ensures { IfOk result (λ _. (spaces : CoreSpaces) (store : State) → Does (Op.I32Const value) spaces slots.old store slots.new store) }
+{
+    slots.push(value.cast_unsigned() as u64)?;
+    Ok(())
 }
 
 /// Does an instruction on operands alone, other than a numeric one.

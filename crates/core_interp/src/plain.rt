@@ -32,7 +32,7 @@ pub fn operate(
 {
     match op {
         // Frequent instructions have arms of their own, where the match of their group is decided.
-        Op::Numeric(op) => calculate(slots, op),
+        Op::Numeric(op) => Ok(calculate(slots, op)),
         Op::I32Const(_) => on_operands(slots, store, spaces, op),
         Op::LocalGet(_) => on_variable(slots, store, spaces, op),
         Op::LocalSet(_) => on_variable(slots, store, spaces, op),

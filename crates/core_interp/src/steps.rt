@@ -217,6 +217,32 @@ impl Running {
         }
     }
 
+    // A straight run, and the instruction behind it.
+    #[inline(always)]
+    fn stretch(
+        &mut self,
+        alloc: Global,
+        code: &Code,
+        spaces: &CoreSpaces,
+        store: &mut Store,
+        budget: &mut u64,
+    ) -> Result<Flow, NoMemory>
+        requires ready { Ready self.old store.old }
+        requires code { code.now ≡ code_at (scene_of store.old) self.old.function }
+        requires spaces { spaces.now ≡ spaces_at (scene_of store.old) self.old.function }
+        requires fine { IsFine (scene_of store.old) }
+        ensures leads { IfOk result (λ flow. RunLeads (ahead (goes self.old store.old) (budget.old - budget.new)) budget.new flow self.new store.new) }
+        ensures traps { IfOk result (λ flow. TrapsBehind (goes self.old store.old) (budget.old - budget.new) flow) }
+        ensures entry { IfOk result (λ flow. Remains flow self.old self.new) }
+        ensures scene { IfOk result (λ _. scene_of store.old ≡ scene_of store.new) }
+        ensures budget { IfOk result (λ _. budget.new ≤ budget.old) }
+        ensures falls { IfOk result (λ flow. Falls flow (2 * budget.new + length self.new.controls.items) (2 * budget.old + length self.old.controls.items)) }
+    {
+        self.run_straight(code, spaces, store, budget)?;
+        let flow = self.one(alloc, code, spaces, store, budget)?;
+        Ok(flow)
+    }
+
     // Runs while the code of one function is at hand, which the caller holds.
     fn run_in(
         &mut self,
@@ -240,7 +266,7 @@ impl Running {
         let function = self.function;
         let mut left = *budget;
         loop {
-            let flow = self.one(alloc, code, spaces, store, &mut left)?;
+            let flow = self.stretch(alloc, code, spaces, store, &mut left)?;
             match flow {
                 Flow::On if self.function == function => {}
                 flow => {

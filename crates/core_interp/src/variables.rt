@@ -1,16 +1,49 @@
 //! Instructions on locals and globals.
 
-ghost use Rattle.std.specs.Prelude.{◌≡◌, ◌≤◌, IfOk, length};
+ghost use Rattle.std.specs.Prelude.{◌≡◌, ◌<◌, ◌≤◌, IfOk, length};
+ghost use Rattle.core_store.specs.declared.value.CoreSpaces.{CoreSpaces};
+ghost use Rattle.core_store.specs.State.{State};
 ghost use Rattle.core_eval.specs.Scene.{scene_of};
 ghost use Rattle.core_interp.specs.Groups.{IsOnVariable};
 ghost use Rattle.core_eval.specs.Fine.{takes, Names};
-ghost use Rattle.core_interp.specs.Plains.{Did};
+ghost use Rattle.core_interp.specs.Plains.{Did, Does};
 
 use crate::fetch::global_place;
 use core_slots::{Slots, value_like, word};
 use core_store::{CoreSpaces, Store, functions, global_get, global_set};
 use virt_base::NoMemory;
 use wasm_ast::Op;
+
+/// `local.get`.
+#[inline(always)]
+pub fn get_local(slots: &mut Slots, index: u32) -> Result<(), NoMemory>
+    requires { index < length slots.old.locals }
+    ensures { IfOk result (λ _. (spaces : CoreSpaces) (store : State) → Does (Op.LocalGet index) spaces slots.old store slots.new store) }
+{
+    slots.push(slots.local(index))?;
+    Ok(())
+}
+
+/// `local.set`.
+#[inline(always)]
+pub fn set_local(slots: &mut Slots, index: u32)
+    requires there { index < length slots.old.locals }
+    requires operand { 1 ≤ length slots.old.operands }
+    ensures { (spaces : CoreSpaces) (store : State) → Does (Op.LocalSet index) spaces slots.old store slots.new store }
+{
+    let value = slots.pop();
+    slots.set_local(index, value);
+}
+
+/// `local.tee`.
+#[inline(always)]
+pub fn tee_local(slots: &mut Slots, index: u32)
+    requires there { index < length slots.old.locals }
+    requires operand { 1 ≤ length slots.old.operands }
+    ensures { (spaces : CoreSpaces) (store : State) → Does (Op.LocalTee index) spaces slots.old store slots.new store }
+{
+    slots.set_local(index, slots.top());
+}
 
 /// Does an instruction on a local or a global. It never traps.
 #[inline(always)]
@@ -28,18 +61,15 @@ pub fn on_variable(
 {
     match op {
         Op::LocalGet(index) => {
-            slots.push(slots.local(index))?;
+            get_local(slots, index)?;
             Ok(true)
         }
         Op::LocalSet(index) => {
-            let value = slots.pop();
-            slots.set_local(index, value);
+            set_local(slots, index);
             Ok(true)
         }
         Op::LocalTee(index) => {
-            let value = slots.pop();
-            slots.push(value)?;
-            slots.set_local(index, value);
+            tee_local(slots, index);
             Ok(true)
         }
         Op::GlobalGet(index) => {
