@@ -1,0 +1,5 @@
+mod NumberLemmas
+mod KeptLemmas
+mod CountLemmas
+mod HoldingLemmas
+mod LiveLemmas

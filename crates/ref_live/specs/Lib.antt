@@ -1,0 +1,4 @@
+pub mod Contents
+pub mod Numbers
+pub mod Lives
+pub mod Holding
