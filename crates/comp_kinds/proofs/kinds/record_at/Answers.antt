@@ -1,0 +1,18 @@
+use Rattle.std.proofs.Common.{◌≡◌, ◌∙◌, ap, refl, sym, subst}
+use Rattle.wit_types.specs.declared.types.Fields.{Fields, out-Fields, out-roll-Fields}
+use Rattle.wit_types.specs.declared.types.WitType.TheVariants.{Record}
+use Rattle.wit_types.specs.Plain.{AsRecord, Plain, RecordType, fields_of, plain}
+use Rattle.wit_types.proofs.PlainLemmas.{plain-Record}
+use Rattle.comp_facts.specs.Facts.{IsFactsOf}
+use Rattle.comp_kinds.proofs.kinds.record_at.Goals as goal
+
+pub new-requires : goal.new-requires
+new-requires c =
+    let e : plain (Record c.in_ok-shared.field-0) ≡ RecordType AsRecord (fields_of c.in_ok-items.items.items) = plain-Record c.in_ok-shared.field-0 ∙ (ap (λ (fs : Fields). RecordType AsRecord (fields_of (out-Fields fs).items.items)) c.in_ok-shared.ensures ∙ rw out-roll-Fields refl) in
+    subst (λ (t : Plain). IsFactsOf t c.record.result) (sym e) (c.record.ensures AsRecord (fields_of c.in_ok-items.items.items) c.in_ok-items.ensures.facts)
+
+pub returns : goal.returns
+returns c = λ s h.
+    c.new.ensures ∙ (plain-Record c.in_ok-shared.field-0
+    ∙ (ap (λ (fs : Fields). RecordType AsRecord (fields_of (out-Fields fs).items.items)) c.in_ok-shared.ensures
+    ∙ rw out-roll-Fields (ap (RecordType AsRecord) (c.in_ok-items.ensures.fields s h))))
