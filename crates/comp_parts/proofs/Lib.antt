@@ -1,0 +1,4 @@
+pub mod Exact
+pub mod Embedding
+pub mod Fair
+pub mod Whole
