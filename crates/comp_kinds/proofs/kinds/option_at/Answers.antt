@@ -10,4 +10,4 @@ new-requires c =
     subst (λ (t : Plain). IsFactsOf t c.variant.result)
     (sym (plain-Option c.in_ok-shared_type.field-0 ∙ ap (λ (t : Plain). VariantType AsOption (Bare [] (More [] t End))) c.in_ok-shared_type.ensures))
     (c.variant.ensures AsOption (Bare [] (More [] c.in_ok-item.item End))
-        (c.add.ensures.part (Bare [] End) [] c.in_ok-item.item (bare-kept End [] c.none-facts.result c.none-facts.ensures) c.facts.ensures))
+    (c.add.ensures.part (Bare [] End) [] c.in_ok-item.item (bare-kept End [] c.none-facts.result c.none-facts.ensures) c.facts.ensures))
