@@ -1,5 +1,5 @@
 -- A group of which each instance stands in another group does the same there.
-use Rattle.std.proofs.Common.{◌≡◌, ℕ, zero, suc, ◌+◌, ◌-◌, ◌≤◌, List, [], ◌∷◌, ◌++◌, Option, Some, None, Bool, true, false, length, map, slice_index, refl, sym, ◌∙◌, ap, subst, arith}
+use Rattle.std.proofs.Common.{◌≡◌, ℕ, zero, suc, ◌+◌, ◌-◌, ◌≤◌, List, [], ◌∷◌, ◌++◌, Option, Some, None, Bool, true, false, map, slice_index, refl, sym, ap, subst, arith}
 use Rattle.std.specs.Option.{option_map}
 use Rattle.core_memory.specs.Number.{bytes_of}
 use Rattle.core_store.specs.State.{State}
@@ -17,9 +17,9 @@ use Rattle.abi_layout.specs.Handles.{renumbered}
 use Rattle.abi_layout.specs.Storing.{Step, Ask, Write, Place, Refuse, Lowered}
 use Rattle.comp_worlds.specs.Acts.{then_do, Act, ◌>>◌, gives, takes_step, with_more}
 use Rattle.comp_worlds.specs.Passing.{Passed, params_tuple, answer_tuple, handles_of, most_params, most_results, spills_over, lower_params, lower_result}
-use Rattle.comp_worlds.specs.Groups.{Nesting, deeper, at_depth, store_at, Import, Options, Lifting, Target, Mine, Theirs, type_of, Func, LoweredFunc, ResourceNew, ResourceDrop, ResourceRep, Owner, Stage, Provides, Makes, Begins, Group, Config, World, Due, Nothing, Served, Below, Answer, Origin, Inside, Ports}
+use Rattle.comp_worlds.specs.Groups.{Nesting, deeper, at_depth, store_at, Import, Options, Target, Mine, Theirs, type_of, Func, LoweredFunc, ResourceNew, ResourceDrop, ResourceRep, Owner, Stage, Provides, Makes, Begins, Group, Config, World, Due, Nothing, Served, Below, Answer, Origin, Inside, Ports}
 use Rattle.comp_worlds.specs.Locals.{Local, is_open, enter, exit, close, reopen, with_store, lifts, ends_loans, has_no_borrow, adds_handles, has_place, is_granted, writes, base_of, flat_word, makes, reads, removes, provides, makes_module}
-use Rattle.comp_worlds.specs.Calls.{with_config, on_end, on, below, Pause, Question, core_end, core, store_of, begins_call, number_if, owns, borrowed, unborrowed, plainly, asks_for, stores, lowers_closed, lowers_params, finds_place, lowers_result, post_returns, answers, during, place_in, leaves, calls, destructs, visits, drops, destructs_own, drops_by, drops_if, performs, goes_on, drives, runs, starts, does, does_all}
+use Rattle.comp_worlds.specs.Calls.{with_config, on_end, on, below, Question, core_end, core, store_of, number_if, owns, borrowed, unborrowed, plainly, asks_for, stores, lowers_closed, lowers_params, finds_place, lowers_result, post_returns, answers, during, place_in, leaves, calls, destructs, visits, drops, destructs_own, drops_by, drops_if, performs, goes_on, drives, runs, starts, does, does_all}
 use Rattle.comp_worlds.proofs.Closed.{owned}
 use Rattle.comp_parts.specs.Parts.{target_to, func_to, owner_to, stage_to, stages_to, Embeds}
 use Rattle.comp_parts.proofs.Exact.{Equals, equals_before, Exact, exact_less, exact_then, exact_gives, exact_gives_second, exact_step, exact_traps, exact_call, Loose, loose_then, loose_call, loose_more}

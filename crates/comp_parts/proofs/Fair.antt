@@ -1,17 +1,16 @@
 -- No more steps are left than there were.
-use Rattle.std.proofs.Common.{◌≡◌, ℕ, zero, suc, ◌+◌, ◌≤◌, List, [], ◌∷◌, ◌++◌, Option, Some, None, Bool, true, false, refl, sym, ap, subst, arith}
+use Rattle.std.proofs.Common.{◌≡◌, ℕ, zero, suc, ◌≤◌, List, [], ◌∷◌, Option, Some, None, Bool, true, false, refl, sym, ap, subst, arith}
 use Rattle.std.specs.Option.{option_map}
 use Rattle.host_port.specs.declared.call.Resource.{Resource}
 use Rattle.host_port.specs.Calls.{PlainAnswer, PlainObservation, Gives, Trap, Ended, Bad}
 use Rattle.host_port.specs.Hosts.{HostStep}
-use Rattle.wit_types.specs.Plain.{Plain}
 use Rattle.comp_worlds.specs.Acts.{Out, Next, Over, Spent, seen_before, then_do, Act, ◌>>◌, gives, traps, takes_step}
 use Rattle.comp_worlds.specs.Passing.{Passed, answer_tuple}
-use Rattle.comp_worlds.specs.Groups.{Nesting, has_room, Import, Target, Mine, Theirs, Func, LoweredFunc, ResourceNew, ResourceDrop, ResourceRep, Owner, Stage, Provides, Makes, Begins, Group, Config, World, Due, Nothing, Served, Below, Answer, Origin, Inside, Outside, Ports}
+use Rattle.comp_worlds.specs.Groups.{Nesting, has_room, Import, Target, Mine, Theirs, Func, LoweredFunc, ResourceNew, ResourceDrop, ResourceRep, Stage, Provides, Makes, Begins, Group, World, Due, Nothing, Served, Below, Origin, Inside, Outside, Ports}
 use Rattle.comp_worlds.specs.Calls.{with_config, below_end, below, too_deep, if_room, finds_room, begins_call, answers, during, leaves, drops, runs, deep_enough, answers_if, drops_given, group, does_all, is_made}
 use Rattle.comp_worlds.specs.Hosts.{call_of, answered_by, reacts, loses, stays, asks_host, hosted}
 use Rattle.comp_worlds.specs.Observed.{State, stack, are_made}
-use Rattle.comp_parts.specs.Parts.{target_to, func_to, owner_to, stage_to, stages_to, Embeds}
+use Rattle.comp_parts.specs.Parts.{target_to, func_to, stages_to, Embeds}
 use Rattle.comp_parts.proofs.Exact.{Equals, Exact, exact_gives_first}
 use Rattle.comp_parts.proofs.Embedding.{Eq, DueTo, Answers_as, LeadsTo, KnownIn, InStep, exact_runs, exact_answers, exact_leaves, exact_drops, exact_all}
 

@@ -1,18 +1,16 @@
 -- A group made of two does what its parts do, the one over the other.
-use Rattle.std.proofs.Common.{◌≡◌, ℕ, suc, ◌+◌, ◌≤◌, ◌<◌, ◌⊎◌, inl, inr, List, [], ◌∷◌, ◌++◌, Option, Some, None, refl, sym, ◌∙◌, ap, subst, arith, append_assoc}
+use Rattle.std.proofs.Common.{◌≡◌, ℕ, suc, ◌≤◌, ◌<◌, inl, inr, List, [], ◌∷◌, ◌++◌, Option, Some, None, refl, sym, ◌∙◌, ap, subst, arith, append_assoc}
 use Rattle.std.specs.Option.{option_map}
-use Rattle.wit_types.specs.Plain.{Name}
-use Rattle.host_port.specs.declared.call.Resource.{Resource}
 use Rattle.host_port.specs.Calls.{PlainObservation, Returned, Spent as IsSpent}
 use Rattle.host_port.specs.Hosts.{HostStep}
-use Rattle.comp_worlds.specs.Acts.{end_item, Out, Next, Over, Spent, observed_of, seen_of, seen_before, then_do, Act, ◌>>◌, gives, traps, takes_step, shows}
+use Rattle.comp_worlds.specs.Acts.{Out, Next, Over, Spent, observed_of, seen_of, seen_before, then_do, Act, ◌>>◌, gives, shows}
 use Rattle.comp_worlds.specs.Passing.{Passed, out_of_tuple}
-use Rattle.comp_worlds.specs.Groups.{Nesting, Import, Options, Target, Mine, Theirs, type_of, Func, LoweredFunc, ResourceNew, ResourceDrop, ResourceRep, Stage, Group, Config, World, Due, Nothing, Served, Below, Answer, Origin, Outside, Ports}
-use Rattle.comp_worlds.specs.Calls.{set, with_config, below_end, below, Run, answers, during, leaves, drops, runs, deep_enough, answers_if, drops_given, group, does, does_all, is_made}
+use Rattle.comp_worlds.specs.Groups.{Nesting, Import, Target, Mine, Theirs, type_of, Func, LoweredFunc, ResourceNew, ResourceDrop, ResourceRep, Stage, Group, Config, World, Due, Nothing, Served, Below, Origin, Outside, Ports}
+use Rattle.comp_worlds.specs.Calls.{set, below_end, below, Run, answers, during, leaves, drops, runs, deep_enough, answers_if, drops_given, group, does, does_all, is_made}
 use Rattle.comp_worlds.specs.Hosts.{hosted}
 use Rattle.comp_worlds.specs.Observed.{State, stack, first_state, are_made, Call, without_handles, asks_export, leaves_export, makes_calls, runs_calls}
 use Rattle.comp_worlds.proofs.Joint.{set_all, set_here, set_there}
-use Rattle.comp_parts.specs.Parts.{target_to, func_to, owner_to, stages_to, Embeds, IsImportOf, DropsSome, Joins, SameAsParts}
+use Rattle.comp_parts.specs.Parts.{target_to, owner_to, stages_to, IsImportOf, DropsSome, Joins, SameAsParts}
 use Rattle.comp_parts.proofs.Exact.{Equals, Exact, exact_then, exact_gives, exact_gives_first, exact_traps}
 use Rattle.comp_parts.proofs.Embedding.{Eq, DueTo, Answers_as, LeadsTo, KnownIn, InStep, exact_runs, exact_answers, exact_leaves, exact_drops, exact_all}
 use Rattle.comp_parts.proofs.Fair.{Left, Fair, host_fair, stack_fair, are_made_left, Under, exact_below, exact_itself}

@@ -1,5 +1,5 @@
 -- A group that is made of two: the instances of A, and those of B, whose imports are the exports of A. (This project's own.)
-use Rattle.std.specs.Prelude.{◌≡◌, ◌⊎◌, ℕ, List, [], ◌∷◌, ◌++◌, Option, Some, None}
+use Rattle.std.specs.Prelude.{◌≡◌, ◌⊎◌, ℕ, List, [], ◌∷◌, ◌++◌, Some, None}
 use Rattle.std.specs.Option.{option_map}
 use Rattle.wit_types.specs.Plain.{Name}
 use Rattle.host_port.specs.Hosts.{HostStep}
