@@ -1,3 +1,4 @@
 pub mod Samples
 pub mod Rows
 pub mod Counters
+pub mod Joined

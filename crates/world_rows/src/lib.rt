@@ -2,11 +2,16 @@
 #![tactic(auto)]
 
 ghost use Rattle.std.specs.Prelude.{ℕ, List, []};
-ghost use Rattle.comp_worlds.specs.Groups.{Group};
+ghost use Rattle.comp_worlds.specs.Groups.{Nesting, Group};
+ghost use Rattle.comp_worlds.specs.Observed.{Call};
 ghost use Rattle.comp_worlds.specs.Related.{SeenAlike};
+ghost use Rattle.comp_parts.specs.Parts.{SameAsParts};
 ghost use Rattle.world_rows.specs.Counters.{single, double, of_hosts, SameCount, SameAnswered, Given};
+ghost use Rattle.world_rows.specs.Samples.{clock, reader};
+ghost use Rattle.world_rows.specs.Joined.{both_readers, at_first, at_second, meets_reader, JoinedExamples};
 ghost use Rattle.world_rows.specs.Rows.{ClockExamples, ReallocExamples, BorrowExamples, DestructorExamples, EnteredExamples};
 
+use comp_parts::{Parts, parts_do_what_the_whole_does};
 use comp_worlds::{Worlds, related_hosts_are_seen_alike};
 
 /// A component reads a clock, with steps and calls in progress counted. It does nothing when it runs.
@@ -70,4 +75,43 @@ pub fn counters_are_seen_alike()
     ensures { (G : Group) → SeenAlike [] single double of_hosts SameCount G }
 {
     related_hosts_are_seen_alike::<Counters>();
+}
+
+/// One reader of the clock over another, and the group of both. It does nothing when it runs.
+#[tactic(auto, using(crate::proofs::Joining::joined_examples))]
+pub fn readers_are_joined()
+    ensures { JoinedExamples }
+{}
+
+/// A reader of the clock over another one.
+#[derive(Clone, Copy)]
+pub struct Readers;
+
+impl Parts for Readers {
+    ghost states = { ℕ };
+
+    ghost machine = { clock };
+
+    ghost below = { [] };
+
+    ghost lower = { reader };
+
+    ghost upper = { reader };
+
+    ghost whole = { both_readers };
+
+    ghost left = { at_first };
+
+    ghost right = { at_second };
+
+    ghost meets = { meets_reader };
+
+    fn known(self) {}
+}
+
+/// The premise of the law of parts holds of them.
+pub fn readers_do_what_both_do()
+    ensures { (s : ℕ) (d : Nesting) (calls : List Call) (n : ℕ) → SameAsParts reader reader both_readers [] clock s d calls n }
+{
+    parts_do_what_the_whole_does::<Readers>();
 }
