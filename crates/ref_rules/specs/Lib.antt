@@ -1,0 +1,4 @@
+pub mod Seen
+pub mod Sources
+pub mod Parts
+pub mod Denials
