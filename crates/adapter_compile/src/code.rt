@@ -3,7 +3,9 @@
 ghost use Rattle.std.specs.Prelude.{◌≡◌, suc, ◌+◌, ◌<◌, ◌≤◌, ◌^◌, [], ◌∷◌, ◌++◌, None, Some, IfOk, OnOk, length, reverse};
 ghost use Rattle.adapter_code.specs.Code.{Stop, before, code_of};
 ghost use Rattle.adapter_code.specs.Plain.{IsPlain};
-ghost use Rattle.adapter_compile.specs.Instructions.{at_offset as at, get as get_of, set as set_of, tee as tee_of, call_at, call_of as call_code, conversion, statement_code, turns_begin, turns_end, turns_code, code_in, routine_code, width_in};
+ghost use Rattle.adapter_code.specs.declared.statement.Statement.{Move, Load, Store};
+ghost use Rattle.adapter_compile.specs.declared.calls.HandleCalls.{HandleCalls as HandleCodes};
+ghost use Rattle.adapter_compile.specs.Instructions.{Labels, at_offset as at, get as get_of, set as set_of, tee as tee_of, call_at, call_of as call_code, conversion, statement_code, turns_begin, turns_end, turns_code, code_in, routine_code, width_in};
 ghost use Rattle.adapter_compile.specs.Bounds.{brackets};
 
 use crate::calls::HandleCalls;
@@ -132,11 +134,7 @@ fn put_plain(
             put(out, constant(width_of(widths, *to), *value))?;
             put(out, set(*to))
         }
-        Statement::Move { to, from } => {
-            put(out, get(*from))?;
-            convert(out, width_of(widths, *to), width_of(widths, *from))?;
-            put(out, set(*to))
-        }
+        Statement::Move { to, from } => put_move(out, widths, *to, *from),
         Statement::Int { op, to, a, b } => {
             put(out, get(*a))?;
             put(out, get(*b))?;
@@ -148,23 +146,13 @@ fn put_plain(
             at,
             offset,
             width,
-        } => {
-            let load = load_of(width_of(widths, *to), *width);
-            put(out, get(*at))?;
-            put(out, Instr::Plain(Op::Load(load, at_offset(*offset))))?;
-            put(out, set(*to))
-        }
+        } => put_load(out, widths, *to, *at, *offset, *width),
         Statement::Store {
             from,
             at,
             offset,
             width,
-        } => {
-            let store = store_of(width_of(widths, *from), *width);
-            put(out, get(*at))?;
-            put(out, get(*from))?;
-            put(out, Instr::Plain(Op::Store(store, at_offset(*offset))))
-        }
+        } => put_store(out, widths, *from, *at, *offset, *width),
         Statement::NewHandle { kind, rep, to } => {
             put(out, get(*rep))?;
             put(out, call_of(&calls.makes, *kind))?;
@@ -179,6 +167,49 @@ fn put_plain(
         Statement::Trap => put(out, Instr::Unreachable),
         Statement::If { .. } | Statement::Repeat { .. } => unreachable!(),
     }
+}
+
+// A copy of one local to another.
+fn put_move(out: &mut Vec<Instr>, widths: &[Width], to: u32, from: u32) -> Result<(), NoMemory>
+    ensures { (calls : HandleCodes) (labels : Labels) → OnOk result (out.new.items ≡ out.old.items ++ statement_code widths.now calls labels (Move to from)) }
+{
+    put(out, get(from))?;
+    convert(out, width_of(widths, to), width_of(widths, from))?;
+    put(out, set(to))
+}
+
+// A load into a local.
+fn put_load(
+    out: &mut Vec<Instr>,
+    widths: &[Width],
+    to: u32,
+    at: u32,
+    offset: u32,
+    width: u8,
+) -> Result<(), NoMemory>
+    ensures { (calls : HandleCodes) (labels : Labels) → OnOk result (out.new.items ≡ out.old.items ++ statement_code widths.now calls labels (Load to at offset width)) }
+{
+    let load = load_of(width_of(widths, to), width);
+    put(out, get(at))?;
+    put(out, Instr::Plain(Op::Load(load, at_offset(offset))))?;
+    put(out, set(to))
+}
+
+// A store of a local.
+fn put_store(
+    out: &mut Vec<Instr>,
+    widths: &[Width],
+    from: u32,
+    at: u32,
+    offset: u32,
+    width: u8,
+) -> Result<(), NoMemory>
+    ensures { (calls : HandleCodes) (labels : Labels) → OnOk result (out.new.items ≡ out.old.items ++ statement_code widths.now calls labels (Store from at offset width)) }
+{
+    let store = store_of(width_of(widths, from), width);
+    put(out, get(at))?;
+    put(out, get(from))?;
+    put(out, Instr::Plain(Op::Store(store, at_offset(offset))))
 }
 
 // The conversion of a number of one width to another.
