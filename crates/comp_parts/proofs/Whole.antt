@@ -47,16 +47,16 @@ module _ {S : Type 0} (A B AB : Group) (left right : ℕ → ℕ) (meets : Impor
   leads1 (Theirs f) = tt
 
   module _ (c : ℕ → Config ℕ) where
-    abbrev R1 : World S → World S → Type 0
-    R1 w u = Lefts left right c w u
+    abbrev OnLeft : World S → World S → Type 0
+    OnLeft w u = Lefts left right c w u
 
-    same_below : {X : Type 0} → (b : ℕ) (x : Act S X) → ((s : S) (n : ℕ) → Left n (x s n)) → (w u : World S) → R1 w u → Exact b (Eq R1) (below x w) (below x u)
+    same_below : {X : Type 0} → (b : ℕ) (x : Act S X) → ((s : S) (n : ℕ) → Left n (x s n)) → (w u : World S) → OnLeft w u → Exact b (Eq OnLeft) (below x w) (below x u)
     same_below b x fair' w u r =
-        exact_below b (Eq R1) x x w u
-        (subst (λ z. Exact b (λ s a t a'. Eq R1 (record { configs = w.configs; below = s }) a (record { configs = u.configs; below = t }) a') (x w.below) (x z)) r.under
+        exact_below b (Eq OnLeft) x x w u
+        (subst (λ z. Exact b (λ s a t a'. Eq OnLeft (record { configs = w.configs; below = s }) a (record { configs = u.configs; below = t }) a') (x w.below) (x z)) r.under
         (exact_itself b _ (x w.below) (fair' w.below) (λ s a. (record { lefts = r.lefts; rights = r.rights; under = refl }, refl))))
 
-    step1 : InStep A AB p p left Theirs R1 Under Any_import Known1
+    step1 : InStep A AB p p left Theirs OnLeft Under Any_import Known1
     step1 = record {
       here = λ k w u r. r.lefts k;
       put = λ k x w u r. record {
@@ -68,25 +68,25 @@ module _ {S : Type 0} (A B AB : Group) (left right : ℕ → ℕ) (meets : Impor
       types = λ f used. refl;
       nests = λ d due t is. ap (during d) is;
       asks = λ b d from f passed w u used r.
-          exact_gives_first b (Eq R1) (Answers_as R1 Under) (below (p.ask d from f passed)) (below (p.ask d from f passed)) (λ a. record { passed = a.passed; due = Below a.due }) w u
+          exact_gives_first b (Eq OnLeft) (Answers_as OnLeft Under) (below (p.ask d from f passed)) (below (p.ask d from f passed)) (λ a. record { passed = a.passed; due = Below a.due }) w u
           (λ w' a u' a' k. (k.0, ap (λ z. z.passed) k.1, ap (λ z. Below z.due) k.1))
           (same_below b (p.ask d from f passed) (fair.asks d from f passed) w u r);
       leaves = λ b d due t w u is r.
-          subst (λ z. Exact b (Eq R1) (leaves AB p (runs AB p b) d z w) (below (p.leave d t) u)) (sym is) (same_below b (p.leave d t) (fair.leaves d t) w u r);
+          subst (λ z. Exact b (Eq OnLeft) (leaves AB p (runs AB p b) d z w) (below (p.leave d t) u)) (sym is) (same_below b (p.leave d t) (fair.leaves d t) w u r);
       drops = λ b d r x w u known none r'.
-          subst (λ z. Exact b (Eq R1) (drops AB p (runs AB p b) d r x z w) (below (p.drop d (A.imported r) x) u)) (sym (j.below r known ∙ ap (option_map (owner_to left)) none))
-          (subst (λ z. Exact b (Eq R1) (below (p.drop d z x) w) (below (p.drop d (A.imported r) x) u)) (sym (j.names r none known)) (same_below b (p.drop d (A.imported r) x) (fair.drops d (A.imported r) x) w u r'));
+          subst (λ z. Exact b (Eq OnLeft) (drops AB p (runs AB p b) d r x z w) (below (p.drop d (A.imported r) x) u)) (sym (j.below r known ∙ ap (option_map (owner_to left)) none))
+          (subst (λ z. Exact b (Eq OnLeft) (below (p.drop d z x) w) (below (p.drop d (A.imported r) x) u)) (sym (j.names r none known)) (same_below b (p.drop d (A.imported r) x) (fair.drops d (A.imported r) x) w u r'));
     }
 
     -- A does in AB what it does alone, at any depth that suffices
-    answers1 : (b m m' : ℕ) → b ≤ m → b ≤ m' → (d : Nesting) (from : Origin) (target : Target) (passed : Passed ℕ) (w u : World S) → R1 w u → Exact b (Answers_as R1 (DueTo left Under)) (answers AB p (runs AB p m) d from (target_to left Theirs target) passed w) (answers A p (runs A p m') d from target passed u)
-    answers1 b m m' le le' d from target passed w u r = exact_answers A AB p p left Theirs R1 Under Any_import Known1 j.lefts step1 b m m' le (exact_runs A AB p p left Theirs R1 Under Any_import Known1 j.lefts step1 b m m' le le') d from target (leads1 target) passed w u r
+    answers1 : (b m m' : ℕ) → b ≤ m → b ≤ m' → (d : Nesting) (from : Origin) (target : Target) (passed : Passed ℕ) (w u : World S) → OnLeft w u → Exact b (Answers_as OnLeft (DueTo left Under)) (answers AB p (runs AB p m) d from (target_to left Theirs target) passed w) (answers A p (runs A p m') d from target passed u)
+    answers1 b m m' le le' d from target passed w u r = exact_answers A AB p p left Theirs OnLeft Under Any_import Known1 j.lefts step1 b m m' le (exact_runs A AB p p left Theirs OnLeft Under Any_import Known1 j.lefts step1 b m m' le le') d from target (leads1 target) passed w u r
 
-    leaves1 : (b m m' : ℕ) → b ≤ m → b ≤ m' → (d : Nesting) (due due' : Due) (w u : World S) → DueTo left Under due due' → R1 w u → Exact b (Eq R1) (leaves AB p (runs AB p m) d due w) (leaves A p (runs A p m') d due' u)
-    leaves1 b m m' le le' d due due' w u is r = exact_leaves A AB p p left Theirs R1 Under Any_import Known1 j.lefts step1 b m m' le (exact_runs A AB p p left Theirs R1 Under Any_import Known1 j.lefts step1 b m m' le le') d due due' w u is r
+    leaves1 : (b m m' : ℕ) → b ≤ m → b ≤ m' → (d : Nesting) (due due' : Due) (w u : World S) → DueTo left Under due due' → OnLeft w u → Exact b (Eq OnLeft) (leaves AB p (runs AB p m) d due w) (leaves A p (runs A p m') d due' u)
+    leaves1 b m m' le le' d due due' w u is r = exact_leaves A AB p p left Theirs OnLeft Under Any_import Known1 j.lefts step1 b m m' le (exact_runs A AB p p left Theirs OnLeft Under Any_import Known1 j.lefts step1 b m m' le le') d due due' w u is r
 
-    drops1 : (b m m' : ℕ) → b ≤ m → b ≤ m' → (d : Nesting) (r x : ℕ) → B.owner r ≡ None → (w u : World S) → R1 w u → Exact b (Eq R1) (drops AB p (runs AB p m) d r x (AB.owner r) w) (drops A p (runs A p m') d r x (A.owner r) u)
-    drops1 b m m' le le' d r x known w u r' = exact_drops A AB p p left Theirs R1 Under Any_import Known1 j.lefts step1 b m m' le (exact_runs A AB p p left Theirs R1 Under Any_import Known1 j.lefts step1 b m m' le le') d r x (A.owner r) refl known w u r'
+    drops1 : (b m m' : ℕ) → b ≤ m → b ≤ m' → (d : Nesting) (r x : ℕ) → B.owner r ≡ None → (w u : World S) → OnLeft w u → Exact b (Eq OnLeft) (drops AB p (runs AB p m) d r x (AB.owner r) w) (drops A p (runs A p m') d r x (A.owner r) u)
+    drops1 b m m' le le' d r x known w u r' = exact_drops A AB p p left Theirs OnLeft Under Any_import Known1 j.lefts step1 b m m' le (exact_runs A AB p p left Theirs OnLeft Under Any_import Known1 j.lefts step1 b m m' le le') d r x (A.owner r) refl known w u r'
 
 during1 : (left : ℕ → ℕ) (d : Nesting) (due due' : Due) → DueTo left Under due due' → during d due ≡ during d due'
 during1 left d due Nothing is = absurd is
@@ -126,8 +126,8 @@ module _ {S : Type 0} (A B AB : Group) (left right : ℕ → ℕ) (meets : Impor
   abbrev Due2 : Due → Due → Type 0
   Due2 d t = DueTo left Under d t
 
-  abbrev R2 : World S → World (World S) → Type 0
-  R2 w v = Lefts left right v.configs w v.below
+  abbrev OnRight : World S → World (World S) → Type 0
+  OnRight w v = Lefts left right v.configs w v.below
 
   known2 : (k n : ℕ) → KnownIn (Used2 B) (DropsSome B) (B.canons k n)
   known2 k n = at (B.canons k n) refl
@@ -144,7 +144,7 @@ module _ {S : Type 0} (A B AB : Group) (left right : ℕ → ℕ) (meets : Impor
   type_left (Mine k lifting) = refl
   type_left (Theirs f) = refl
 
-  step2 : InStep B AB p (group A p) right import2 R2 Due2 (Used2 B) (DropsSome B)
+  step2 : InStep B AB p (group A p) right import2 OnRight Due2 (Used2 B) (DropsSome B)
   step2 = record {
     here = λ k w v r. r.rights k;
     put = λ k x w v r. record {
@@ -156,55 +156,55 @@ module _ {S : Type 0} (A B AB : Group) (left right : ℕ → ℕ) (meets : Impor
     types = λ f used. type_left (meets f) ∙ j.types f used;
     nests = during1 left;
     asks = λ b d from f passed w v used r.
-        subst (λ o. Exact b (Answers_as R2 Due2) (answers AB p (runs AB p b) d from (import2 f) passed w) (below (deep_enough (λ m. answers_if A p (runs A p m) d from o passed)) v)) (sym (j.given f used))
-        (below_deep b (Answers_as (λ w' u'. Lefts left right v.configs w' u') Due2) (Answers_as R2 Due2) (answers AB p (runs AB p b) d from (import2 f) passed w) (λ m. answers A p (runs A p m) d from (meets f) passed) v (λ w' a t b' k. k)
+        subst (λ o. Exact b (Answers_as OnRight Due2) (answers AB p (runs AB p b) d from (import2 f) passed w) (below (deep_enough (λ m. answers_if A p (runs A p m) d from o passed)) v)) (sym (j.given f used))
+        (below_deep b (Answers_as (λ w' u'. Lefts left right v.configs w' u') Due2) (Answers_as OnRight Due2) (answers AB p (runs AB p b) d from (import2 f) passed w) (λ m. answers A p (runs A p m) d from (meets f) passed) v (λ w' a t b' k. k)
         (λ n lt. answers1 A B AB left right meets j p fair v.configs (suc n) b (suc n) (omega arith) (omega arith) d from (meets f) passed w v.below r n (omega arith)));
     leaves = λ b d due t w v is r.
-        below_deep b (Eq (λ w' u'. Lefts left right v.configs w' u')) (Eq R2) (leaves AB p (runs AB p b) d due w) (λ m. leaves A p (runs A p m) d t) v (λ w' a t' b' k. k)
+        below_deep b (Eq (λ w' u'. Lefts left right v.configs w' u')) (Eq OnRight) (leaves AB p (runs AB p b) d due w) (λ m. leaves A p (runs A p m) d t) v (λ w' a t' b' k. k)
         (λ n lt. leaves1 A B AB left right meets j p fair v.configs (suc n) b (suc n) (omega arith) (omega arith) d due t w v.below is r n (omega arith));
     drops = λ b d r x w v known none r'.
-        subst (λ o. Exact b (Eq R2) (drops AB p (runs AB p b) d r x (AB.owner r) w) (below (deep_enough (λ m. drops_given A p (runs A p m) d x o)) v)) (sym (j.resources r known none))
-        (below_deep b (Eq (λ w' u'. Lefts left right v.configs w' u')) (Eq R2) (drops AB p (runs AB p b) d r x (AB.owner r) w) (λ m. drops A p (runs A p m) d r x (A.owner r)) v (λ w' a t b' k. k)
+        subst (λ o. Exact b (Eq OnRight) (drops AB p (runs AB p b) d r x (AB.owner r) w) (below (deep_enough (λ m. drops_given A p (runs A p m) d x o)) v)) (sym (j.resources r known none))
+        (below_deep b (Eq (λ w' u'. Lefts left right v.configs w' u')) (Eq OnRight) (drops AB p (runs AB p b) d r x (AB.owner r) w) (λ m. drops A p (runs A p m) d r x (A.owner r)) v (λ w' a t b' k. k)
         (λ n lt. drops1 A B AB left right meets j p fair v.configs (suc n) b (suc n) (omega arith) (omega arith) d r x none w v.below r' n (omega arith)));
   }
 
   abbrev Owes : Due → Due → Type 0
   Owes d t = DueTo right Due2 d t
 
-  asks2 : (b : ℕ) (d : Nesting) (call : Call) (w : World S) (v : World (World S)) → R2 w v → Exact b (Answers_as R2 Owes) (asks_export AB p d call w) (asks_export B (group A p) d call v)
+  asks2 : (b : ℕ) (d : Nesting) (call : Call) (w : World S) (v : World (World S)) → OnRight w v → Exact b (Answers_as OnRight Owes) (asks_export AB p d call w) (asks_export B (group A p) d call v)
   asks2 b d call w v r =
-      both_deep b (Answers_as R2 Owes) _ _ w v
-      (λ n. subst (λ z. Equals n (Answers_as R2 Owes) (answers_if AB p (runs AB p (suc n)) d Outside z (without_handles call) w n) (answers_if B (group A p) (runs B (group A p) (suc n)) d Outside (B.exports call.interface call.function) (without_handles call) v n)) (sym (j.exports call.interface call.function))
+      both_deep b (Answers_as OnRight Owes) _ _ w v
+      (λ n. subst (λ z. Equals n (Answers_as OnRight Owes) (answers_if AB p (runs AB p (suc n)) d Outside z (without_handles call) w n) (answers_if B (group A p) (runs B (group A p) (suc n)) d Outside (B.exports call.interface call.function) (without_handles call) v n)) (sym (j.exports call.interface call.function))
       (at n (B.exports call.interface call.function) refl n (omega arith)))
     where
       leads : (t : Target) → B.exports call.interface call.function ≡ Some t → LeadsTo (Used2 B) t
       leads (Mine k lifting) is = tt
       leads (Theirs f) is = inr (call.interface, call.function, is)
 
-      at : (n : ℕ) (o : Option Target) → B.exports call.interface call.function ≡ o → Exact (suc n) (Answers_as R2 Owes) (answers_if AB p (runs AB p (suc n)) d Outside (option_map (target_to right import2) o) (without_handles call) w) (answers_if B (group A p) (runs B (group A p) (suc n)) d Outside o (without_handles call) v)
-      at n None is = exact_traps (suc n) (Answers_as R2 Owes) w v
-      at n (Some t) is = exact_answers B AB p (group A p) right import2 R2 Due2 (Used2 B) (DropsSome B) j.rights step2 (suc n) (suc n) (suc n) (omega arith) (exact_runs B AB p (group A p) right import2 R2 Due2 (Used2 B) (DropsSome B) j.rights step2 (suc n) (suc n) (suc n) (omega arith) (omega arith)) d Outside t (leads t is) (without_handles call) w v r
+      at : (n : ℕ) (o : Option Target) → B.exports call.interface call.function ≡ o → Exact (suc n) (Answers_as OnRight Owes) (answers_if AB p (runs AB p (suc n)) d Outside (option_map (target_to right import2) o) (without_handles call) w) (answers_if B (group A p) (runs B (group A p) (suc n)) d Outside o (without_handles call) v)
+      at n None is = exact_traps (suc n) (Answers_as OnRight Owes) w v
+      at n (Some t) is = exact_answers B AB p (group A p) right import2 OnRight Due2 (Used2 B) (DropsSome B) j.rights step2 (suc n) (suc n) (suc n) (omega arith) (exact_runs B AB p (group A p) right import2 OnRight Due2 (Used2 B) (DropsSome B) j.rights step2 (suc n) (suc n) (suc n) (omega arith) (omega arith)) d Outside t (leads t is) (without_handles call) w v r
 
-  leaves2 : (b : ℕ) (d : Nesting) (due due' : Due) (w : World S) (v : World (World S)) → Owes due due' → R2 w v → Exact b (Eq R2) (leaves_export AB p d due w) (leaves_export B (group A p) d due' v)
+  leaves2 : (b : ℕ) (d : Nesting) (due due' : Due) (w : World S) (v : World (World S)) → Owes due due' → OnRight w v → Exact b (Eq OnRight) (leaves_export AB p d due w) (leaves_export B (group A p) d due' v)
   leaves2 b d due due' w v is r =
-      both_deep b (Eq R2) _ _ w v
-      (λ n. exact_leaves B AB p (group A p) right import2 R2 Due2 (Used2 B) (DropsSome B) j.rights step2 (suc n) (suc n) (suc n) (omega arith) (exact_runs B AB p (group A p) right import2 R2 Due2 (Used2 B) (DropsSome B) j.rights step2 (suc n) (suc n) (suc n) (omega arith) (omega arith)) d due due' w v is r n (omega arith))
+      both_deep b (Eq OnRight) _ _ w v
+      (λ n. exact_leaves B AB p (group A p) right import2 OnRight Due2 (Used2 B) (DropsSome B) j.rights step2 (suc n) (suc n) (suc n) (omega arith) (exact_runs B AB p (group A p) right import2 OnRight Due2 (Used2 B) (DropsSome B) j.rights step2 (suc n) (suc n) (suc n) (omega arith) (omega arith)) d due due' w v is r n (omega arith))
 
   abbrev Any : World S → Unit {0} → World (World S) → Unit {0} → Type 0
   Any w a v b = Unit {0}
 
-  exact_shows : (b : ℕ) (o : List PlainObservation) (w : World S) (v : World (World S)) → R2 w v → Exact b (Eq R2) (shows o w) (shows o v)
+  exact_shows : (b : ℕ) (o : List PlainObservation) (w : World S) (v : World (World S)) → OnRight w v → Exact b (Eq OnRight) (shows o w) (shows o v)
   unfolding shows
   exact_shows b o w v r n lt = (refl, refl, omega arith, (r, refl))
 
-  exact_calls : (b : ℕ) (d : Nesting) (calls : List Call) (w : World S) (v : World (World S)) → R2 w v → Exact b Any (makes_calls AB p d calls w) (makes_calls B (group A p) d calls v)
+  exact_calls : (b : ℕ) (d : Nesting) (calls : List Call) (w : World S) (v : World (World S)) → OnRight w v → Exact b Any (makes_calls AB p d calls w) (makes_calls B (group A p) d calls v)
   exact_calls b d [] w v r = exact_gives b Any tt tt w v tt
   exact_calls b d (call ∷ rest) w v r =
-      exact_then b (Answers_as R2 Owes) Any _ _ _ _ w v (asks2 b d call w v r)
+      exact_then b (Answers_as OnRight Owes) Any _ _ _ _ w v (asks2 b d call w v r)
       (λ w1 a v1 a' k.
-      exact_then b (Eq R2) Any _ _ _ _ w1 v1 (leaves2 b d a.due a'.due w1 v1 k.2 k.0)
+      exact_then b (Eq OnRight) Any _ _ _ _ w1 v1 (leaves2 b d a.due a'.due w1 v1 k.2 k.0)
       (λ w2 x v2 y k2.
-      exact_then b (Eq R2) Any _ _ _ _ w2 v2 (subst (λ z. Exact b (Eq R2) (shows (Returned (out_of_tuple z.value) ∷ []) w2) (shows (Returned (out_of_tuple a'.passed.value) ∷ []) v2)) (sym k.1) (exact_shows b (Returned (out_of_tuple a'.passed.value) ∷ []) w2 v2 k2.0))
+      exact_then b (Eq OnRight) Any _ _ _ _ w2 v2 (subst (λ z. Exact b (Eq OnRight) (shows (Returned (out_of_tuple z.value) ∷ []) w2) (shows (Returned (out_of_tuple a'.passed.value) ∷ []) v2)) (sym k.1) (exact_shows b (Returned (out_of_tuple a'.passed.value) ∷ []) w2 v2 k2.0))
       (λ w3 x' v3 y' k3. exact_calls b d rest w3 v3 k3.0)))
 
 -- 3. The whole is made as its parts are
