@@ -290,18 +290,18 @@ all_append G p run d (x ∷ xs) ys w n =
     ∙ sym (then_then (does G p run d x) (λ _. does_all G p run d xs) (λ _. does_all G p run d ys) w n)
 
 module _ {S : Type 0} (A B AB : Group) (left right : ℕ → ℕ) (meets : Import → Target) (j : Joins A B AB left right meets) (p : Ports S) (fair : Fair p) where
-  abbrev R3 : World S → World (World S) → Type 0
-  R3 w v = Lefts left right v.configs w v.below
+  abbrev WhileMade : World S → World (World S) → Type 0
+  WhileMade w v = Lefts left right v.configs w v.below
 
-  made3 : (b : ℕ) (d : Nesting) (w : World S) (v : World (World S)) → R3 w v → Exact b (Eq R3) (is_made AB p d w) ((below (is_made A p d) >> λ _. is_made B (group A p) d) v)
+  made3 : (b : ℕ) (d : Nesting) (w : World S) (v : World (World S)) → WhileMade w v → Exact b (Eq WhileMade) (is_made AB p d w) ((below (is_made A p d) >> λ _. is_made B (group A p) d) v)
   unfolding deep_enough
   made3 b d w v r n lt =
-      subst (λ z. Equals n (Eq R3) z ((below (is_made A p d) >> λ _. is_made B (group A p) d) v n))
+      subst (λ z. Equals n (Eq WhileMade) z ((below (is_made A p d) >> λ _. is_made B (group A p) d) v n))
       (sym (ap (λ l. does_all AB p (runs AB p (suc n)) d l w n) j.stages ∙ all_append AB p (runs AB p (suc n)) d (stages_to left A.stages) (stages_to right B.stages) w n))
-      (exact_then (suc n) (Eq R3) (Eq R3) (does_all AB p (runs AB p (suc n)) d (stages_to left A.stages)) (λ _. does_all AB p (runs AB p (suc n)) d (stages_to right B.stages)) (below (is_made A p d)) (λ _. is_made B (group A p) d) w v
-      (below_deep (suc n) (Eq (λ w' u'. Lefts left right v.configs w' u')) (Eq R3) (does_all AB p (runs AB p (suc n)) d (stages_to left A.stages) w) (λ m. does_all A p (runs A p m) d A.stages) v (λ w' a t b' k. k)
+      (exact_then (suc n) (Eq WhileMade) (Eq WhileMade) (does_all AB p (runs AB p (suc n)) d (stages_to left A.stages)) (λ _. does_all AB p (runs AB p (suc n)) d (stages_to right B.stages)) (below (is_made A p d)) (λ _. is_made B (group A p) d) w v
+      (below_deep (suc n) (Eq (λ w' u'. Lefts left right v.configs w' u')) (Eq WhileMade) (does_all AB p (runs AB p (suc n)) d (stages_to left A.stages) w) (λ m. does_all A p (runs A p m) d A.stages) v (λ w' a t b' k. k)
       (λ n' lt'. exact_all A AB p p left Theirs (λ w' u'. Lefts left right v.configs w' u') Under Any_import (λ r'. B.owner r' ≡ None) j.lefts (step1 A B AB left right meets j p fair v.configs) (suc n') (suc n) (suc n') (omega arith) (omega arith) d A.stages w v.below r n' (omega arith)))
-      (λ w' x v' y k n' lt'. exact_all B AB p (group A p) right (λ f. target_to left Theirs (meets f)) R3 (λ d' t. DueTo left Under d' t) (Used2 B) (DropsSome B) j.rights (step2 A B AB left right meets j p fair) (suc n') (suc n) (suc n') (omega arith) (omega arith) d B.stages w' v' k.0 n' (omega arith))
+      (λ w' x v' y k n' lt'. exact_all B AB p (group A p) right (λ f. target_to left Theirs (meets f)) WhileMade (λ d' t. DueTo left Under d' t) (Used2 B) (DropsSome B) j.rights (step2 A B AB left right meets j p fair) (suc n') (suc n) (suc n') (omega arith) (omega arith) d B.stages w' v' k.0 n' (omega arith))
       n (omega arith))
 
 -- a group of two parts over groups over a host
@@ -312,17 +312,17 @@ module _ {S : Type 0} (A B AB : Group) (left right : ℕ → ℕ) (meets : Impor
   fair4 : Fair p4
   fair4 = stack_fair groups (hosted h) (host_fair h)
 
-  abbrev R4 : World (State groups S) → World (World (State groups S)) → Type 0
-  R4 w v = Lefts left right v.configs w v.below
+  abbrev OnceMade : World (State groups S) → World (World (State groups S)) → Type 0
+  OnceMade w v = Lefts left right v.configs w v.below
 
   abbrev Any4 : World (State groups S) → Unit {0} → World (World (State groups S)) → Unit {0} → Type 0
   Any4 w a v b = Unit {0}
 
-  below_first : (b : ℕ) → Exact b (Eq R4) (below (are_made d groups (hosted h)) (first_state (AB ∷ groups) s)) (below (below (are_made d groups (hosted h))) (first_state (B ∷ A ∷ groups) s))
+  below_first : (b : ℕ) → Exact b (Eq OnceMade) (below (are_made d groups (hosted h)) (first_state (AB ∷ groups) s)) (below (below (are_made d groups (hosted h))) (first_state (B ∷ A ∷ groups) s))
   unfolding below
   below_first b n lt = at (are_made d groups (hosted h) (first_state groups s) n) (are_made_left d groups (hosted h) (host_fair h) (first_state groups s) n)
     where
-      at : (u : Out (State groups S) (Unit {0})) → Left n u → Equals n (Eq R4) (below_end (first_state (AB ∷ groups) s) u) (below_end (first_state (B ∷ A ∷ groups) s) (below_end (first_state (A ∷ groups) s) u))
+      at : (u : Out (State groups S) (Unit {0})) → Left n u → Equals n (Eq OnceMade) (below_end (first_state (AB ∷ groups) s) u) (below_end (first_state (B ∷ A ∷ groups) s) (below_end (first_state (A ∷ groups) s) u))
       at (Next o l s' a) le = (refl, refl, le, (record { lefts = λ k. refl; rights = λ k. refl; under = refl }, refl))
       at (Over o e) le = (refl, refl)
       at (Spent o) le = refl
@@ -334,15 +334,15 @@ module _ {S : Type 0} (A B AB : Group) (left right : ℕ → ℕ) (meets : Impor
       (below_then (below (are_made d groups (hosted h))) (λ _. is_made A p4 d) (first_state (B ∷ A ∷ groups) s) n')
       ∙ then_then (below (below (are_made d groups (hosted h)))) (λ _. below (is_made A p4 d)) (λ _. is_made B (group A p4) d) (first_state (B ∷ A ∷ groups) s) n'
 
-  made4 : (b : ℕ) → Exact b (Eq R4) (are_made d (AB ∷ groups) (hosted h) (first_state (AB ∷ groups) s)) (are_made d (B ∷ A ∷ groups) (hosted h) (first_state (B ∷ A ∷ groups) s))
+  made4 : (b : ℕ) → Exact b (Eq OnceMade) (are_made d (AB ∷ groups) (hosted h) (first_state (AB ∷ groups) s)) (are_made d (B ∷ A ∷ groups) (hosted h) (first_state (B ∷ A ∷ groups) s))
   made4 b n' lt' =
-      subst (λ z. Equals n' (Eq R4) (are_made d (AB ∷ groups) (hosted h) (first_state (AB ∷ groups) s) n') z) (sym (parts n'))
-      (exact_then b (Eq R4) (Eq R4) _ _ _ _ (first_state (AB ∷ groups) s) (first_state (B ∷ A ∷ groups) s) (below_first b)
+      subst (λ z. Equals n' (Eq OnceMade) (are_made d (AB ∷ groups) (hosted h) (first_state (AB ∷ groups) s) n') z) (sym (parts n'))
+      (exact_then b (Eq OnceMade) (Eq OnceMade) _ _ _ _ (first_state (AB ∷ groups) s) (first_state (B ∷ A ∷ groups) s) (below_first b)
       (λ w a v b' k. made3 A B AB left right meets j p4 fair4 b d w v k.0) n' lt')
 
   exact_observed : (calls : List Call) (n : ℕ) → Equals n Any4 ((are_made d (AB ∷ groups) (hosted h) >> λ _. makes_calls AB p4 d calls) (first_state (AB ∷ groups) s) n) ((are_made d (B ∷ A ∷ groups) (hosted h) >> λ _. makes_calls B (group A p4) d calls) (first_state (B ∷ A ∷ groups) s) n)
   exact_observed calls n =
-      exact_then (suc n) (Eq R4) Any4 _ _ _ _ (first_state (AB ∷ groups) s) (first_state (B ∷ A ∷ groups) s) (made4 (suc n))
+      exact_then (suc n) (Eq OnceMade) Any4 _ _ _ _ (first_state (AB ∷ groups) s) (first_state (B ∷ A ∷ groups) s) (made4 (suc n))
       (λ w a v b k. exact_calls A B AB left right meets j p4 fair4 (suc n) d calls w v k.0) n (omega arith)
 
   pub same_as_parts : (calls : List Call) (n : ℕ) → SameAsParts A B AB groups h s d calls n
