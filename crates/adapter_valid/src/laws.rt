@@ -1,0 +1,17 @@
+ghost use Rattle.adapter_valid.specs.Valid.{RoutinesAreValid, PiecesJoin, BodiesAreValid};
+
+/// The code of a well-formed routine has its type by the rules of validation (WebAssembly Core 2.0, section 3.3), and keeps
+/// the other rules, in each function that has its locals, its counters, a memory, and functions for handles.
+pub fn routines_are_valid()
+    ensures { RoutinesAreValid }
+{}
+
+/// Code behind code is valid where both are.
+pub fn pieces_join()
+    ensures { PiecesJoin }
+{}
+
+/// A body is valid whose code leaves the function's results.
+pub fn bodies_are_valid()
+    ensures { BodiesAreValid }
+{}
