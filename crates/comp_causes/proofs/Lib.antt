@@ -1,0 +1,6 @@
+pub mod ItemCauses
+pub mod TypeCauses
+pub mod TypeSectionCauses
+pub mod ComponentCauses
+pub mod SameReads
+pub mod AnyDepth
