@@ -1,3 +1,5 @@
 pub mod Samples
 pub mod Trees
 pub mod Rows
+pub mod Methods
+pub mod Streams
