@@ -1,0 +1,12 @@
+-- Resources in order, each once.
+use Rattle.std.specs.Prelude.{ℕ, List, [], ◌∷◌, ◌++◌, if◌then◌else◌}
+use Rattle.comp_rules.specs.Resources.{is_among}
+
+-- with this one too, unless it is there
+abbrev pub and_once : List ℕ → ℕ → List ℕ
+and_once rs r = if is_among rs r then rs else rs ++ r ∷ []
+
+-- with each of these
+abbrev pub and_each : List ℕ → List ℕ → List ℕ
+and_each rs [] = rs
+and_each rs (x ∷ xs) = and_each (and_once rs x) xs

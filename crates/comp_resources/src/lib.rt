@@ -1,0 +1,9 @@
+//! The resources that a type names.
+#![tactic(auto)]
+
+mod items;
+mod resources;
+mod values;
+
+pub use items::{names_none, resources_of_entries, resources_of_kind};
+pub use resources::Resources;

@@ -1,0 +1,144 @@
+#![tactic(auto, using(wit_types::proofs::PlainLemmas::plains, crate::proofs::ValueLemmas::values))]
+
+ghost use Rattle.std.specs.Prelude.{◌≡◌, OnOk};
+ghost use Rattle.wit_types.specs.Plain.{plain, fields_of, types_of, cases_of, payload_of, plain_func, plain_result};
+ghost use Rattle.comp_rules.specs.Resources.{named_in_answer, named_in_func, named_in_parts, named_in_value};
+ghost use Rattle.comp_resources.specs.Once.{and_each};
+
+use crate::resources::Resources;
+use comp_types::{KnownFunc, KnownValue};
+use std::rc::Rc;
+use virt_base::NoMemory;
+use wit_types::{Case, Field, FuncType, WitType};
+
+#[cycle(add_value)]
+fn add_payload(found: &mut Resources, ty: &Option<Rc<WitType>>) -> Result<(), NoMemory>
+    ensures { OnOk result (found.new ≡ and_each found.old (named_in_answer (payload_of ty.now))) }
+{
+    match ty {
+        None => Ok(()),
+        Some(ty) => {
+            add_value(found, ty)?;
+            Ok(())
+        }
+    }
+}
+
+#[cycle(add_value)]
+fn add_types(found: &mut Resources, types: &[WitType]) -> Result<(), NoMemory>
+    ensures { OnOk result (found.new ≡ and_each found.old (named_in_parts (types_of types.now))) }
+{
+    for ty in types {
+        add_value(found, ty)?;
+    }
+    Ok(())
+}
+
+#[cycle(add_value)]
+fn add_fields(found: &mut Resources, fields: &[Field]) -> Result<(), NoMemory>
+    ensures { OnOk result (found.new ≡ and_each found.old (named_in_parts (fields_of fields.now))) }
+{
+    for field in fields {
+        add_value(found, &field.ty)?;
+    }
+    Ok(())
+}
+
+#[cycle(add_value)]
+fn add_cases(found: &mut Resources, cases: &[Case]) -> Result<(), NoMemory>
+    ensures { OnOk result (found.new ≡ and_each found.old (named_in_parts (cases_of cases.now))) }
+{
+    for case in cases {
+        add_payload(found, &case.ty)?;
+    }
+    Ok(())
+}
+
+/// Adds the resources of the handles in a type.
+#[cycle(add_value)]
+fn add_value(found: &mut Resources, ty: &WitType) -> Result<(), NoMemory>
+    ensures { OnOk result (found.new ≡ and_each found.old (named_in_value (plain ty.now))) }
+{
+    match ty {
+        WitType::Bool | WitType::Char | WitType::Str => Ok(()),
+        WitType::S8 | WitType::U8 | WitType::S16 | WitType::U16 => Ok(()),
+        WitType::S32 | WitType::U32 | WitType::S64 | WitType::U64 => Ok(()),
+        WitType::Flags(_) => Ok(()),
+        WitType::Enum(_) => Ok(()),
+        WitType::Record(fields) => {
+            add_fields(found, &fields.items)?;
+            Ok(())
+        }
+        WitType::Tuple(types) => {
+            add_types(found, &types.items)?;
+            Ok(())
+        }
+        WitType::Variant(cases) => {
+            add_cases(found, &cases.items)?;
+            Ok(())
+        }
+        WitType::List(item) => {
+            add_value(found, item)?;
+            Ok(())
+        }
+        WitType::Option(some) => {
+            add_value(found, some)?;
+            Ok(())
+        }
+        WitType::Result(ok, error) => {
+            add_payload(found, ok)?;
+            add_payload(found, error)?;
+            Ok(())
+        }
+        WitType::Own(resource) => {
+            found.push(*resource)?;
+            Ok(())
+        }
+        WitType::Borrow(resource) => {
+            found.push(*resource)?;
+            Ok(())
+        }
+    }
+}
+
+fn add_answer(found: &mut Resources, ty: &Option<WitType>) -> Result<(), NoMemory>
+    ensures { OnOk result (found.new ≡ and_each found.old (named_in_answer (plain_result ty.now))) }
+{
+    match ty {
+        None => Ok(()),
+        Some(ty) => {
+            add_value(found, ty)?;
+            Ok(())
+        }
+    }
+}
+
+fn add_func(found: &mut Resources, ty: &FuncType) -> Result<(), NoMemory>
+    ensures { OnOk result (found.new ≡ and_each found.old (named_in_func (plain_func ty.now))) }
+{
+    add_fields(found, &ty.params.items)?;
+    add_answer(found, &ty.result)?;
+    Ok(())
+}
+
+/// Adds the resources of the handles in a type; one without handles is not walked.
+pub fn add_known_value(found: &mut Resources, known: &KnownValue) -> Result<(), NoMemory>
+    ensures { OnOk result (found.new ≡ and_each found.old (named_in_value known.now)) }
+{
+    if !known.facts().handles {
+        return Ok(());
+    }
+    add_value(found, known.ty())?;
+    Ok(())
+}
+
+/// Adds the resources of the handles in the type of a function; one without handles is not walked.
+pub fn add_known_func(found: &mut Resources, known: &KnownFunc) -> Result<(), NoMemory>
+    ensures { OnOk result (found.new ≡ and_each found.old (named_in_func known.now)) }
+{
+    if !known.facts().has_handle() {
+        return Ok(());
+    }
+    add_func(found, known.ty())?;
+    Ok(())
+}
