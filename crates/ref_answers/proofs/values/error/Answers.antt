@@ -1,0 +1,5 @@
+use Rattle.ref_answers.proofs.ValueLemmas.{payload_held}
+use Rattle.ref_answers.proofs.values.error.Goals as goal
+
+pub returns : goal.returns
+returns c = payload_held 1 c.in_ok-new.field-0 c.args.value c.in_ok-new.ensures.ok
