@@ -1,0 +1,124 @@
+ghost use Rattle.std.specs.Prelude.{◌≡◌, [], ◌∷◌, List, OnOk, IsTrue, None, length, nat_lt, option_map, slice_get};
+ghost use Rattle.comp_rules.specs.Added.{entered, opened, root};
+ghost use Rattle.comp_rules.specs.Rules.{leaves_component};
+ghost use Rattle.comp_rules.specs.Spaces.{Space, empty_space};
+ghost use Rattle.comp_cores.specs.Found.{EachSome};
+ghost use Rattle.comp_scopes.specs.Stands.{Stands};
+
+use comp_scopes::Scope;
+use std::alloc::Global;
+use std::mem;
+use virt_base::NoMemory;
+
+/// A scope further out, and how many instance types stand between it and its component.
+#[derive(Drop)]
+pub struct Level {
+    scope: Scope,
+    inside: usize,
+}
+
+/// The scope of a definition, and those around it.
+#[derive(Drop)]
+pub struct Scopes {
+    pub inner: Scope,
+    /// How many instance types stand before the innermost component.
+    inside: usize,
+    /// From the outside in.
+    outer: Vec<Level>,
+}
+
+impl Scopes {
+    ghost use Rattle.comp_around.specs.Around.{IsClosed, StandAll, border};
+
+    /// The scope of a component around which there is none.
+    pub fn root(alloc: Global) -> Scopes
+        ensures { StandAll [] root result }
+    {
+        Scopes {
+            inner: Scope::new(alloc, true, 0),
+            inside: 0,
+            outer: Vec::new(alloc),
+        }
+    }
+
+    fn open_scope(
+        &mut self,
+        alloc: Global,
+        is_component: bool,
+        inside: usize,
+    ) -> Result<(), NoMemory>
+        ensures { OnOk result ((around : List Space) → (s : Space) → StandAll around s self.old → inside ≡ border (empty_space is_component s.next ∷ s ∷ around) → StandAll (s ∷ around) (empty_space is_component s.next) self.new) }
+    {
+        let inner = Scope::new(alloc, is_component, self.inner.next);
+        let scope = mem::replace(&mut self.inner, inner);
+        let level = Level {
+            scope,
+            inside: self.inside,
+        };
+        self.inside = inside;
+        self.outer.push(level)?;
+        Ok(())
+    }
+
+    /// Opens the scope of an instance type in the innermost one.
+    pub fn open_type(&mut self, alloc: Global) -> Result<(), NoMemory>
+        ensures { OnOk result ((around : List Space) → (s : Space) → StandAll around s self.old → StandAll (s ∷ around) (opened s) self.new) }
+    {
+        let Some(inside) = self.inside.checked_add(1) else {
+            return Err(NoMemory);
+        };
+        self.open_scope(alloc, false, inside)
+    }
+
+    /// Opens the scope of a component in the innermost one.
+    pub fn enter(&mut self, alloc: Global) -> Result<(), NoMemory>
+        ensures { OnOk result ((around : List Space) → (s : Space) → StandAll around s self.old → StandAll (s ∷ around) (entered s) self.new) }
+    {
+        self.open_scope(alloc, true, 0)
+    }
+
+    /// Closes the innermost scope, and hands it out; nothing where there is none around it.
+    pub fn close(&mut self) -> Option<Scope>
+        ensures closed { (around : List Space) → (t s : Space) → StandAll (t ∷ around) s self.old → IsClosed around t s result self.new }
+        ensures alone { (s : Space) → StandAll [] s self.old → (result ≡ None) × StandAll [] s self.new }
+    {
+        match self.outer.pop() {
+            None => None,
+            Some(level) => {
+                let Level { scope, inside } = level;
+                self.inside = inside;
+                Some(mem::replace(&mut self.inner, scope))
+            }
+        }
+    }
+
+    /// The innermost scope alone.
+    pub fn into_inner(self) -> Scope
+        ensures { (around : List Space) → (s : Space) → StandAll around s self → Stands s result }
+    {
+        self.inner
+    }
+
+    /// The scope so many scopes further out.
+    pub fn scope_at(&self, count: u32) -> Option<&Scope>
+        ensures { (around : List Space) → (s : Space) → StandAll around s self.now → EachSome Stands (slice_get (s ∷ around) count) (option_map (λ x. x.now) result) }
+    {
+        if count == 0 {
+            return Some(&self.inner);
+        }
+        let Some(index) = self.outer.len().checked_sub(count as usize) else {
+            return None;
+        };
+        match self.outer.get(index) {
+            None => None,
+            Some(level) => Some(&level.scope),
+        }
+    }
+
+    /// Whether the scope so many scopes further out, if it is there, is beyond the border of the innermost component.
+    pub fn leaves(&self, count: u32) -> bool
+        ensures { (around : List Space) → (s : Space) → StandAll around s self.now → IsTrue (nat_lt count (length (s ∷ around))) → result ≡ leaves_component (s ∷ around) count }
+    {
+        self.inside < count as usize
+    }
+}
