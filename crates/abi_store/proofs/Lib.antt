@@ -1,0 +1,14 @@
+pub mod Views
+pub mod Runs
+pub mod PartLemmas
+pub mod Chains
+pub mod Stores
+pub mod TurnLemmas
+pub mod Begins
+pub mod Settling
+pub mod Lowers
+pub mod Proceeding
+pub mod Answered
+pub mod Resuming
+pub mod Plans
+pub mod CoreLists

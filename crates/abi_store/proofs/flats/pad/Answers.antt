@@ -1,0 +1,10 @@
+use Rattle.std.proofs.Common.{◌-◌, length, arith}
+use Rattle.abi_store.proofs.Lowers.{zeros_none, zeros_more, zeros_same}
+use Rattle.abi_store.proofs.flats.pad.Goals as goal
+
+pub loop-slots-init : goal.loop-slots-init
+loop-slots-init c = record {
+  zeros = zeros_none c.args.slots.now.items (length c.args.slots.now.items - length c.args.slots.now.items) (omega arith);
+  least = omega arith;
+  most = omega arith;
+}

@@ -1,0 +1,10 @@
+pub mod Plan
+pub mod Parts
+pub mod Forms
+pub mod Rooms
+pub mod Flows
+pub mod Works
+pub mod Weights
+pub mod Slots
+pub mod Stages
+pub mod Targets
