@@ -1,13 +1,13 @@
 -- What is left where the next request is answered.
-use Rattle.std.proofs.Common.{◌≡◌, ℕ, ◌+◌, ◌-◌, ◌*◌, ◌^◌, ap, refl, sym, ◌∙◌, subst, Bool, true, false, List, [], ◌∷◌, ◌++◌, length, map, arith, append_assoc, append-nil, Option, Some, None}
+use Rattle.std.proofs.Common.{◌≡◌, ℕ, ◌+◌, ◌-◌, ap, refl, sym, ◌∙◌, Bool, true, false, List, [], ◌∷◌, ◌++◌, arith, Option, Some, None}
 use Rattle.std.specs.Prelude.{if◌then◌else◌, nat_lt, reverse, slice_index}
 use Rattle.std.proofs.lemmas.Bool.Decides.{nat_tests}
 use Rattle.core_memory.specs.Number.{bytes_of}
-use Rattle.wit_types.specs.Plain.{Plain, plain}
-use Rattle.wit_types.specs.PlainValue.{PlainValue, PlainValues, plain_value, plain_values, values_of}
+use Rattle.wit_types.specs.Plain.{plain}
+use Rattle.wit_types.specs.PlainValue.{plain_value, plain_values, values_of}
 use Rattle.wit_types.specs.Layout.{size}
 use Rattle.abi_layout.specs.Numbers.{is_number}
-use Rattle.abi_layout.specs.Storing.{Base, Target, Answer, Step, Ask, Write, Place, Refuse, FlatItem, Number, AnswerTo, Lowered, both, requests, run_bytes, item_steps, stores_at, field_steps}
+use Rattle.abi_layout.specs.Storing.{Base, Target, Answer, Step, Ask, Write, FlatItem, Number, AnswerTo, Lowered, both, requests, run_bytes, item_steps, stores_at, field_steps}
 use Rattle.abi_store.specs.declared.content.Content.{Content}
 use Rattle.abi_store.specs.declared.content.Content.TheVariants.{Text as OfText, List as OfItems, Whole as OfWhole}
 use Rattle.abi_store.specs.declared.content.Cell.{Cell}
@@ -17,15 +17,14 @@ use Rattle.abi_store.specs.declared.slot.Slot.TheVariants.{Number as NumberSlot,
 use Rattle.abi_store.specs.declared.slot.Flats.{Flats}
 use Rattle.abi_store.specs.declared.work.Work.{Work}
 use Rattle.abi_store.specs.declared.work.Work.TheVariants.{List as ListOf, Record as RecordOf, Value as ValueOf, Place as PlaceOf}
-use Rattle.abi_store.specs.declared.request.Request.{Request}
 use Rattle.abi_store.specs.Parts.{parts_from}
-use Rattle.abi_store.specs.Plan.{base_left, place_of, settled_step, settled, settled_flat, settled_flats, answered}
-use Rattle.abi_store.specs.Rooms.{Room, room_of, content_steps, items_from, content_len, cell_steps, cell_flats, cell_at, behind, with_room, content_lowered}
-use Rattle.abi_store.specs.Flows.{chain, none_left, stored}
-use Rattle.abi_store.specs.Works.{work_steps, work_lowered, works_lowered}
+use Rattle.abi_store.specs.Plan.{base_left, place_of, settled, settled_flat, settled_flats, answered}
+use Rattle.abi_store.specs.Rooms.{Room, room_of, content_steps, content_len, cell_steps, cell_flats, cell_at, behind, with_room}
+use Rattle.abi_store.specs.Flows.{chain, stored}
+use Rattle.abi_store.specs.Works.{work_lowered, works_lowered}
 use Rattle.abi_store.specs.Slots.{slot_lowered, slots_lowered, known}
-use Rattle.abi_store.specs.Stages.{rest_of, asked_left}
-use Rattle.abi_store.proofs.Settling.{settled-append, requests-settled, settle-items, settle-stores, settle-fields, settle-place, base-late, place-late}
+use Rattle.abi_store.specs.Stages.{rest_of}
+use Rattle.abi_store.proofs.Settling.{settled-append, requests-settled, settle-items, settle-stores, settle-fields, base-late, place-late}
 use Rattle.abi_store.proofs.Lowers.{lowered_same}
 
 pub flats-append : (given : List ℕ) (xs ys : List FlatItem) → settled_flats given (xs ++ ys) ≡ settled_flats given xs ++ settled_flats given ys
@@ -38,9 +37,6 @@ answered-both a x y = lowered_same _ _ _ _ (settled-append 0 (a ∷ []) x.steps 
 -- where the next request is answered, the requests of these steps count one less
 pub record IsCounted (l : ℕ → Lowered) : Type 0 where
   pub on : (a k : ℕ) → answered a (l (k + 1)) ≡ l k
-
-counted-none : IsCounted none_left
-counted-none = record { on = λ a k. refl }
 
 pub counted-chain : (l m : ℕ → Lowered) → IsCounted l → IsCounted m → IsCounted (chain l m)
 counted-chain l m p q = record {
@@ -158,10 +154,6 @@ cell_now a (InMemoryCell at) len =
     stored_same _ _ [] []
     (ap (λ (o : ℕ). Write Target o (bytes_of 4 a) ∷ Write Target (0 + (at + 4)) (bytes_of 4 len) ∷ []) (no_shift at) ∙ ap (λ (o : ℕ). Write Target at (bytes_of 4 a) ∷ Write Target o (bytes_of 4 len) ∷ []) (no_shift (at + 4))) refl
 cell_now a FlatCell len = refl
-
--- content at its place, and its place and length behind it
-abbrev pub answered_lowered : Content → Cell → ℕ → (ℕ → Lowered) → ℕ → Lowered
-answered_lowered content cell a rest k = chain (stored (content_steps content Target a)) (chain (cell_at cell a (content_len content)) rest) k
 
 -- what is asked for makes as many requests as what is stored at its place
 pub behind_now : (a : ℕ) (content : Content) (cell : Cell) →

@@ -1,17 +1,16 @@
 -- What comes before all others of a value.
-use Rattle.std.proofs.Common.{◌≡◌, ℕ, ◌+◌, ◌*◌, ◌≤◌, ◌<◌, ap, refl, sym, ◌∙◌, subst, Bool, true, false, List, [], ◌∷◌, ◌++◌, length, arith, suc, zero, Result, Ok, Err, Option, Some, None, Global, ◌⊎◌, inl, inr}
+use Rattle.std.proofs.Common.{◌≡◌, ℕ, ◌+◌, ◌*◌, ◌≤◌, ap, refl, sym, ◌∙◌, subst, Bool, true, false, List, [], ◌∷◌, ◌++◌, length, arith, suc, zero, Result, Ok, Err, Option, Some, None, Global, ◌⊎◌, inl, inr}
 use Rattle.std.specs.Prelude.{if◌then◌else◌, IfOk, nat_le, nat_lt, reverse}
 use Rattle.virt_base.specs.declared.fault.NoMemory.{NoMemory}
 use Rattle.core_memory.specs.Linear.{Linear}
 use Rattle.core_memory.specs.Number.{bytes_of}
 use Rattle.core_store.specs.State.{State, memory_at}
 use Rattle.wit_types.specs.Plain.{VariantForm, Name, Plain, Parts, End, More, Bare, StringType, ListType, RecordType, VariantType, BoolType, SignedType, UnsignedType, CharType, FlagsType, OwnType, BorrowType, case_part}
-use Rattle.wit_types.specs.PlainValue.{PlainValue, PlainValues, Payload, StringValue, ListValue, RecordValue, VariantValue, plain_value, values_of}
+use Rattle.wit_types.specs.PlainValue.{PlainValue, PlainValues, Payload, StringValue, ListValue, VariantValue, plain_value, values_of}
 use Rattle.wit_types.specs.Layout.{count, discriminant_size, alignment, size, align_to}
 use Rattle.wit_types.specs.Limits.{parts, all_parts}
-use Rattle.abi_layout.specs.Loading.{payload_offset, first_or_later}
-use Rattle.abi_layout.specs.Numbers.{is_number}
-use Rattle.abi_layout.specs.Storing.{Base, Target, Answer, Step, Ask, Write, Refuse, Lowered, stores_at, case_steps, item_steps, run_bytes, place_and_length, count_values, on_payload, both, requests, field_steps}
+use Rattle.abi_layout.specs.Loading.{payload_offset}
+use Rattle.abi_layout.specs.Storing.{Base, Target, Answer, Step, Ask, Write, Refuse, Lowered, stores_at, case_steps, item_steps, place_and_length, count_values, both, requests, field_steps}
 use Rattle.std.specs.declared.rc.Rc.{Rc}
 use Rattle.virt_base.specs.declared.items.Items.{Items}
 use Rattle.virt_base.specs.declared.text.Text.{Text}
@@ -149,9 +148,6 @@ pub items_cut : (store : PlainValue → Base → ℕ → ℕ → List Step) (wid
 items_cut store width at before after v is =
     ap (λ (xs : List Value). item_steps store width (values_of (reverse xs)) Target at 0) is ∙ ap (λ (xs : List Value). item_steps store width (values_of xs) Target at 0) (reversed v after)
 
-pub items_none : (store : PlainValue → Base → ℕ → ℕ → List Step) (width at k : ℕ) (before : List Value) → before ≡ [] → item_steps store width (values_of (reverse before)) Target at k ≡ []
-items_none store width at k before is = ap (λ (xs : List Value). item_steps store width (values_of (reverse xs)) Target at k) is
-
 pub fields_cut_at : (ps rest : Parts) (name : Name) (ty : Plain) (at offset start next : ℕ) (before after : List Value) (v : Value) → ps ≡ More name ty rest → start ≡ align_to offset (alignment ty) → next ≡ start + size ty →
     before ≡ after ++ v ∷ [] →
     field_steps ps (values_of (reverse before)) Target at offset 0
@@ -162,13 +158,6 @@ fields_cut_at ps rest name ty at offset start next before after v is begin end c
     ∙ ap (λ (xs : List Value). field_steps (More name ty rest) (values_of xs) Target at offset 0) (reversed v after)
     ∙ ap (λ (j : ℕ). stores_at ty (plain_value v) Target (at + j) 0 ++ field_steps rest (values_of (reverse after)) Target at (j + size ty) (0 + requests (stores_at ty (plain_value v) Target (at + j) 0))) (sym begin)
     ∙ ap (λ (j : ℕ). stores_at ty (plain_value v) Target (at + start) 0 ++ field_steps rest (values_of (reverse after)) Target at j (0 + requests (stores_at ty (plain_value v) Target (at + start) 0))) (sym end)
-
-pub fields_none : (ps : Parts) (vs : PlainValues) (at offset k : ℕ) → ps ≡ End → field_steps ps vs Target at offset k ≡ []
-fields_none ps vs at offset k is = ap (λ (p : Parts). field_steps p vs Target at offset k) is
-
-pub values_none : (ps rest : Parts) (name : Name) (ty : Plain) (before : List Value) (at offset k : ℕ) → ps ≡ More name ty rest → before ≡ [] → field_steps ps (values_of (reverse before)) Target at offset k ≡ []
-values_none ps rest name ty before at offset k is none =
-    ap (λ (p : Parts). field_steps p (values_of (reverse before)) Target at offset k) is ∙ ap (λ (xs : List Value). field_steps (More name ty rest) (values_of (reverse xs)) Target at offset k) none
 
 -- ---- the types that are variants
 

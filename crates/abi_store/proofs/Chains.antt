@@ -1,11 +1,8 @@
 -- Steps one behind the other, and where they lead.
-use Rattle.std.proofs.Common.{◌≡◌, ℕ, ◌+◌, ◌<◌, ap, refl, sym, ◌∙◌, List, [], ◌∷◌, ◌++◌, length, arith, append_assoc, append-nil, subst}
+use Rattle.std.proofs.Common.{◌≡◌, ℕ, ◌+◌, ap, refl, sym, ◌∙◌, List, [], ◌∷◌, ◌++◌, arith, append_assoc}
 use Rattle.core_memory.specs.Linear.{Linear}
-use Rattle.core_store.specs.State.{State, InMemory, memory_at}
-use Rattle.abi_layout.specs.Storing.{Step, Ask, Write, Place, Refuse, FlatItem, Lowered, both, requests}
-use Rattle.abi_store.specs.Plan.{Halt, goes}
+use Rattle.abi_layout.specs.Storing.{Step, Ask, Write, Place, Refuse, Lowered, both, requests}
 use Rattle.abi_store.specs.Flows.{Leads, chain, stored, none_left, refused, led}
-use Rattle.abi_store.specs.Works.{Took}
 
 pub requests-append : (xs ys : List Step) → requests (xs ++ ys) ≡ requests xs + requests ys
 requests-append [] ys = omega arith
@@ -23,12 +20,6 @@ chain-assoc a b c k =
     let y = b (k + requests x.steps) in
     let place : k + requests (x.steps ++ y.steps) ≡ k + requests x.steps + requests y.steps = let e = requests-append x.steps y.steps in omega arith in
     ap (λ j. both (both x y) (c j)) place ∙ both-assoc x y (c (k + requests x.steps + requests y.steps))
-
-pub leads_on : {old new : Linear} {a b : ℕ → Lowered} → Leads old a new b → (before : List FlatItem) (rest : ℕ → Lowered) → led before (chain a rest 0) old ≡ led before (chain b rest 0) new
-leads_on t before rest = t.on before rest
-
-pub leads_self : (m : Linear) (a : ℕ → Lowered) → Leads m a m a
-leads_self m a = record { on = λ before rest. refl }
 
 pub leads_then : (m n o : Linear) (a b c : ℕ → Lowered) → Leads m a n b → Leads n b o c → Leads m a o c
 leads_then m n o a b c s t = record { on = λ before rest. s.on before rest ∙ t.on before rest }
@@ -55,7 +46,3 @@ leads_write m n at bytes s base t = record { on = λ before rest. t.on before (c
 pub refused_write : (m n : Linear) (at : ℕ) (bytes : List ℕ) (s : ℕ → List Step) (base : _) → Leads m (λ k. record { steps = Write base at bytes ∷ []; flats = [] }) n refused →
     Leads m (λ k. record { steps = Write base at bytes ∷ s k; flats = [] }) n refused
 refused_write m n at bytes s base t = record { on = λ before rest. t.on before (chain (stored s) rest) }
-
--- what is refused is so whatever was behind it
-pub leads_refused : (m n : Linear) (a s : ℕ → Lowered) → Leads m a n refused → Leads m (chain a s) n refused
-leads_refused m n a s t = record { on = λ before rest. ap (λ l. led before l m) (chain-assoc a s rest 0) ∙ t.on before (chain s rest) }

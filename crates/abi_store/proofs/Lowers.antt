@@ -1,14 +1,13 @@
 -- Flat values one behind the other.
-use Rattle.std.proofs.Common.{◌≡◌, Result, Ok, Err, ℕ, ◌+◌, ◌-◌, ◌*◌, ◌<◌, ◌≤◌, ap, refl, sym, ◌∙◌, subst, max, Bool, true, false, List, [], ◌∷◌, ◌++◌, length, take, arith, zero, suc, Option, Some, None, append_assoc, append-nil, length-append, add-one, ◌^◌}
+use Rattle.std.proofs.Common.{◌≡◌, ℕ, ◌+◌, ◌-◌, ◌*◌, ◌≤◌, ap, refl, sym, ◌∙◌, subst, Bool, true, false, List, [], ◌∷◌, ◌++◌, length, take, arith, zero, suc, Option, Some, None, append-nil, length-append, add-one, ◌^◌}
 use Rattle.std.proofs.lemmas.List.{length-replicate, length-take-le}
-use Rattle.virt_base.specs.declared.fault.NoMemory.{NoMemory}
-use Rattle.std.specs.Prelude.{IfOk, reverse, replicate, nat_le, nat_lt, if◌then◌else◌}
+use Rattle.std.specs.Prelude.{reverse, replicate, nat_le, nat_lt, if◌then◌else◌}
 use Rattle.std.proofs.lemmas.Bool.Decides.{nat_tests}
 use Rattle.virt_base.specs.declared.core_type.CoreType.{CoreType}
 use Rattle.wit_types.specs.declared.value.Value.{Value}
 use Rattle.wit_types.specs.Plain.{VariantForm, Name, Plain, Parts, BoolType, SignedType, UnsignedType, CharType, StringType, ListType, RecordType, VariantType, FlagsType, OwnType, BorrowType, End, More, Bare, plain}
 use Rattle.wit_types.specs.PlainValue.{PlainValue, PlainValues, Payload, BoolValue, IntValue, CharValue, StringValue, ListValue, RecordValue, VariantValue, FlagsValue, HandleValue, End as NoValues, More as Values, Without, With, plain_value, plain_values, values_of}
-use Rattle.wit_types.specs.Layout.{flat, flat_fields, flat_cases, join, join_one, size, alignment}
+use Rattle.wit_types.specs.Layout.{flat, flat_fields, flat_cases, join, size, alignment}
 use Rattle.wit_types.specs.Limits.{parts, all_parts}
 use Rattle.abi_layout.specs.declared.flat_types.Flat.{Flat as FlatTypes}
 use Rattle.abi_layout.specs.Flat.{within, types_of}
@@ -18,12 +17,12 @@ use Rattle.abi_store.specs.declared.slot.Slot.TheVariants.{Number as NumberSlot,
 use Rattle.abi_store.specs.declared.content.Content.{Content}
 use Rattle.abi_store.specs.declared.content.Content.TheVariants.{Text as TextContent, List as ItemsContent}
 use Rattle.abi_store.specs.declared.content.ListContent.{ListContent}
-use Rattle.abi_store.specs.Forms.{IsNoString, IsNoList, IsNoRecord, IsNoVariant}
+use Rattle.abi_store.specs.Forms.{IsNoString, IsNoList}
 use Rattle.abi_store.specs.Rooms.{with_room, content_len, items_from}
 use Rattle.abi_store.specs.Parts.{case_type, cases_in, payload_flat, payload_parts}
 use Rattle.abi_store.specs.Flows.{chain, none_left}
-use Rattle.abi_store.specs.Slots.{slot_lowered, slots_lowered, Appends, place_flats, payload_flats, record_flats, variant_flats, zeros}
-use Rattle.abi_store.proofs.Chains.{chain-assoc, both-assoc, requests-append}
+use Rattle.abi_store.specs.Slots.{slot_lowered, slots_lowered, Appends, place_flats, payload_flats, variant_flats, zeros}
+use Rattle.abi_store.proofs.Chains.{chain-assoc}
 use Rattle.abi_store.proofs.TurnLemmas.{reversed}
 
 pub lowered_same : (xs ys : List Step) (us vs : List FlatItem) → xs ≡ ys → us ≡ vs → (let l : Lowered = record { steps = xs; flats = us } in l) ≡ record { steps = ys; flats = vs }
@@ -108,28 +107,6 @@ no_list item (RecordValue vs) here k = refl
 no_list item (VariantValue n p) here k = refl
 no_list item (FlagsValue n) here k = refl
 no_list item (HandleValue n) here k = refl
-
-pub no_record : (ps : Parts) (v : PlainValue) → IsNoRecord v → (k : ℕ) → record_flats ps v k ≡ nothing
-no_record ps (RecordValue t) here k = cc
-no_record ps (BoolValue b) here k = refl
-no_record ps (IntValue n) here k = refl
-no_record ps (CharValue n) here k = refl
-no_record ps (StringValue vs) here k = refl
-no_record ps (ListValue vs) here k = refl
-no_record ps (VariantValue n p) here k = refl
-no_record ps (FlagsValue n) here k = refl
-no_record ps (HandleValue n) here k = refl
-
-pub no_variant : (ps : Parts) (v : PlainValue) → IsNoVariant v → (k : ℕ) → variant_flats ps v k ≡ nothing
-no_variant ps (VariantValue n p) here k = cc
-no_variant ps (BoolValue b) here k = refl
-no_variant ps (IntValue n) here k = refl
-no_variant ps (CharValue n) here k = refl
-no_variant ps (StringValue vs) here k = refl
-no_variant ps (ListValue vs) here k = refl
-no_variant ps (RecordValue p) here k = refl
-no_variant ps (FlagsValue n) here k = refl
-no_variant ps (HandleValue n) here k = refl
 
 -- ---- a string and a list by their content
 
@@ -262,9 +239,6 @@ variant_appends a b c d cases v n end p o is first one found second third ends =
 
 -- ---- records
 
-pub fields_start : (s t : List Slot) (ps : Parts) (vs ws : PlainValues) (k : ℕ) → chain (slots_lowered s) (lower_fields ps vs) k ≡ chain (slots_lowered s) (lower_fields ps vs) k
-fields_start s t ps vs ws k = refl
-
 pub fields_more : (s t : List Slot) (ps rest : Parts) (name : Name) (ty : Plain) (before after : List Value) (v : Value) (due : ℕ → Lowered) →
     ((k : ℕ) → chain (slots_lowered s) (lower_fields ps (values_of (reverse before))) k ≡ due k) → ps ≡ More name ty rest → before ≡ after ++ v ∷ [] → Appends s t (lower_flat ty (plain_value v)) →
     (k : ℕ) → chain (slots_lowered t) (lower_fields rest (values_of (reverse after))) k ≡ due k
@@ -275,16 +249,6 @@ fields_more s t ps rest name ty before after v due so is cut p k =
     chain-same (slots_lowered t) (chain (slots_lowered s) (lower_flat ty (plain_value v))) (lower_fields rest (values_of (reverse after))) (lower_fields rest (values_of (reverse after))) k (p.same k) (λ j. refl)
     ∙ chain-assoc (slots_lowered s) (lower_flat ty (plain_value v)) (lower_fields rest (values_of (reverse after))) k
     ∙ chain-same (slots_lowered s) (slots_lowered s) (chain (lower_flat ty (plain_value v)) (lower_fields rest (values_of (reverse after)))) (lower_fields ps (values_of (reverse before))) k refl (λ j. sym (step j)) ∙ so k
-
-pub fields_end : (a s : List Slot) (ps all : Parts) (before first : List Value) (v : PlainValue) (vs : PlainValues) →
-    ((k : ℕ) → chain (slots_lowered s) (lower_fields ps (values_of (reverse before))) k ≡ chain (slots_lowered a) (lower_fields all (values_of (reverse first))) k) →
-    ((k : ℕ) → lower_fields ps (values_of (reverse before)) k ≡ nothing) → v ≡ RecordValue vs → values_of (reverse first) ≡ vs → Appends a s (record_flats all v)
-fields_end a s ps all before first v vs so none is held = record {
-  same = λ k.
-      sym (chain-none (slots_lowered s) k) ∙ chain-same (slots_lowered s) (slots_lowered s) none_left (lower_fields ps (values_of (reverse before))) k refl (λ j. sym (none j)) ∙ so k
-      ∙ chain-same (slots_lowered a) (slots_lowered a) (lower_fields all (values_of (reverse first))) (record_flats all v) k refl
-      (λ j. ap (λ (ws : PlainValues). lower_fields all ws j) held ∙ ap (λ (u : PlainValue). record_flats all u j) (sym is));
-}
 
 no_values : (ps : Parts) (k : ℕ) → lower_fields ps NoValues k ≡ nothing
 no_values End k = refl
@@ -305,9 +269,6 @@ fields_stop a s ps all before first so empty = record {
       sym (chain-none (slots_lowered s) k)
       ∙ chain-same (slots_lowered s) (slots_lowered s) none_left (lower_fields ps (values_of (reverse before))) k refl (λ j. sym (values_end ps before j (no_items before empty))) ∙ so k;
 }
-
-pub parts_end : (ps : Parts) (vs : PlainValues) (k : ℕ) → ps ≡ End → lower_fields ps vs k ≡ nothing
-parts_end ps vs k is = ap (λ (p : Parts). lower_fields p vs k) is
 
 -- ---- how many flat types there are
 
@@ -371,41 +332,3 @@ next_flat ps rest name ty is = ap (λ (p : Parts). length (flat_fields p)) is �
 
 pub flat_types : (f : FlatTypes) (xs : List CoreType) → types_of f ≡ within xs → length xs ≤ 16 → take f.count f.types ≡ xs
 flat_types f xs is few = (within_some (nat_le f.count 16) (nat_le (length xs) 16) (take f.count f.types) xs (grind (arith, nat_tests)) is).1
-
--- ---- results
-
-pub lowered_result : {A : Type 0} (r : Result A NoMemory) (old new : List Slot) (ty t : Plain) (v : PlainValue) (l : ℕ → Lowered) → ty ≡ t → ((k : ℕ) → l k ≡ lower_flat t v k) → IfOk r (λ a. Appends old new l) →
-    IfOk r (λ a. Appends old new (lower_flat ty v))
-lowered_result (Ok a) old new ty t v l is same so = subst (λ (u : Plain). Appends old new (lower_flat u v)) (sym is) (appends_same old new l (lower_flat t v) same so)
-lowered_result (Err e) old new ty t v l is same so = tt
-
-pub record_result : {A : Type 0} (r : Result A NoMemory) (old new : List Slot) (ps : Parts) (v : PlainValue) (vs ws : PlainValues) → v ≡ RecordValue vs → ws ≡ vs → IfOk r (λ a. Appends old new (lower_fields ps ws)) →
-    IfOk r (λ a. Appends old new (record_flats ps v))
-record_result (Ok a) old new ps v vs ws is held so =
-    appends_same old new (lower_fields ps ws) (record_flats ps v) (λ k. ap (λ (us : PlainValues). lower_fields ps us k) held ∙ ap (λ (u : PlainValue). record_flats ps u k) (sym is)) so
-record_result (Err e) old new ps v vs ws is held so = tt
-
-pub variant_flats_result : {A : Type 0} (r : Result A NoMemory) (old new : List Slot) (ty : Plain) (form : VariantForm) (cases : Parts) (v : PlainValue) → ty ≡ VariantType form cases → IfOk r (λ a. Appends old new (variant_flats (cases_in ty) v)) →
-    IfOk r (λ a. Appends old new (lower_flat ty v))
-variant_flats_result (Ok a) old new ty form cases v is so =
-    subst (λ (u : Plain). Appends old new (lower_flat u v)) (sym is)
-    (appends_same old new (variant_flats cases v) (lower_flat (VariantType form cases) v) (λ k. refl) (subst (λ (u : Plain). Appends old new (variant_flats (cases_in u) v)) is so))
-variant_flats_result (Err e) old new ty form cases v is so = tt
-
--- ---- payloads
-
-pub payload_none : (old : List Slot) (o : Option Plain) (p : Payload) → o ≡ None → Appends old old (payload_flats o p)
-payload_none old o p is = appends_none old (payload_flats o p) (λ k. ap (λ (q : Option Plain). payload_flats q p k) is)
-
-without_flats : (o : Option Plain) (k : ℕ) → payload_flats o Without k ≡ nothing
-without_flats None k = refl
-without_flats (Some ty) k = refl
-
-pub payload_without : (old : List Slot) (o : Option Plain) (p : Payload) → p ≡ Without → Appends old old (payload_flats o p)
-payload_without old o p is = appends_none old (payload_flats o p) (λ k. ap (λ (q : Payload). payload_flats o q k) is ∙ without_flats o k)
-
-pub payload_result : {A : Type 0} (r : Result A NoMemory) (old new : List Slot) (o : Option Plain) (p : Payload) (ty : Plain) (v : PlainValue) → o ≡ Some ty → p ≡ With v → IfOk r (λ a. Appends old new (lower_flat ty v)) →
-    IfOk r (λ a. Appends old new (payload_flats o p))
-payload_result (Ok a) old new o p ty v is held so =
-    appends_same old new (lower_flat ty v) (payload_flats o p) (λ k. sym (ap (λ (q : Option Plain). payload_flats q p k) is ∙ ap (λ (q : Payload). payload_flats (Some ty) q k) held)) so
-payload_result (Err e) old new o p ty v is held so = tt

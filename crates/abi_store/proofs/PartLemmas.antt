@@ -1,15 +1,11 @@
 -- The parts of records, and the cases of variants.
-use Rattle.std.proofs.Common.{◌≡◌, ℕ, ◌+◌, ◌*◌, ◌<◌, ◌≤◌, ap, refl, sym, ◌∙◌, max, List, [], ◌∷◌, length, drop, get_or, Option, Some, None, Global, arith, suc, zero, add-one, drop-cons}
+use Rattle.std.proofs.Common.{◌≡◌, ℕ, ◌+◌, ◌<◌, ◌≤◌, ap, refl, sym, ◌∙◌, List, [], ◌∷◌, length, drop, get_or, Option, Some, None, Global, arith, suc, zero, add-one, drop-cons}
 use Rattle.std.specs.declared.rc.Rc.{Rc}
-use Rattle.virt_base.specs.declared.items.Items.{Items}
-use Rattle.virt_base.specs.declared.text.Text.{Text}
 use Rattle.wit_types.specs.declared.types.Field.{Field, out-Field}
 use Rattle.wit_types.specs.declared.types.Case.{Case, out-Case}
 use Rattle.wit_types.specs.declared.types.WitType.{WitType}
 use Rattle.wit_types.specs.Plain.{Name, Plain, Parts, End, More, Bare, bare, plain, fields_of, types_of, cases_of, payload_of, case_part}
-use Rattle.wit_types.specs.Layout.{greatest_alignment, align_to, discriminant_size, count}
 use Rattle.wit_types.specs.Limits.{parts, all_parts}
-use Rattle.abi_layout.specs.Loading.{payload_offset}
 use Rattle.wit_types.specs.declared.types.Fields.{Fields, out-Fields}
 use Rattle.wit_types.specs.declared.types.Types.{Types, out-Types}
 use Rattle.wit_types.specs.Plain.{RecordType, AsRecord, AsTuple}
@@ -48,9 +44,6 @@ pub case_type-cases_of : (cs : List Case) (n : ℕ) (c : Case) → n < length cs
 case_type-cases_of [] n c lt is = absurd (omega arith)
 case_type-cases_of (d ∷ cs) zero c lt is = case_type-part (out-Case d).name (payload_of (out-Case d).ty) (cases_of cs) ∙ ap (λ (v : Case). payload_of (out-Case v).ty) (sym is)
 case_type-cases_of (d ∷ cs) (suc n) c lt is = case_type-later (out-Case d).name (payload_of (out-Case d).ty) (cases_of cs) n ∙ case_type-cases_of cs n c (omega arith) is
-
-pub case_type-two : (p q : Option Plain) → (case_type (case_part [] p (case_part [] q End)) 0 ≡ p) × (case_type (case_part [] p (case_part [] q End)) 1 ≡ q)
-case_type-two p q = (case_type-part [] p (case_part [] q End), case_type-later [] p (case_part [] q End) 0 ∙ case_type-part [] q End)
 
 -- a payload has no more parts than all of them
 pub case_parts : (ps : Parts) (n : ℕ) (ty : Plain) → case_type ps n ≡ Some ty → parts ty ≤ all_parts ps

@@ -1,17 +1,16 @@
 -- What is in progress goes on.
-use Rattle.std.proofs.Common.{◌≡◌, ℕ, ◌+◌, ap, refl, sym, ◌∙◌, subst, List, [], ◌∷◌, ◌++◌, arith, append_assoc, append-nil, map}
+use Rattle.std.proofs.Common.{◌≡◌, ℕ, ap, refl, sym, ◌∙◌, List, [], ◌∷◌, ◌++◌}
 use Rattle.std.specs.Prelude.{reverse}
 use Rattle.core_memory.specs.Linear.{Linear}
-use Rattle.abi_layout.specs.Storing.{Number, FlatItem, Lowered, both, requests}
+use Rattle.abi_layout.specs.Storing.{Number, FlatItem, Lowered}
 use Rattle.abi_store.specs.declared.slot.Slot.{Slot}
-use Rattle.abi_store.specs.declared.slot.Slot.TheVariants.{Number as NumberSlot, Place as PlaceSlot}
+use Rattle.abi_store.specs.declared.slot.Slot.TheVariants.{Place as PlaceSlot}
 use Rattle.abi_store.specs.declared.work.Work.{Work}
 use Rattle.abi_store.specs.declared.content.Content.{Content}
 use Rattle.abi_store.specs.declared.content.Cell.TheVariants.{Flat as FlatCell}
 use Rattle.abi_store.specs.Rooms.{content_lowered}
 use Rattle.abi_store.specs.declared.request.Flow.{Flow}
 use Rattle.abi_store.specs.declared.request.Flow.TheVariants.{Goes}
-use Rattle.abi_store.specs.Plan.{Halt, goes}
 use Rattle.abi_store.specs.Flows.{Leads, chain, led, none_left, flow_lowered}
 use Rattle.abi_store.specs.Works.{works_lowered}
 use Rattle.abi_store.specs.Slots.{slot_lowered, slots_lowered, known}
@@ -26,20 +25,9 @@ known-append (x ∷ xs) n fs = ap (λ (v : List FlatItem). Number x ∷ v) (know
 onto : (before after : List Slot) (s : Slot) → before ≡ after ++ s ∷ [] → slots_lowered (reverse before) 0 ≡ chain (slot_lowered s) (slots_lowered (reverse after)) 0
 onto before after s is = ap (λ (ss : List Slot). slots_lowered (reverse ss) 0) is ∙ ap (λ (ss : List Slot). slots_lowered ss 0) (reversed s after)
 
-pub turn_number : (done new : List ℕ) (s : Slot) (n : ℕ) → s ≡ NumberSlot n → new ≡ done ++ n ∷ [] → (rest : ℕ → Lowered) (m : Linear) → led (known done) (chain (slot_lowered s) rest 0) m ≡ led (known new) (chain none_left rest 0) m
-turn_number done new s n is push rest m =
-    ap (λ (t : Slot). led (known done) (chain (slot_lowered t) rest 0) m) is ∙ ap (λ (fs : List FlatItem). goes fs (rest 0).steps m) (known-append done n (rest 0).flats)
-    ∙ ap (λ (xs : List ℕ). goes (known xs ++ (rest 0).flats) (rest 0).steps m) (sym push)
-
 pub turn_content : (done : List ℕ) (s : Slot) (content : Content) (flow : Flow) → s ≡ PlaceSlot content → ((m : Linear) → Leads m (content_lowered content FlatCell) m (flow_lowered flow)) →
     (rest : ℕ → Lowered) (m : Linear) → led (known done) (chain (slot_lowered s) rest 0) m ≡ led (known done) (chain (flow_lowered flow) rest 0) m
 turn_content done s content flow is leads rest m = ap (λ (t : Slot). led (known done) (chain (slot_lowered t) rest 0) m) is ∙ (leads m).on (known done) rest
-
-pub flats_on : (due : Halt) (m : Linear) (done new : List ℕ) (before after : List Slot) (s : Slot) (flow ended : Flow) → due ≡ led (known done) (slots_lowered (reverse before) 0) m → before ≡ after ++ s ∷ [] →
-    ((rest : ℕ → Lowered) (o : Linear) → led (known done) (chain (slot_lowered s) rest 0) o ≡ led (known new) (chain (flow_lowered flow) rest 0) o) → flow ≡ ended → due ≡ led (known new) (chain (flow_lowered ended) (slots_lowered (reverse after)) 0) m
-flats_on due m done new before after s flow ended so is turn same =
-    so ∙ ap (λ (l : Lowered). led (known done) l m) (onto before after s is) ∙ turn (slots_lowered (reverse after)) m
-    ∙ ap (λ (f : Flow). led (known new) (chain (flow_lowered f) (slots_lowered (reverse after)) 0) m) same
 
 -- ---- memory, and then flat values
 

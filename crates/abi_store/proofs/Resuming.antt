@@ -1,5 +1,5 @@
 -- A request that is answered.
-use Rattle.std.proofs.Common.{◌≡◌, ℕ, ◌+◌, ap, refl, sym, ◌∙◌, subst, Bool, true, false, List, [], ◌∷◌, ◌++◌, arith, append-nil}
+use Rattle.std.proofs.Common.{◌≡◌, ℕ, ◌+◌, ap, refl, sym, ◌∙◌, subst, Bool, true, List, [], ◌∷◌, ◌++◌, arith, append-nil}
 use Rattle.std.specs.Prelude.{reverse}
 use Rattle.core_memory.specs.Linear.{Linear}
 use Rattle.abi_layout.specs.Storing.{Target, Step, Number, FlatItem, Lowered, both, requests}
@@ -10,9 +10,9 @@ use Rattle.abi_store.specs.declared.request.Flow.{Flow}
 use Rattle.abi_store.specs.declared.slot.Slot.{Slot}
 use Rattle.abi_store.specs.declared.slot.Flats.{Flats}
 use Rattle.abi_store.specs.declared.work.Work.{Work}
-use Rattle.abi_store.specs.Plan.{Halt, goes, takes, tested, answered, settled, settled_flats}
+use Rattle.abi_store.specs.Plan.{goes, takes, tested, answered, settled_flats}
 use Rattle.abi_store.specs.Rooms.{content_steps, content_len, cell_at, cell_flats, behind}
-use Rattle.abi_store.specs.Flows.{Leads, chain, led, stored, none_left, flow_lowered}
+use Rattle.abi_store.specs.Flows.{Leads, chain, led, stored, flow_lowered}
 use Rattle.abi_store.specs.Works.{works_lowered, work_lowered, place_lowered}
 use Rattle.abi_store.specs.Slots.{slots_lowered, known}
 use Rattle.abi_store.specs.Stages.{rest_of, asked_left, IsPlaced}
@@ -109,6 +109,3 @@ resumed_flow m n room a len r works mid new flats after b flow ended fits placed
 
 pub placed_memory : (cell : Cell) (at place len : ℕ) (w : Work) (works new : List Work) (flats : Flats) → cell ≡ MemoryCell at → ((k : ℕ) → work_lowered w k ≡ place_lowered at place len k) → new ≡ works ++ w ∷ [] → IsPlaced cell place len works flats new flats
 placed_memory cell at place len w works new flats is same push = subst (λ (d : Cell). IsPlaced d place len works flats new flats) (sym is) (w, same, push, refl, refl)
-
-pub placed_flat : (cell : Cell) (place len : ℕ) (works : List Work) (flats after : Flats) → cell ≡ FlatCell → after.done.items ≡ flats.done.items ++ place ∷ [] → after.left.items ≡ flats.left.items → IsPlaced cell place len works flats works after
-placed_flat cell place len works flats after is push same = subst (λ (d : Cell). IsPlaced d place len works flats works after) (sym is) (refl, push, same)

@@ -1,5 +1,5 @@
 -- Runs of numbers, and values one behind the other.
-use Rattle.std.proofs.Common.{◌≡◌, ℕ, pos, ◌+◌, ◌-◌, ◌*◌, ◌/◌, ◌%◌, ◌^◌, ◌<◌, ◌≤◌, ap, refl, sym, ◌∙◌, List, [], ◌∷◌, ◌++◌, length, take, drop, get_or, arith, suc, zero, add-one, drop-cons, append_assoc, append-nil}
+use Rattle.std.proofs.Common.{◌≡◌, ℕ, pos, ◌+◌, ◌*◌, ◌/◌, ◌%◌, ◌^◌, ◌<◌, ◌≤◌, ap, refl, sym, ◌∙◌, List, [], ◌∷◌, ◌++◌, length, take, get_or, arith, suc, add-one, append_assoc}
 use Rattle.std.proofs.Math.Seq.{take-suc}
 use Rattle.std.specs.Prelude.{reverse}
 use Rattle.std.proofs.lemmas.List.{length-reverse}
@@ -7,7 +7,7 @@ use Rattle.std.proofs.Math.Nat.{mul_comm}
 use Rattle.core_memory.specs.Number.{bytes_of}
 use Rattle.wit_types.specs.declared.value.Value.{Value}
 use Rattle.wit_types.specs.PlainValue.{PlainValue, PlainValues, IntValue, plain_value, values_of, byte_values, More as Values, End as NoValues}
-use Rattle.abi_layout.specs.Storing.{run_bytes, number_bytes, count_values}
+use Rattle.abi_layout.specs.Storing.{run_bytes, count_values}
 
 pub count-values_of : (xs : List Value) → count_values (values_of xs) ≡ length xs
 count-values_of [] = refl
@@ -19,34 +19,12 @@ count-byte_values (b ∷ bs) = ap (λ k. k + 1) (count-byte_values bs) ∙ add-o
 
 -- ---- the bytes of a number, one after another
 
-pub push_start : (xs : List ℕ) (width n w : ℕ) → w ≡ width → xs ++ bytes_of width n ≡ xs ++ bytes_of w n
-push_start xs width n w is = ap (λ k. xs ++ bytes_of k n) (sym is)
-
 pub push_more : (due xs ys : List ℕ) (m k n b : ℕ) → xs ++ bytes_of m n ≡ due → m ≡ k + 1 → b ≡ n % 256 → ys ≡ xs ++ b ∷ [] → ys ++ bytes_of k (n / 256) ≡ due
 push_more due xs ys m k n b so is byte push =
     ap (λ (v : List ℕ). v ++ bytes_of k (n / 256)) (push ∙ ap (λ c. xs ++ c ∷ []) byte) ∙ append_assoc xs (n % 256 ∷ []) (bytes_of k (n / 256))
     ∙ ap (λ j. xs ++ bytes_of j n) (sym (is ∙ add-one k)) ∙ so
 
-pub push_end : (due xs : List ℕ) (m n : ℕ) → xs ++ bytes_of m n ≡ due → m ≡ 0 → xs ≡ due
-push_end due xs m n so is = sym (append-nil xs) ∙ ap (λ j. xs ++ bytes_of j n) (sym is) ∙ so
-
--- ---- one value's number behind those before
-
-pub run_more : (due xs ys : List ℕ) (width i : ℕ) (vs : List Value) (v : Value) → xs ++ run_bytes width (values_of (drop i vs)) ≡ due → i < length vs → v ≡ get_or vs i v →
-    ys ≡ xs ++ number_bytes width (plain_value v) → ys ++ run_bytes width (values_of (drop (i + 1) vs)) ≡ due
-run_more due xs ys width i vs v so lt here push =
-    let cut : drop i vs ≡ v ∷ drop (i + 1) vs = rw add-one (drop-cons vs i v lt) ∙ ap (λ (z : Value). z ∷ drop (i + 1) vs) (sym here) in
-    ap (λ (z : List ℕ). z ++ run_bytes width (values_of (drop (i + 1) vs))) push ∙ append_assoc xs (number_bytes width (plain_value v)) (run_bytes width (values_of (drop (i + 1) vs)))
-    ∙ ap (λ (z : List Value). xs ++ run_bytes width (values_of z)) (sym cut) ∙ so
-
-pub byte_more : (due xs ys : List ℕ) (width i : ℕ) (bs : List ℕ) (b : ℕ) → xs ++ run_bytes width (byte_values (drop i bs)) ≡ due → i < length bs → b ≡ get_or bs i 0 → b < 256 →
-    ys ≡ xs ++ bytes_of width b → ys ++ run_bytes width (byte_values (drop (i + 1) bs)) ≡ due
-byte_more due xs ys width i bs b so lt here small push =
-    let cut : drop i bs ≡ b ∷ drop (i + 1) bs = rw add-one (drop-cons bs i 0 lt) ∙ ap (λ (z : ℕ). z ∷ drop (i + 1) bs) (sym here) in
-    let low : b % 2 ^ 64 ≡ b = omega arith in
-    ap (λ (z : List ℕ). z ++ run_bytes width (byte_values (drop (i + 1) bs))) (push ∙ ap (λ k. xs ++ bytes_of width k) (sym low))
-    ∙ append_assoc xs (number_bytes width (IntValue (pos b))) (run_bytes width (byte_values (drop (i + 1) bs)))
-    ∙ ap (λ (z : List ℕ). xs ++ run_bytes width (byte_values z)) (sym cut) ∙ so
+-- ---- bytes that are their own run
 
 pub own_run : (bs : List ℕ) → ((k : ℕ) → get_or bs k 0 < 256) → run_bytes 1 (byte_values bs) ≡ bs
 own_run [] small = refl

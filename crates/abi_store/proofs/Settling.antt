@@ -1,15 +1,15 @@
 -- Steps where the first requests are answered.
-use Rattle.std.proofs.Common.{◌≡◌, ℕ, ◌+◌, ◌-◌, ◌*◌, ◌^◌, ◌<◌, ap, refl, sym, ◌∙◌, subst, Bool, true, false, List, [], ◌∷◌, ◌++◌, length, map, arith, zero, suc, Option, Some, None}
+use Rattle.std.proofs.Common.{◌≡◌, ℕ, ◌+◌, ◌-◌, ◌*◌, ◌^◌, ap, refl, sym, ◌∙◌, Bool, true, false, List, [], ◌∷◌, ◌++◌, length, arith, zero, suc}
 use Rattle.std.specs.Prelude.{if◌then◌else◌, nat_lt, nat_le, slice_index}
 use Rattle.std.proofs.lemmas.Bool.Decides.{nat_tests}
 use Rattle.core_memory.specs.Number.{bytes_of}
 use Rattle.wit_types.specs.Plain.{Plain, Parts, BoolType, SignedType, UnsignedType, CharType, StringType, ListType, RecordType, VariantType, FlagsType, OwnType, BorrowType, End, More, Bare}
-use Rattle.wit_types.specs.PlainValue.{PlainValue, PlainValues, Payload, BoolValue, IntValue, CharValue, StringValue, ListValue, RecordValue, VariantValue, FlagsValue, HandleValue, End as NoValues, More as Values, Without, With}
+use Rattle.wit_types.specs.PlainValue.{PlainValue, PlainValues, Payload, StringValue, ListValue, RecordValue, VariantValue, End as NoValues, More as Values, Without, With}
 use Rattle.wit_types.specs.Layout.{alignment, align_to, size, count, discriminant_size}
 use Rattle.abi_layout.specs.Numbers.{is_number}
 use Rattle.abi_layout.specs.Loading.{payload_offset}
-use Rattle.abi_layout.specs.Storing.{Base, Target, Answer, Step, Ask, Write, Place, Refuse, FlatItem, Number, AnswerTo, Lowered, requests, run_bytes, string_steps, item_steps, list_steps, place_and_length, count_values, stores_at, field_steps, case_steps}
-use Rattle.abi_store.specs.Plan.{base_left, place_of, settled_step, settled, settled_flat, settled_flats, answered}
+use Rattle.abi_layout.specs.Storing.{Base, Target, Answer, Step, Ask, Write, Place, Refuse, requests, run_bytes, string_steps, item_steps, list_steps, place_and_length, count_values, stores_at, field_steps, case_steps}
+use Rattle.abi_store.specs.Plan.{base_left, place_of, settled_step, settled}
 
 pub settled-append : (t : ℕ) (given : List ℕ) (xs ys : List Step) → settled t given (xs ++ ys) ≡ settled t given xs ++ settled t given ys
 settled-append t given [] ys = refl
@@ -120,9 +120,6 @@ settle-list t given item store each vs b o j =
     ∙ ap (λ (v : List Step). list_steps store item vs j ++ v) (settle-place t given b o j (count_values vs))
 
 -- ---- values
-
-number_of_it : (t : ℕ) (given : List ℕ) (b : Base) (o : ℕ) (bytes : List ℕ) → settled t given (Write b o bytes ∷ []) ≡ Write (base_left given b) (place_of t given b + o) bytes ∷ []
-number_of_it t given b o bytes = refl
 
 pub fields_place : (s at a : ℕ) → s + (at + a) ≡ s + at + a
 fields_place s at a = omega arith

@@ -1,13 +1,13 @@
 -- Steps that are taken over one memory of a store.
-use Rattle.std.proofs.Common.{◌≡◌, ℕ, ◌<◌, ap, refl, sym, ◌∙◌, List, length, arith, subst, Result, Ok, Err}
-use Rattle.std.specs.Prelude.{slice_set, IfOk, Option, None}
-use Rattle.std.proofs.lemmas.List.{set-set, set-get_or, get_or-set_same, length-set}
+use Rattle.std.proofs.Common.{◌≡◌, ℕ, ap, sym, ◌∙◌, List, length}
+use Rattle.std.specs.Prelude.{slice_set, None}
+use Rattle.std.proofs.lemmas.List.{set-set, set-get_or, length-set}
 use Rattle.core_memory.specs.Linear.{Linear, fresh}
-use Rattle.core_store.specs.State.{State, InMemory, memory_at}
+use Rattle.core_store.specs.State.{State, memory_at}
 use Rattle.abi_layout.specs.Storing.{Lowered}
-use Rattle.abi_store.specs.Flows.{Leads, chain}
+use Rattle.abi_store.specs.Flows.{Leads}
 use Rattle.abi_store.specs.Works.{Took}
-use Rattle.abi_store.proofs.Chains.{leads_then, leads_behind, leads_same}
+use Rattle.abi_store.proofs.Chains.{leads_then}
 
 -- nothing of the store but one memory changed
 abbrev pub Keeps : State → State → ℕ → Type 0

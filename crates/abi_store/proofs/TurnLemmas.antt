@@ -5,7 +5,7 @@ use Rattle.std.proofs.lemmas.List.{reverse-append}
 use Rattle.virt_base.specs.declared.fault.NoMemory.{NoMemory}
 use Rattle.abi_store.specs.declared.work.Begun.{Begun}
 use Rattle.wit_types.specs.declared.value.Value.{Value}
-use Rattle.wit_types.specs.PlainValue.{PlainValue, PlainValues, BoolValue, IntValue, CharValue, StringValue, ListValue, RecordValue, VariantValue, FlagsValue, HandleValue, End, More, plain_value, values_of}
+use Rattle.wit_types.specs.PlainValue.{PlainValue, PlainValues, BoolValue, IntValue, CharValue, StringValue, ListValue, RecordValue, VariantValue, FlagsValue, HandleValue, plain_value, values_of}
 use Rattle.abi_store.specs.declared.work.Work.{Work}
 use Rattle.abi_store.specs.Weights.{turns, all_turns, left_turns, work_turns, works_turns, begun_turns}
 

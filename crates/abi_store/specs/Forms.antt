@@ -1,6 +1,6 @@
 -- Values that are not of a form.
-use Rattle.std.specs.Prelude.{◌≡◌, Bool, true, false}
-use Rattle.wit_types.specs.PlainValue.{PlainValue, StringValue, ListValue, RecordValue, VariantValue}
+use Rattle.std.specs.Prelude.{◌≡◌, true, false}
+use Rattle.wit_types.specs.PlainValue.{PlainValue}
 use Rattle.abi_layout.specs.Storing.{on_string, on_list, on_record, on_variant}
 
 abbrev pub IsNoString : PlainValue → Type 0

@@ -1,5 +1,5 @@
 -- The parts of a record or a tuple, and the cases of a variant.
-use Rattle.std.specs.Prelude.{ℕ, zero, suc, ◌≡◌, List, [], drop, Option, Some, None}
+use Rattle.std.specs.Prelude.{ℕ, ◌≡◌, List, [], drop, Option, Some, None}
 use Rattle.std.specs.Global.{Global}
 use Rattle.std.specs.declared.rc.Rc.{Rc}
 use Rattle.wit_types.specs.declared.types.Field.{Field}

@@ -1,6 +1,6 @@
 -- How the steps of storing are taken (Component Model, CanonicalABI.md, "Storing" and "Flat Lowering"): up to a request, and on
 -- with its answer, over the one memory that is stored to.
-use Rattle.std.specs.Prelude.{ℕ, ◌≡◌, ◌+◌, ◌-◌, ◌%◌, ◌^◌, Bool, true, false, ◌&&◌, ◌==◌, nat_lt, nat_le, if◌then◌else◌, List, [], ◌∷◌, length, map, slice_index, Option, Some, None, unwrap_or}
+use Rattle.std.specs.Prelude.{ℕ, ◌+◌, ◌-◌, ◌%◌, ◌^◌, Bool, true, false, ◌&&◌, ◌==◌, nat_lt, nat_le, if◌then◌else◌, List, [], ◌∷◌, length, map, slice_index, Option, Some, None}
 use Rattle.virt_base.specs.declared.core_type.CoreType.{CoreType}
 use Rattle.virt_base.specs.declared.core_type.CoreType.TheVariants.{I32 as I32Type, I64 as I64Type, Funcref, Externref}
 use Rattle.core_memory.specs.Number.{bytes_of}

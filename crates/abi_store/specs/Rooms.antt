@@ -1,5 +1,5 @@
 -- What is asked for room for, as the steps that store it.
-use Rattle.std.specs.Prelude.{ℕ, ◌≡◌, ◌+◌, ◌*◌, ◌^◌, ◌≤◌, nat_lt, nat_le, if◌then◌else◌, List, [], ◌∷◌, ◌++◌, length, Option, Some, None}
+use Rattle.std.specs.Prelude.{ℕ, ◌+◌, ◌*◌, ◌^◌, nat_lt, nat_le, if◌then◌else◌, List, [], ◌∷◌, ◌++◌, length, Option, Some, None}
 use Rattle.core_memory.specs.Number.{bytes_of}
 use Rattle.wit_types.specs.Plain.{Plain, plain}
 use Rattle.wit_types.specs.PlainValue.{PlainValues, plain_value, plain_values}

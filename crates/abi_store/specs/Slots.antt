@@ -1,5 +1,5 @@
 -- Flat values that are still to come, with the steps behind them.
-use Rattle.std.specs.Prelude.{ℕ, ◌≡◌, ◌+◌, List, [], ◌∷◌, length, map, replicate, Option, Some, None}
+use Rattle.std.specs.Prelude.{ℕ, ◌≡◌, List, [], ◌∷◌, length, map, replicate, Option, Some, None}
 use Rattle.wit_types.specs.Plain.{Plain, Parts}
 use Rattle.wit_types.specs.PlainValue.{PlainValue, Payload}
 use Rattle.wit_types.specs.Layout.{flat_cases}

@@ -1,5 +1,5 @@
 -- The plan for a value and a target, and how a step of it ends.
-use Rattle.std.specs.Prelude.{ℕ, ◌≡◌, List}
+use Rattle.std.specs.Prelude.{◌≡◌, List}
 use Rattle.virt_base.specs.declared.core_type.CoreType.{CoreType}
 use Rattle.core_memory.specs.Linear.{Linear}
 use Rattle.wit_types.specs.Plain.{Plain}

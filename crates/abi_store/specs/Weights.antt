@@ -1,6 +1,6 @@
 -- How many turns what is in progress takes at most.
 use Rattle.std.specs.Prelude.{ℕ, ◌+◌, List, [], ◌∷◌}
-use Rattle.wit_types.specs.PlainValue.{PlainValue, PlainValues, Payload, BoolValue, IntValue, CharValue, StringValue, ListValue, RecordValue, VariantValue, FlagsValue, HandleValue, End, More, Without, With, plain_value, values_of}
+use Rattle.wit_types.specs.PlainValue.{PlainValue, PlainValues, Payload, BoolValue, IntValue, CharValue, StringValue, ListValue, RecordValue, VariantValue, FlagsValue, HandleValue, End, More, Without, With, plain_value}
 use Rattle.wit_types.specs.declared.value.Value.{Value}
 use Rattle.abi_store.specs.declared.work.Work.{Work}
 use Rattle.abi_store.specs.declared.work.Work.TheVariants.{List as OfList, Record as OfRecord, Value as OfValue, Place as OfPlace}

@@ -16,7 +16,7 @@ use Rattle.abi_store.specs.declared.work.Begun.TheVariants.{Stored, Opened, Asks
 use Rattle.abi_store.specs.declared.work.Written.{Written}
 use Rattle.abi_store.specs.declared.work.Written.TheVariants.{Done, Past}
 use Rattle.abi_store.specs.Parts.{parts_from}
-use Rattle.abi_store.specs.Flows.{Leads, chain, stored, none_left, refused, request_lowered}
+use Rattle.abi_store.specs.Flows.{Leads, chain, none_left, refused, request_lowered}
 
 -- Over one memory of a store steps lead where others lead over what it became, and nothing else of the store changes.
 abbrev pub Took : State → State → ℕ → (ℕ → Lowered) → (ℕ → Lowered) → Type 0

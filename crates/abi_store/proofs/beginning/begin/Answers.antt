@@ -1,5 +1,4 @@
 use Rattle.std.proofs.Common.{◌∙◌, ap, sym, subst, arith}
-use Rattle.core_store.specs.State.{memory_at}
 use Rattle.wit_types.specs.Plain.{Plain, plain, StringType, ListType, RecordType, AsRecord, AsTuple}
 use Rattle.wit_types.specs.PlainValue.{plain_value}
 use Rattle.wit_types.proofs.PlainLemmas.{plain-Str, plain-List, plain-Record, plain-Tuple}

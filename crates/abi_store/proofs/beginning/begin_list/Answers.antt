@@ -1,11 +1,10 @@
 use Rattle.std.proofs.Common.{ℕ, subst, sym}
-use Rattle.core_memory.specs.Linear.{Linear}
 use Rattle.wit_types.specs.declared.types.WitType.{WitType}
 use Rattle.wit_types.specs.Plain.{plain}
 use Rattle.wit_types.specs.PlainValue.{plain_value, plain_values}
 use Rattle.abi_layout.specs.Storing.{Lowered}
 use Rattle.abi_store.specs.Flows.{Leads, flow_lowered}
-use Rattle.abi_store.specs.Works.{begun_lowered, list_lowered}
+use Rattle.abi_store.specs.Works.{list_lowered}
 use Rattle.abi_store.proofs.Begins.{list_leads}
 use Rattle.abi_store.proofs.beginning.begin_list.Goals as goal
 

@@ -1,9 +1,8 @@
 use Rattle.std.proofs.Common.{ℕ, subst, sym}
-use Rattle.core_memory.specs.Linear.{Linear}
 use Rattle.wit_types.specs.PlainValue.{plain_value}
 use Rattle.abi_layout.specs.Storing.{Lowered}
 use Rattle.abi_store.specs.Flows.{Leads, flow_lowered}
-use Rattle.abi_store.specs.Works.{begun_lowered, text_lowered}
+use Rattle.abi_store.specs.Works.{text_lowered}
 use Rattle.abi_store.proofs.Begins.{string_leads}
 use Rattle.abi_store.proofs.beginning.begin_string.Goals as goal
 

@@ -1,4 +1,4 @@
-use Rattle.std.proofs.Common.{ℕ, subst, arith}
+use Rattle.std.proofs.Common.{subst, arith}
 use Rattle.core_store.specs.State.{memory_at}
 use Rattle.wit_types.specs.Plain.{plain, payload_of}
 use Rattle.wit_types.specs.PlainValue.{plain_value, payload_of as value_payload_of}

@@ -1,4 +1,4 @@
-use Rattle.std.proofs.Common.{◌≡◌, ◌∙◌, sym, subst, Option}
+use Rattle.std.proofs.Common.{◌≡◌, sym, subst, Option}
 use Rattle.std.specs.Prelude.{IfOk}
 use Rattle.wit_types.specs.Plain.{Plain, payload_of}
 use Rattle.abi_store.proofs.PartLemmas.{case_type-past, case_type-cases_of}

@@ -1,5 +1,5 @@
 use Rattle.std.proofs.Common.{◌-◌, length, arith}
-use Rattle.abi_store.proofs.Lowers.{zeros_none, zeros_more, zeros_same}
+use Rattle.abi_store.proofs.Lowers.{zeros_none}
 use Rattle.abi_store.proofs.flats.pad.Goals as goal
 
 pub loop-slots-init : goal.loop-slots-init

@@ -2,7 +2,7 @@ use Rattle.std.proofs.Common.{subst}
 use Rattle.std.specs.Prelude.{reverse}
 use Rattle.core_store.specs.State.{memory_at}
 use Rattle.abi_store.specs.declared.request.Flow.{Flow}
-use Rattle.abi_store.specs.declared.request.Flow.TheVariants.{Goes, Asks, Trapped}
+use Rattle.abi_store.specs.declared.request.Flow.TheVariants.{Asks, Trapped}
 use Rattle.abi_store.specs.Works.{IsOver}
 use Rattle.abi_store.proofs.Proceeding.{stopped_led, over_led}
 use Rattle.abi_store.proofs.going.proceed.Goals as goal

@@ -1,4 +1,4 @@
-use Rattle.std.proofs.Common.{◌≡◌, ◌∙◌, sym, Bool, true}
+use Rattle.std.proofs.Common.{◌∙◌, sym}
 use Rattle.core_store.specs.State.{memory_at}
 use Rattle.abi_store.specs.declared.request.Flow.TheVariants.{Goes, Asks, Trapped}
 use Rattle.abi_store.specs.Plan.{is_room}

@@ -1,5 +1,4 @@
 use Rattle.std.proofs.Common.{◌+◌, ◌-◌, refl, arith}
-use Rattle.core_memory.specs.Number.{bytes_of}
 use Rattle.abi_store.proofs.Runs.{push_more}
 use Rattle.abi_store.proofs.number.push_number.Goals as goal
 

@@ -1,4 +1,3 @@
-use Rattle.std.proofs.Common.{ap}
 use Rattle.abi_store.proofs.PartLemmas.{fields_next}
 use Rattle.abi_store.proofs.parts.field_type.Goals as goal
 

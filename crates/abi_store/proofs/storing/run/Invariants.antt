@@ -1,4 +1,4 @@
-use Rattle.std.proofs.Common.{◌≡◌, ◌<◌, length}
+use Rattle.std.proofs.Common.{◌<◌, length}
 use Rattle.std.specs.Prelude.{reverse}
 use Rattle.abi_store.specs.Works.{Took, works_lowered}
 use Rattle.abi_store.specs.Weights.{works_turns}

@@ -1,11 +1,11 @@
-use Rattle.std.proofs.Common.{◌≡◌, ℕ, ap, refl, subst, List, []}
+use Rattle.std.proofs.Common.{ℕ, ap, refl, subst, List, []}
 use Rattle.core_store.specs.State.{memory_at}
 use Rattle.wit_types.specs.declared.types.WitType.{WitType}
 use Rattle.wit_types.specs.Plain.{plain}
 use Rattle.wit_types.specs.PlainValue.{PlainValue, plain_value}
 use Rattle.abi_layout.specs.Storing.{Base, Step, Lowered, stores_at}
 use Rattle.abi_store.specs.declared.work.Work.TheVariants.{List as OfList}
-use Rattle.abi_store.specs.Flows.{Leads, chain, flow_lowered}
+use Rattle.abi_store.specs.Flows.{Leads, flow_lowered}
 use Rattle.abi_store.specs.Works.{begun_lowered, work_lowered, value_lowered}
 use Rattle.abi_store.specs.Weights.{turns, left_turns, begun_turns}
 use Rattle.abi_store.proofs.Begins.{turned, items_cut}

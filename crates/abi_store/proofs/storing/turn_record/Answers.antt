@@ -1,13 +1,13 @@
-use Rattle.std.proofs.Common.{◌≡◌, ℕ, ◌+◌, ◌∙◌, ap, refl, subst, List, [], Option}
+use Rattle.std.proofs.Common.{◌+◌, ◌∙◌, ap, refl, subst, List, [], Option}
 use Rattle.core_store.specs.State.{memory_at}
 use Rattle.wit_types.specs.declared.types.WitType.{WitType}
 use Rattle.wit_types.specs.Plain.{plain}
-use Rattle.wit_types.specs.PlainValue.{PlainValue, plain_value}
+use Rattle.wit_types.specs.PlainValue.{plain_value}
 use Rattle.wit_types.specs.Layout.{align_to}
 use Rattle.abi_layout.specs.Storing.{Step, Lowered}
 use Rattle.abi_store.specs.declared.work.Work.TheVariants.{Record as OfRecord}
 use Rattle.abi_store.specs.Parts.{parts_from, IsNext}
-use Rattle.abi_store.specs.Flows.{chain, flow_lowered}
+use Rattle.abi_store.specs.Flows.{flow_lowered}
 use Rattle.abi_store.specs.Works.{begun_lowered, work_lowered, value_lowered}
 use Rattle.abi_store.specs.Weights.{turns, left_turns, begun_turns}
 use Rattle.abi_store.proofs.Begins.{turned, fields_cut_at}
