@@ -1,0 +1,4 @@
+pub mod Numbers
+pub mod Closed
+pub mod Reallocating
+pub mod Pieces
