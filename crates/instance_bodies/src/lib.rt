@@ -1,0 +1,6 @@
+//! The functions of a new instance: a law, and no code.
+#![tactic(auto)]
+
+mod laws;
+
+pub use laws::bodies_stand;
