@@ -274,7 +274,7 @@ fn refusals_come_in_their_order(rt: HostRuntime) -> Result<(), Fail> {
             no_app.as_slice(),
             b"x".as_slice(),
             1,
-            b"policy refused: bad-key \n".as_slice(),
+            b"policy refused: not-toml\n".as_slice(),
         ),
     ] {
         let files = files_of(alloc, &SEVEN, policy, 200, &[])?;
@@ -315,7 +315,7 @@ fn a_limit_passes_and_one_more_is_refused(rt: HostRuntime) -> Result<(), Fail> {
     let alloc = rt.alloc();
     // the bytes of the application and of the policy, all of them 0
     for (app, policy, exit, line) in [
-        (0, 16_777_216, 1, b"policy refused: bad-key \n".as_slice()),
+        (0, 16_777_216, 1, b"policy refused: not-toml\n".as_slice()),
         (
             0,
             16_777_217,
@@ -341,6 +341,72 @@ fn a_limit_passes_and_one_more_is_refused(rt: HostRuntime) -> Result<(), Fail> {
         let ran = run_on(alloc, &WORDS, files, sink_of(alloc, &[])?)?;
         assert_eq!(rt; ran.code, exit);
         assert_eq!(rt; ran.text.as_slice(), line);
+        assert!(rt; ran.out.is_none());
+    }
+    Ok(())
+}
+
+/// What is put for policies, over files that are the application and the policy alone.
+#[test]
+fn policies_are_read_whole(rt: HostRuntime) -> Result<(), Fail> {
+    let alloc = rt.alloc();
+    let done = "done: 83 bytes in, 116 bytes out, 0 functions imported\n";
+    for (policy, exit, line) in [
+        ("slots = 64", 0, done),
+        (
+            "[[fs.tree]]\nname = \"t\"\nfiles = { a = { text = \"x\" }, b = { file = \"a\" } }",
+            0,
+            done,
+        ),
+        ("slots = 0", 1, "policy refused: bad-value slots\n"),
+        ("env.pas = 1", 1, "policy refused: bad-key env.pas\n"),
+        (
+            "[[fs.tree]]\nname = \"t\"\nfiles = { \"a//b\" = { text = \"\" } }",
+            1,
+            "policy refused: bad-name fs.tree[0].files.a//b\n",
+        ),
+        ("slots = 4097", 5, "over limit: slots 4097\n"),
+        (
+            "[[fs.tree]]\nname = \"t\"\nfiles = { b = { file = \"c\" } }",
+            3,
+            "file fault: c\n",
+        ),
+        (
+            "[[fs.tree]]\nname = \"t\"\nmount = \"f\"",
+            3,
+            "file fault: f\n",
+        ),
+        (DEEP_POLICY, 5, "over limit: tree-depth 65\n"),
+    ] {
+        let files = files_of(alloc, &SEVEN, policy.as_bytes(), 200, &[])?;
+        let ran = run_on(alloc, &WORDS, files, sink_of(alloc, &[])?)?;
+        assert_eq!(rt; ran.code, exit, "{policy}");
+        assert_eq!(rt; ran.text.as_slice(), line.as_bytes());
+        assert_eq!(rt; ran.out.is_some(), exit == 0);
+    }
+    Ok(())
+}
+
+/// A tree with one folder of 65 names.
+const DEEP_POLICY: &str =
+    "[[fs.tree]]\nname = \"t\"\nfolders = [\"a/a/a/a/a/a/a/a/a/a/a/a/a/a/a/a/a/a/a/a/a/a/a/a/a/a/a/a/a/a/a/a/a/a/a/a/a/a/a/a/a/a/a/a/a/a/a/a/a/a/a/a/a/a/a/a/a/a/a/a/a/a/a/a/a\"]";
+
+/// The policy is refused before the application, and the application before the policy's trees.
+#[test]
+fn trees_come_behind_the_application(rt: HostRuntime) -> Result<(), Fail> {
+    let alloc = rt.alloc();
+    for (policy, exit, line) in [
+        ("slots = 0", 1, "policy refused: bad-value slots\n"),
+        (
+            "[[fs.tree]]\nname = \"t\"\nmount = \"f\"",
+            2,
+            "application refused: malformed at 0\n",
+        ),
+    ] {
+        let files = files_of(alloc, b"", policy.as_bytes(), 200, &[])?;
+        let ran = run_on(alloc, &WORDS, files, sink_of(alloc, &[])?)?;
+        assert_eq!(rt; ran.code, exit, "{policy}");
+        assert_eq!(rt; ran.text.as_slice(), line.as_bytes());
         assert!(rt; ran.out.is_none());
     }
     Ok(())

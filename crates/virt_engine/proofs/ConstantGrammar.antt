@@ -1,14 +1,13 @@
 -- The constant's form is exact, by the laws of what it is made of.
-use Rattle.std.proofs.Common.{◌≡◌, ◌≢◌, ℕ, ℤ, ◌+◌, ◌<◌, ◌≤◌, List, [], ◌∷◌, ◌++◌, length, Option, Some, None, Result, Ok, Err, is_ok, cond, eqb, Bool, true, false, refl, sym, ap, subst, ◌∙◌, arith}
-use Rattle.std.proofs.lemmas.Bool.{eqb-true}
+use Rattle.std.proofs.Common.{◌≡◌, ℕ, ℤ, ◌+◌, ◌<◌, List, [], ◌∷◌, ◌++◌, length, Some, None, Result, Ok, Err, is_ok, eqb, true, false, refl, sym, ap, subst, ◌∙◌, arith}
 use Rattle.std.proofs.lemmas.List.{append-nil, nil_from_length}
 use Rattle.std.proofs.Math.Dec.{eqb-suc-zero}
 use Rattle.virt_base.specs.declared.cursor.Cursor.{Cursor}
-use Rattle.virt_base.specs.Place.{Place, Takes, rest, place}
+use Rattle.virt_base.specs.Place.{Place, rest, place}
 use Rattle.wasm_format.specs.declared.stop.Stop.{Stop}
 use Rattle.wasm_format.specs.declared.stop.Stop.TheVariants.{NoMemory, Malformed, Unsupported, TooNested}
 use Rattle.wasm_format.specs.Reads.{Reads}
-use Rattle.wasm_format.proofs.Laws.{IsExact, IsExactToEnd, to_end, exact_both, exact_image, exact_fixed, exact_sized}
+use Rattle.wasm_format.proofs.Laws.{IsExact, to_end, exact_both, exact_image, exact_fixed, exact_sized}
 use Rattle.wasm_format.proofs.NumberLaws.{exact_s32}
 use Rattle.virt_engine.specs.Constant.{body, code, core_module, lifting, component, SpellsConstant, constant_of, to_the_last, IsNoConstant, Answers}
 

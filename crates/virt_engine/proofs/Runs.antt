@@ -1,6 +1,6 @@
 -- A whole call, by what its parts did.
 use Rattle.std.proofs.Common.{◌≡◌, ◌≢◌, ℕ, ℤ, ◌≤◌, List, [], ◌++◌, length, true, false, refl, sym, ap, subst, ◌∙◌, inl, inr, arith, Ok, Err, string_bytes}
-use Rattle.std.specs.Prelude.{◌⊎◌, Option, Some, None, codes}
+use Rattle.std.specs.Prelude.{◌⊎◌, Option, Some, None, Result, codes}
 use Rattle.std.proofs.lemmas.Bool.{le-ltb}
 use Rattle.outside.specs.Fault.{Rose}
 use Rattle.outside.specs.Files.{FilesState, Held, with_file, no_place}
@@ -15,7 +15,16 @@ use Rattle.virt_engine.specs.Line.{status_text}
 use Rattle.virt_engine.specs.Output.{output_bytes}
 use Rattle.virt_engine.specs.Report.{Puts, Reports}
 use Rattle.virt_engine.specs.Writing.{LeftOf}
-use Rattle.virt_engine.specs.Plan.{app_limit, policy_limit, with_input, unless_form, unless_policy, app_verdict, verdict_of, on_command, verdict, IsAccepted, IsFileFault, Plans, IsReady, RefusalOf, Wrote, DueOf, FilesQuiet, Finishes, Ran, RanCommand, Completes, Accepts, Delivers}
+use Rattle.virt_engine.specs.Fetching.{with_input, IsFileFault}
+use Rattle.virt_engine.specs.Policies.{policy_limit, policy_due, with_policy}
+use Rattle.virt_engine.specs.Apps.{app_limit, unless_form}
+use Rattle.virt_engine.specs.PolicyTrees.{with_trees, trees_verdict}
+use Rattle.virt_engine.specs.Plan.{verdict_under, verdict_of, on_command, verdict, IsAccepted, Plans, IsReady, RefusalOf, Wrote, DueOf, FilesQuiet, Finishes, Ran, RanCommand, Completes, Accepts, Delivers}
+use Rattle.policy_data.specs.declared.policy.Policy.{Policy}
+use Rattle.policy_data.specs.declared.fault.ReadPolicyFault.{ReadPolicyFault}
+use Rattle.mount_tree.specs.declared.policy_trees.Forest.{Forest}
+use Rattle.mount_tree.specs.declared.fault.TreeFault.{TreeFault}
+use Rattle.virt_engine.proofs.PolicyLaws.{well_formed_due}
 use Rattle.virt_engine.proofs.Adding.{goes_on}
 use Rattle.virt_engine.proofs.Outputs.{is_output}
 
@@ -33,8 +42,8 @@ due_of_refusal : (c : Command) (words : List (List ℕ)) (s t : FilesState) (e :
 due_of_refusal c words s t (FileFault kept) named stays r = (c, named, refl, r.0, inl (stays, r.1))
 due_of_refusal c words s t NoMemory named stays r = (stays, refl)
 due_of_refusal c words s t (OverLimit what value) named stays r = (stays, refl, r.0, λ told. r.1 told ∙ sym (verdict-named s.held words c named))
-due_of_refusal c words s t (PolicyRefused fault) named stays r = (stays, refl, λ told. r.1 told ∙ sym (verdict-named s.held words c named))
-due_of_refusal c words s t (AppRefused fault) named stays r = (stays, refl, λ told. r.1 told ∙ sym (verdict-named s.held words c named))
+due_of_refusal c words s t (PolicyRefused fault) named stays r = (stays, refl, λ told. r told ∙ sym (verdict-named s.held words c named))
+due_of_refusal c words s t (AppRefused fault) named stays r = (stays, refl, λ told. r told ∙ sym (verdict-named s.held words c named))
 due_of_refusal c words s t Done named stays r = absurd r
 due_of_refusal c words s t SinkFault named stays r = absurd r
 due_of_refusal c words s t (ScriptRefused path) named stays r = absurd r
@@ -60,15 +69,14 @@ ran_refuse c e s t k l result p r silent words named = record {
 
 abbrev wrote_of : (c : Command) (p : Ready) (s : FilesState) → IsReady c s p → Wrote c s
 wrote_of c p s r = record {
-  app = p.app.items;
-  short = r.short;
-  constant = r.constant;
-  form = r.form;
-  bytes = output_bytes p.app.items;
-  output = is_output p.app.items (omega (arith, r.short));
-  due = r.due;
   policy = r.policy;
-  there = r.app;
+  has_policy = r.has_policy;
+  app = p.app.items;
+  has_app = r.has_app;
+  has_trees = r.has_trees;
+  bytes = output_bytes p.app.items;
+  output = is_output p.app.items (omega (arith, r.has_app.short));
+  due = r.due;
 }
 
 not_silent : (due : Status) (text : List ℕ) (k l : SinkState) (result : Status) → due ≢ NoMemory → Puts due text k l result → result ≡ NoMemory → ⊥
@@ -101,7 +109,7 @@ ran_finish c p s t u k l result q f words named =
     let room = fits c named (ready.due told) in
     let first = (q.quiet told steady (no_fault_of s.held words c named none)).0 in
     let place : no_place t.held c.out ≡ false = subst (λ (h : Held). no_place h c.out ≡ false) (sym q.stays) room.0 in
-    let short : length (output_bytes p.app.items) ≤ t.held.room c.out = subst (λ (h : Held). length (output_bytes p.app.items) ≤ h.room c.out) (sym q.stays) (room.1 p.app.items (ready.app told)) in
+    let short : length (output_bytes p.app.items) ≤ t.held.room c.out = subst (λ (h : Held). length (output_bytes p.app.items) ≤ h.room c.out) (sym q.stays) (room.1 p.app.items (ready.has_app.there told)) in
     let short' : length (p.front.items ++ (p.app.items ++ p.back.items)) ≤ t.held.room c.out = subst (λ (z : List ℕ). length z ≤ t.held.room c.out) (sym ready.output) short in
     f.quiet (told_t told) (q.goes.steady steady) place short' ∙ first in
     elim f.end [
@@ -193,16 +201,18 @@ completes words s t k l result r = by_due r.due r.text words s t k l result r.fi
 input_here : (file : Option (List ℕ)) (bytes what name : List ℕ) (limit : ℕ) (next : List ℕ → Status) → file ≡ Some bytes → length bytes ≤ limit → with_input file what limit name next ≡ next bytes
 input_here file bytes what name limit next e short = rw (e, le-ltb _ _ short) refl
 
-form_here : (app : List ℕ) (n : ℤ) → SpellsConstant n app → unless_form app Done ≡ Done
-form_here app n s = rw (spelled_constant app n s) refl
+form_here : (app : List ℕ) (n : ℤ) (next : Status) → SpellsConstant n app → unless_form app next ≡ next
+form_here app n next s = rw (spelled_constant app n s) refl
 
 accepted_due : (held : Held) (words : List (List ℕ)) → IsAccepted held words → verdict held words ≡ Done
 accepted_due held words a =
     let c = a.command in
     verdict-named held words c a.named
-    ∙ input_here (held.file c.policy) [] (codes "policy-bytes") c.policy policy_limit (λ policy. unless_policy policy (app_verdict held c)) a.policy (omega arith)
-    ∙ input_here (held.file c.app) a.app (codes "application-bytes") c.app app_limit (λ app. unless_form app Done) a.there a.short
-    ∙ form_here a.app a.constant a.form
+    ∙ input_here (held.file c.policy) a.text (codes "policy-bytes") c.policy policy_limit (λ text. with_policy (policy_due text) (verdict_under held c)) a.given a.brief
+    ∙ ap (λ (due : Result Policy ReadPolicyFault). with_policy due (verdict_under held c)) (well_formed_due a.text a.policy a.well_formed)
+    ∙ input_here (held.file c.app) a.app (codes "application-bytes") c.app app_limit (λ app. unless_form app (trees_verdict held a.policy Done)) a.there a.short
+    ∙ form_here a.app a.constant (trees_verdict held a.policy Done) a.form
+    ∙ ap (λ (r : Result Forest TreeFault). with_trees r Done) a.trees
 
 pub accepts : (words : List (List ℕ)) (s t : FilesState) (k l : SinkState) (result : Status) → Ran words s t k l result → Accepts words s t k l result
 accepts words s t k l result r told a files sink = then result (verdict s.held words) Done (accepted_due s.held words a) (completes words s t k l result r told files sink)
@@ -213,7 +223,22 @@ delivers_by : (due : Status) (text : List ℕ) (words : List (List ℕ)) (s t : 
 delivers_by Done text words s t d e told =
     let w = d.2.0 in
     record {
-      accepted = record { command = d.0; named = d.1; policy = w.policy told; app = w.app; there = w.there told; short = w.short; constant = w.constant; form = w.form };
+      accepted = record {
+        command = d.0;
+        named = d.1;
+        text = w.has_policy.text;
+        given = w.has_policy.there told;
+        brief = w.has_policy.short;
+        policy = w.policy;
+        well_formed = w.has_policy.well_formed;
+        app = w.app;
+        there = w.has_app.there told;
+        short = w.has_app.short;
+        constant = w.has_app.constant;
+        form = w.has_app.form;
+        forest = w.has_trees.forest;
+        trees = w.has_trees.made told;
+      };
       bytes = w.bytes;
       output = w.output;
       written = d.2.2 told;

@@ -1,8 +1,12 @@
+pub mod Apps
 pub mod Code
 pub mod Command
 pub mod Constant
+pub mod Fetching
 pub mod Line
 pub mod Output
 pub mod Plan
+pub mod Policies
+pub mod PolicyTrees
 pub mod Report
 pub mod Writing

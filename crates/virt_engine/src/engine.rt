@@ -69,8 +69,9 @@ fn run_words<F: Files, S: Sink>(alloc: Global, words: &[Text], files: &mut F, ou
 }
 
 /// Does what the words behind the program's name say: `virt APP -p POLICY -o OUT`, the options in any order and form,
-/// writes to OUT the component APP in its adapter, and puts one line that says what came of it. For now APP has the
-/// constant's form, and POLICY holds no bytes; other commands are usage errors.
+/// writes to OUT the component APP in its adapter, and puts one line that says what came of it. POLICY is read whole, and
+/// its trees are made of what it writes out and of the files and folders that it names. For now APP has the constant's
+/// form; other commands are usage errors.
 pub fn wasi_virt<F: Files, S: Sink>(
     alloc: Global,
     words: &[Text],

@@ -1,14 +1,18 @@
 //! The top call: from the words of a command line to the files that it writes and the text that it puts.
 #![tactic(auto)]
 
+mod app;
 mod command;
 mod constant;
 mod engine;
+mod fetch;
 mod line;
 mod output;
 mod plan;
+mod policy;
 mod report;
 mod status;
+mod trees;
 mod write_out;
 
 pub use engine::wasi_virt;

@@ -1,24 +1,20 @@
 ghost use Rattle.std.specs.Prelude.{◌≡◌, ◌≤◌, ◌++◌, IfOk, length, string_bytes};
+ghost use Rattle.virt_engine.specs.Apps.{app_limit};
 ghost use Rattle.virt_engine.specs.Command.{names_of};
 ghost use Rattle.virt_engine.specs.Line.{done_text, status_text};
 ghost use Rattle.virt_engine.specs.Output.{output_bytes};
-ghost use Rattle.virt_engine.specs.Plan.{Fetches, Plans, IsFileFaultOf, IsOverLimitOf, IsReady, TestsForm, TestsPolicy, app_limit};
+ghost use Rattle.virt_engine.specs.Plan.{Plans};
 
+use crate::app::fetch_app;
 use crate::command::Names;
-use crate::constant::read_constant;
 use crate::line::{done_line, line_of};
 use crate::output::pieces_around;
-use crate::status::{PolicyFault, Status};
-use outside::{FileFail, Files};
+use crate::policy::fetch_policy;
+use crate::status::Status;
+use crate::trees::make_trees;
+use outside::Files;
 use std::alloc::{AllocError, Global};
-use virt_base::{AppFault, NoMemory, Text};
-use wasm_format::Stop;
-
-/// A policy has at most so many bytes.
-const POLICY_LIMIT: u64 = 16_777_216;
-
-/// An application has at most so many bytes.
-const APP_LIMIT: u64 = 33_554_432;
+use virt_base::{NoMemory, Text};
 
 /// All that a call needs once both files were read: the parts of the output, and the text of each end.
 #[derive(Drop)]
@@ -29,64 +25,6 @@ pub struct Ready {
     pub done_line: String,
     pub fault: Status,
     pub fault_line: String,
-}
-
-fn file_fault(alloc: Global, name: &Text) -> Status
-    ensures { IsFileFaultOf name.now result }
-{
-    match name.copy(alloc) {
-        Ok(name) => Status::FileFault(name),
-        Err(_) => Status::NoMemory,
-    }
-}
-
-fn over_limit(alloc: Global, what: &str, value: u64) -> Status
-    ensures { IsOverLimitOf what.now value result }
-{
-    match Text::from_str(alloc, what) {
-        Ok(what) => Status::OverLimit(what, value),
-        Err(_) => Status::NoMemory,
-    }
-}
-
-/// The bytes of a file within a limit.
-fn fetch<F: Files>(
-    alloc: Global,
-    name: &Text,
-    what: &str,
-    limit: u64,
-    files: &mut F,
-) -> Result<Vec<u8>, Status>
-    ensures { Fetches name.now what.now limit (F.state files.old) (F.state files.new) result }
-{
-    match files.read(alloc, name, limit) {
-        Ok(bytes) => Ok(bytes),
-        Err(FileFail::Missing) | Err(FileFail::Failed) => Err(file_fault(alloc, name)),
-        Err(FileFail::TooLong(len)) => Err(over_limit(alloc, what, len)),
-        Err(FileFail::NoMemory) => Err(Status::NoMemory),
-    }
-}
-
-/// A policy holds no bytes.
-fn test_policy(alloc: Global, policy: &[u8]) -> Result<(), Status>
-    ensures { TestsPolicy policy.now result }
-{
-    if policy.is_empty() {
-        return Ok(());
-    }
-    let path = Text::from_string(String::new(alloc));
-    Err(Status::PolicyRefused(PolicyFault::BadKey(path)))
-}
-
-/// An application has the constant's form.
-fn test_form(alloc: Global, app: &[u8]) -> Result<(), Status>
-    ensures { TestsForm app.now result }
-{
-    match read_constant(alloc, app) {
-        Ok(_) => Ok(()),
-        Err(Stop::NoMemory) => Err(Status::NoMemory),
-        Err(_) => Err(Status::AppRefused(AppFault::Malformed(0))),
-    }
 }
 
 fn lines_for(
@@ -130,14 +68,13 @@ fn ready_for(alloc: Global, app: Vec<u8>, out: &Text) -> Result<Ready, NoMemory>
     })
 }
 
-/// Reads the policy and the application, and makes all that the call needs from then on.
+/// Reads the policy and the application, makes the policy's trees, and makes all that the call needs from then on.
 pub fn plan<F: Files>(alloc: Global, names: Names<'_>, files: &mut F) -> Result<Ready, Status>
     ensures { Plans (names_of names.entry) (F.state files.old) (F.state files.new) result }
 {
-    let policy = fetch(alloc, names.policy, "policy-bytes", POLICY_LIMIT, files)?;
-    test_policy(alloc, policy.as_slice())?;
-    let app = fetch(alloc, names.app, "application-bytes", APP_LIMIT, files)?;
-    test_form(alloc, app.as_slice())?;
+    let policy = fetch_policy(alloc, names.policy, files)?;
+    let app = fetch_app(alloc, names.app, files)?;
+    make_trees(alloc, &policy, files)?;
     match ready_for(alloc, app, names.out) {
         Ok(ready) => Ok(ready),
         Err(NoMemory) => Err(Status::NoMemory),

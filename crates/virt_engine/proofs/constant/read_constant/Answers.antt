@@ -1,4 +1,4 @@
-use Rattle.std.proofs.Common.{◌≡◌, ◌∙◌, inl, inr, ℕ, List, Bor, Bool, true, false, length, arith, ap, sym}
+use Rattle.std.proofs.Common.{◌≡◌, ◌∙◌, inl, inr, ℕ, List, Bor, true, false, length, arith, ap, sym}
 use Rattle.std.proofs.lemmas.List.{length-drop}
 use Rattle.virt_engine.proofs.ConstantGrammar.{answers, answers_short}
 use Rattle.virt_engine.proofs.constant.read_constant.Goals as goal

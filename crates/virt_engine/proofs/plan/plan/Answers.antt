@@ -1,0 +1,22 @@
+use Rattle.std.proofs.Common.{rules}
+use Rattle.virt_engine.proofs.Planning.{plans_no_policy, plans_no_app, plans_no_trees, plans_ready, leaves}
+use Rattle.virt_engine.proofs.plan.plan.Goals as goal
+
+pub returns-in_err-policy : goal.returns-in_err-policy
+returns-in_err-policy g c =
+    leaves _ _ _ c.from_residual.result c.in_err-policy.field-0.0 (search (rules, c.from_residual.ensures)) (plans_no_policy _ _ _ _ c.in_err-policy.ensures)
+
+pub returns-in_err-app : goal.returns-in_err-app
+returns-in_err-app g c =
+    leaves _ _ _ c.from_residual-in_err-app.result c.in_err-app.field-0.0 (search (rules, c.from_residual-in_err-app.ensures))
+    (plans_no_app _ _ _ _ c.in_ok-policy.ensures _ _ c.in_err-app.ensures)
+
+pub returns-in_err-make_trees : goal.returns-in_err-make_trees
+returns-in_err-make_trees g c =
+    leaves _ _ _ c.from_residual-in_err-make_trees.result c.in_err-make_trees.field-0.0 (search (rules, c.from_residual-in_err-make_trees.ensures))
+    (plans_no_trees _ _ _ _ c.in_ok-policy.ensures _ _ c.in_ok-app.ensures _ _ c.in_err-make_trees.ensures)
+
+pub returns-in-Ok : goal.returns-in-Ok
+returns-in-Ok g c =
+    plans_ready _ _ _ _ c.in_ok-policy.ensures _ _ c.in_ok-app.ensures _ c.in_ok-make_trees.ensures _ c.in-Ok.ensures.app c.in-Ok.ensures.output
+    c.in-Ok.ensures.done c.in-Ok.ensures.fault c.in-Ok.ensures.line

@@ -1,0 +1,28 @@
+ghost use Rattle.virt_engine.specs.PolicyTrees.{MakesTrees, IsStoppedBy};
+
+use crate::status::{PolicyFault, Status};
+use mount_tree::{TreeFault, build};
+use outside::Files;
+use policy_data::Policy;
+use std::alloc::Global;
+
+fn stopped_by(fault: TreeFault) -> Status
+    ensures { IsStoppedBy fault result }
+{
+    match fault {
+        TreeFault::FileFault(name) => Status::FileFault(name),
+        TreeFault::BadName(name) => Status::PolicyRefused(PolicyFault::BadName(name)),
+        TreeFault::OverLimit(what, value) => Status::OverLimit(what, value),
+        TreeFault::NoMemory => Status::NoMemory,
+    }
+}
+
+/// Makes the trees of a policy. An application without imports sees nothing of them, so they are let go.
+pub fn make_trees<F: Files>(alloc: Global, policy: &Policy, files: &mut F) -> Result<(), Status>
+    ensures { MakesTrees policy.now (F.state files.old) (F.state files.new) result }
+{
+    match build(alloc, policy, files) {
+        Ok(_) => Ok(()),
+        Err(fault) => Err(stopped_by(fault)),
+    }
+}
