@@ -313,7 +313,7 @@ fn words_stand_in_any_order_and_form(rt: HostRuntime) -> Result<(), Fail> {
 #[test]
 fn a_limit_passes_and_one_more_is_refused(rt: HostRuntime) -> Result<(), Fail> {
     let alloc = rt.alloc();
-    // the bytes of the application and of the policy, all of them 0
+    // the bytes of the application and of the policy, all of them 255, which begins no UTF-8
     for (app, policy, exit, line) in [
         (0, 16_777_216, 1, b"policy refused: not-toml\n".as_slice()),
         (
@@ -335,8 +335,8 @@ fn a_limit_passes_and_one_more_is_refused(rt: HostRuntime) -> Result<(), Fail> {
             b"over limit: application-bytes 33554433\n".as_slice(),
         ),
     ] {
-        let app: Vec<u8> = vec![in alloc; 0; app]?;
-        let policy: Vec<u8> = vec![in alloc; 0; policy]?;
+        let app: Vec<u8> = vec![in alloc; 255; app]?;
+        let policy: Vec<u8> = vec![in alloc; 255; policy]?;
         let files = files_of(alloc, app.as_slice(), policy.as_slice(), 200, &[])?;
         let ran = run_on(alloc, &WORDS, files, sink_of(alloc, &[])?)?;
         assert_eq!(rt; ran.code, exit);
