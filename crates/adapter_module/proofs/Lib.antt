@@ -1,0 +1,4 @@
+pub mod Lists
+pub mod Holding
+pub mod Whole
+pub mod Exporting
