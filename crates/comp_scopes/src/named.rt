@@ -46,6 +46,13 @@ impl NamedEntries {
         self.entries.push(name.copy(alloc)?, item)
     }
 
+    /// The items.
+    pub fn entries(&self) -> &InstanceEntries
+        ensures { (es : Entries) → HasNamed es self.now → result.now ≡ es }
+    {
+        &self.entries
+    }
+
     /// The items alone.
     pub fn into_entries(self) -> InstanceEntries
         ensures { (es : Entries) → HasNamed es self → result ≡ es }
