@@ -1,4 +1,5 @@
 pub mod EntryLemmas
+pub mod PlaceLemmas
 pub mod PairLemmas
 pub mod ValueLemmas
 pub mod Only

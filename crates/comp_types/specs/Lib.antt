@@ -9,4 +9,5 @@ pub mod Sizes
 pub mod Views
 pub mod Kept
 pub mod Falls
+pub mod Placed
 pub mod Matching

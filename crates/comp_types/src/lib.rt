@@ -2,17 +2,19 @@
 #![tactic(auto)]
 
 mod declared;
+mod func_matching;
+mod item_matching;
 mod known;
-mod match_func;
-mod match_item;
-mod match_value;
+mod places;
 mod relations;
 mod renaming;
 mod substitute_value;
 mod substitution;
 mod types;
 mod unpack;
+mod value_matching;
 
+pub use func_matching::match_func;
 pub use known::{KnownFunc, KnownValue};
 pub use relations::{equal, is_given, subtype};
 pub use renaming::{entries_with, substitute};
@@ -20,3 +22,4 @@ pub use substitution::Substitution;
 pub use types::{
     DeclaredInstance, InstanceEntries, InstanceEntry, InstanceType, ItemType, TypeItem,
 };
+pub use value_matching::match_value;

@@ -5,7 +5,7 @@ ghost use Rattle.comp_types.specs.Subtyping.{IsSubtype, MeetsImports};
 ghost use Rattle.comp_types.specs.Views.{item_of};
 ghost use Rattle.comp_types.specs.Matching.{all_same};
 
-use crate::match_item::{match_arguments, match_entries, match_item};
+use crate::item_matching::{match_arguments, match_entries, match_item};
 use crate::substitution::Substitution;
 use crate::types::{InstanceEntries, InstanceType, ItemType};
 use std::alloc::Global;

@@ -1,6 +1,7 @@
 ghost use Rattle.std.specs.Prelude.{◌≡◌, min, option_map, IfOk, OnOk, OnErr};
 
 use crate::known::{KnownFunc, KnownValue};
+use crate::places::Places;
 use std::alloc::Global;
 use std::marker::Model;
 use std::rc::Rc;
@@ -54,6 +55,7 @@ pub struct InstanceEntry {
 #[cycle(items)]
 pub struct InstanceEntries {
     items: Vec<InstanceEntry>,
+    places: Places,
     /// 101 stands for more than 100.
     depth: u32,
     /// 1,000,001 stands for more than 1,000,000.
@@ -72,11 +74,12 @@ impl Model for InstanceEntries {
 
     ghost use Rattle.comp_types.specs.Views.{entries_of};
     ghost use Rattle.comp_types.specs.Kept.{IsKept};
+    ghost use Rattle.comp_types.specs.Placed.{HasPlaces};
     ghost use Rattle.comp_types.specs.Sizes.{entries_size};
 
     ghost view = { λ a. entries_of a.items.items };
 
-    ghost invariant = { λ a. IsKept (entries_of a.items.items) a.depth a.parts a.has_resource };
+    ghost invariant = { λ a. HasPlaces (entries_of a.items.items) a.places × IsKept (entries_of a.items.items) a.depth a.parts a.has_resource };
 
     ghost size = { entries_size };
 
@@ -97,6 +100,7 @@ impl InstanceEntries {
     {
         InstanceEntries {
             items: Vec::new(alloc),
+            places: Places::none(alloc),
             depth: 0,
             parts: 0,
             has_resource: false,
@@ -135,12 +139,10 @@ impl InstanceEntries {
     pub fn look_up(&self, name: &Text) -> Option<&ItemType>
         ensures { option_map (λ ty. item_of ty.now) result ≡ look_up name.now self.now }
     {
-        for entry in self.items.as_slice() {
-            if entry.name.bytes() == name.bytes() {
-                return Some(&entry.ty);
-            }
+        match self.places.get(name) {
+            Some(place) => Some(&self.items[place].ty),
+            None => None,
         }
-        None
     }
 
     /// One entry more, behind the others. Where memory runs out nothing changes.
@@ -151,7 +153,12 @@ impl InstanceEntries {
         let depth = u32::max(self.depth, ty.depth());
         let parts = u32::min(self.parts + ty.parts(), 1_000_001);
         let has_resource = self.has_resource | ty.has_resource();
-        self.items.push(InstanceEntry { name, ty })?;
+        let name = name.into_string();
+        let key = name.clone()?;
+        self.items.reserve(1)?;
+        self.places.add(key, self.items.len())?;
+        let name = Text::from_string(name);
+        self.items.push_reserved(InstanceEntry { name, ty });
         self.depth = depth;
         self.parts = parts;
         self.has_resource = has_resource;

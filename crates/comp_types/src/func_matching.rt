@@ -4,8 +4,8 @@ ghost use Rattle.std.specs.Prelude.{◌≡◌, IfOk};
 ghost use Rattle.wit_types.specs.Plain.{fields_of, plain_func, plain_result};
 ghost use Rattle.comp_types.specs.Matching.{GoesOn, matched_parameters, matched_answer, matched_func};
 
-use crate::match_value::match_value;
 use crate::substitution::Substitution;
+use crate::value_matching::match_value;
 use virt_base::NoMemory;
 use wit_types::{Field, FuncType, WitType};
 

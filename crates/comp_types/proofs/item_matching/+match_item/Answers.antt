@@ -3,7 +3,7 @@ use Rattle.comp_types.specs.Sizes.{item_size}
 use Rattle.comp_types.specs.Views.{item_of}
 use Rattle.comp_types.specs.declared.types.InstanceEntry.{InstanceEntry}
 use Rattle.comp_types.proofs.UnpackLemmas.{item_in}
-use Rattle.comp_types.proofs.match_item.+match_item.Goals as goal
+use Rattle.comp_types.proofs.item_matching.+match_item.Goals as goal
 
 pub match_entries-match_item-requires : goal.match_entries-match_item-requires
 match_entries-match_item-requires t c =

@@ -2,7 +2,7 @@ use Rattle.std.proofs.Common.{◌∙◌, sym, []}
 use Rattle.wit_types.specs.Plain.{Bare, More, End, plain}
 use Rattle.comp_types.proofs.ValueLemmas.{cases_step, step_goes, result_goes}
 use Rattle.comp_types.proofs.Only.{only-Option}
-use Rattle.comp_types.proofs.match_value.+match_value.Goals as goal
+use Rattle.comp_types.proofs.value_matching.+match_value.Goals as goal
 
 pub match_option-returns-in_default : goal.match_option-returns-in_default
 match_option-returns-in_default t c = only-Option c.args.by.now (Bare [] (More [] (plain c.args.a.now) End)) c.args.b.now c.in_default.not-Option

@@ -2,7 +2,7 @@ use Rattle.std.proofs.Common.{◌≡◌, drop, ◌+◌}
 use Rattle.comp_types.specs.Sizes.{item_size, kind_size, entries_size}
 use Rattle.comp_types.specs.Views.{item_of, kind_of, entries_of}
 use Rattle.comp_types.specs.Matching.{matched_entries}
-use Rattle.comp_types.proofs.match_item.+match_item.Given as goal
+use Rattle.comp_types.proofs.item_matching.+match_item.Given as goal
 
 abbrev pub invariant-match_entries-loop-i : goal.invariant-match_entries-loop-i
 invariant-match_entries-loop-i l = matched_entries l.fn.by l.these (entries_of l.entries) ≡ matched_entries l.by l.these (entries_of (drop l.i l.entries))

@@ -3,12 +3,12 @@ ghost use Rattle.comp_types.specs.Items.{InstanceKind};
 ghost use Rattle.comp_types.specs.Views.{item_of, kind_of, entries_of};
 ghost use Rattle.comp_types.specs.Matching.{GoesOn, all_named, matched_item, matched_kind, matched_entries, matched_argument, matched_arguments};
 
+use crate::func_matching::match_func;
 use crate::known::{KnownFunc, KnownValue};
-use crate::match_func::match_func;
-use crate::match_value::match_value;
 use crate::substitution::Substitution;
 use crate::types::{DeclaredInstance, InstanceEntries, InstanceEntry, ItemType, TypeItem};
 use crate::unpack::unpack;
+use crate::value_matching::match_value;
 use std::alloc::Global;
 use virt_base::NoMemory;
 
