@@ -1,0 +1,6 @@
+pub mod Further
+pub mod Bare
+pub mod Exported
+pub mod Renamed
+pub mod Added
+pub mod Outputs

@@ -1,0 +1,20 @@
+-- What is said of the output of a valid component that imports nothing.
+use Rattle.std.specs.Prelude.{◌≡◌, ℕ}
+use Rattle.comp_types.specs.Items.{End}
+use Rattle.comp_types.specs.Substitution.{entries_with}
+use Rattle.comp_grammar.specs.Trees.{Tree}
+use Rattle.comp_rules.specs.Added.{type_of}
+use Rattle.comp_rules.specs.Validity.{IsValidComponent}
+use Rattle.output_form.specs.Output.{output_tree}
+
+-- a valid component that imports nothing
+pub record StandsAlone (app : Tree) : Type 0 where
+  pub valid : IsValidComponent app
+  pub imports : (type_of app).imports ≡ End
+
+abbrev pub output_of : Tree → Tree
+output_of app = output_tree app (type_of app).exports
+
+-- The output exports what the application exports, name by name, but for the numbers of resources: those that stand in it get others.
+abbrev pub ExportsRenamed : Tree → (ℕ → ℕ) → Type 0
+ExportsRenamed app f = (type_of (output_of app)).exports ≡ entries_with f (type_of app).exports
