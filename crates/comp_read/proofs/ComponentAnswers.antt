@@ -13,7 +13,8 @@ use Rattle.comp_grammar.specs.Trees.{Tree, End}
 use Rattle.comp_grammar.specs.Components.{preamble, section, sections, all_sections, component}
 use Rattle.comp_grammar.proofs.ComponentLaws.{exact_sections, exact_component}
 use Rattle.comp_grammar.proofs.DepthLaws.{within, at_its_depth, spelled_once}
-use Rattle.comp_read.specs.Answers.{inside, StopsAt, MeetsTag, ReachesTooDeep, most_deep, SpellsReadable, IsLongest, IsNoComponent, IsTheComponent}
+use Rattle.comp_causes.proofs.AnyDepth.{at_any_depth}
+use Rattle.comp_read.specs.Answers.{inside, StopsAt, MeetsTag, ReachesTooDeep, most_deep, SpellsReadable, IsLongest, IsNoComponent, IsCause, IsTheComponent}
 use Rattle.comp_read.proofs.StopLaws.{IsOfSection, run_stopped, run_stop}
 
 abbrev pub whole_run : List ℕ → Run Tree
@@ -102,10 +103,19 @@ stops_once bytes body stop outcome of e h w =
     let split : body ≡ w.1 ++ w.2 = body_is body (w.1 ++ w.2) (sym e ∙ w.3) in
     err_is (whole_run body).outcome stop outcome (run_stop (sections inside) exact_inside stop of w.0 (length body) End 0 8 body w.1 w.2 (omega arith) w.4 split w.5) h
 
-pub unsupported_meets : (bytes body : List ℕ) (at byte : ℕ) → bytes ≡ preamble ++ body → (whole_run body).outcome ≡ Err (stops.Unsupported at byte) → MeetsTag at byte bytes × IsNoComponent bytes × (ReachesTooDeep bytes → ⊥)
+-- what stops the run stops the format's own reading
+component_stops : (body : List ℕ) (stop : Stop) → (whole_run body).outcome ≡ Err stop → (component most_deep).read (record { at = 0; rest = preamble ++ body }) ≡ Err stop
+unfolding component all_sections
+component_stops body stop h = rw h refl
+
+pub unsupported_meets : (bytes body : List ℕ) (at byte : ℕ) → bytes ≡ preamble ++ body → (whole_run body).outcome ≡ Err (stops.Unsupported at byte) → MeetsTag at byte bytes × IsNoComponent bytes × (ReachesTooDeep bytes → ⊥) × IsCause at byte bytes
 unsupported_meets bytes body at byte e h =
-    let other : stops.TooNested ≡ stops.Unsupported at byte → ⊥ = λ f. cc in
-    (stopped bytes body _ (tag_of_section at byte) e h, no_component bytes body _ e h, λ w. other (stops_once bytes body _ _ depth_of_section e h w))
+    let other : stops.TooNested ≡ stops.Unsupported at byte → ⊥ = λ f. cc in (
+      stopped bytes body _ (tag_of_section at byte) e h,
+      no_component bytes body _ e h,
+      λ w. other (stops_once bytes body _ _ depth_of_section e h w),
+      subst (IsCause at byte) (sym e) (at_any_depth most_deep (record { at = 0; rest = preamble ++ body }) at byte (component_stops body (stops.Unsupported at byte) h)),
+    )
 
 pub too_nested_reaches : (bytes body : List ℕ) → bytes ≡ preamble ++ body → (whole_run body).outcome ≡ Err stops.TooNested → ReachesTooDeep bytes × IsNoComponent bytes × ((at byte : ℕ) → MeetsTag at byte bytes → ⊥)
 too_nested_reaches bytes body e h =

@@ -8,6 +8,7 @@ use Rattle.wasm_ast.specs.declared.component.Component.{Component}
 use Rattle.comp_grammar.specs.Trees.{Part, Tree, End, plain}
 use Rattle.comp_grammar.specs.Components.{preamble, section, sections, component, SpellsComponent}
 use Rattle.comp_grammar.specs.Depths.{depth_of}
+use Rattle.comp_causes.specs.Causes.{CauseAtAnyDepth}
 use Rattle.comp_read.specs.declared.reading.CompReadFault.{CompReadFault}
 use Rattle.comp_read.specs.declared.reading.CompReadFault.TheVariants.{Malformed, Unsupported, TooNested, NoMemory}
 
@@ -43,13 +44,17 @@ IsLongest at text = ((at ≡ 0) ⊎ ((t : Tree) × SpellsReadable t (take at tex
 abbrev pub IsNoComponent : List ℕ → Type 0
 IsNoComponent text = (t : Tree) → SpellsReadable t text → ⊥
 
+-- This byte stands at this offset, and no bytes that begin as the text does, up to and with it, are a component, however deep.
+abbrev pub IsCause : ℕ → ℕ → List ℕ → Type 0
+IsCause at byte text = CauseAtAnyDepth (record { at = 0; rest = text }) at byte
+
 -- The text is a spelling of this component, and of no other, however deep.
 abbrev pub IsTheComponent : Tree → List ℕ → Type 0
 IsTheComponent t text = SpellsReadable t text × ((u : Tree) → SpellsComponent u text → u ≡ t)
 
 abbrev pub Answers : Result Component CompReadFault → List ℕ → Type 0
 Answers (Ok c) text = IsTheComponent (plain c) text
-Answers (Err (Unsupported at byte)) text = MeetsTag at byte text × IsNoComponent text × (ReachesTooDeep text → ⊥)
+Answers (Err (Unsupported at byte)) text = MeetsTag at byte text × IsNoComponent text × (ReachesTooDeep text → ⊥) × IsCause at byte text
 Answers (Err (TooNested depth)) text = (depth ≡ 101) × ReachesTooDeep text × IsNoComponent text × ((a byte : ℕ) → MeetsTag a byte text → ⊥)
 Answers (Err (Malformed at)) text = IsLongest at text × IsNoComponent text × ((a byte : ℕ) → MeetsTag a byte text → ⊥) × (ReachesTooDeep text → ⊥)
 Answers (Err NoMemory) text = Unit {0}

@@ -28,8 +28,9 @@ const TOO_DEEP: u64 = 101;
 /// Reads a component (Component Model, Binary.md): `Ok` exactly where one of which at most 100 stand in one another spells the
 /// bytes, and then that one.
 ///
-/// `Unsupported` exactly where reading from the left meets a tag that the table of its place lacks, and `TooNested` exactly where
-/// it reaches a component 101 deep. Every other failure is `Malformed`, with the length of the longest front of the bytes that is
+/// `Unsupported` exactly where reading from the left meets a tag that the table of its place lacks: the byte stands at that offset,
+/// and no component, however deep, begins as these bytes do, up to and with it. `TooNested` exactly where it reaches a component
+/// 101 deep. Every other failure is `Malformed`, with the length of the longest front of the bytes that is
 /// a component, and 0 where none is. Offsets count from the start of the bytes, also inside what is nested.
 pub fn read_component(alloc: Global, bytes: &[u8]) -> Result<Component, CompReadFault>
     ensures { Answers result bytes.now }

@@ -10,7 +10,8 @@ use Rattle.wasm_format.specs.Format.{fixed}
 use Rattle.wasm_format.proofs.Laws.{exact_fixed, ok_is}
 use Rattle.wasm_format.specs.Sections.{SectionsSpell, built, SpellsTo, Run, run, Ran}
 use Rattle.wasm_ast.specs.Modules.{Progress, preamble, sections, no_sections, all_sections, core_module, SpellsModule}
-use Rattle.core_read.specs.Answers.{MeetsTag, IsLongest, IsNoModule, IsTheModule}
+use Rattle.format_causes.proofs.ModuleCauses.{caused_core_module}
+use Rattle.core_read.specs.Answers.{MeetsTag, IsLongest, IsNoModule, IsCause, IsTheModule}
 use Rattle.wasm_format.proofs.SectionLaws.{run_ok, run_unsupported, run_good, run_longest, run_all, run_tag}
 use Rattle.wasm_ast.proofs.ModuleLaws.{exact_sections, exact_core_module}
 
@@ -70,12 +71,18 @@ only_one m n text s t =
 pub ok_is_the_module : (bytes body : List ℕ) (t : Progress) → bytes ≡ preamble ++ body → (whole_run bytes body).outcome ≡ Ok t → IsTheModule t.found bytes
 ok_is_the_module bytes body t e h = let s = ok_spells bytes body t e h in (s, λ n other. only_one t.found n bytes s other)
 
-pub unsupported_meets : (bytes body : List ℕ) (a byte : ℕ) → bytes ≡ preamble ++ body → (whole_run bytes body).outcome ≡ Err (stops.Unsupported a byte) → MeetsTag a byte bytes × IsNoModule bytes
+-- what stops the run stops the format's own reading
+module_stops : (bytes body : List ℕ) (stop : Stop) → (whole_run bytes body).outcome ≡ Err stop → core_module.read (record { at = 0; rest = preamble ++ body }) ≡ Err stop
+unfolding core_module all_sections
+module_stops bytes body stop h = rw h refl
+
+pub unsupported_meets : (bytes body : List ℕ) (a byte : ℕ) → bytes ≡ preamble ++ body → (whole_run bytes body).outcome ≡ Err (stops.Unsupported a byte) → MeetsTag a byte bytes × IsNoModule bytes × IsCause a byte bytes
 unfolding sections
 unsupported_meets bytes body a byte e h =
     let w = run_unsupported sections exact_sections (length body) no_sections 0 8 body a byte h in (
       (w.0, w.1, w.2, e ∙ ap (λ (z : List ℕ). preamble ++ z) w.4, w.3, w.5),
       λ m s. let k = spelled_is_ok bytes body m e s in err_not_ok (whole_run bytes body).outcome k.0 (stops.Unsupported a byte) k.1 h,
+      subst (IsCause a byte) (sym e) (caused_core_module.caused (record { at = 0; rest = preamble ++ body }) a byte (module_stops bytes body (stops.Unsupported a byte) h)),
     )
 
 -- a front of the bytes that is a module ends where the sections might have ended

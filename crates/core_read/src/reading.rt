@@ -42,8 +42,9 @@ impl Reader for CoreModules {
 
 /// Reads a module (WebAssembly Core 2.0, chapter 5): `Ok` exactly where one spells the bytes, and then that one.
 ///
-/// `Unsupported` exactly where reading from the left meets a tag that the table of its place lacks; every other failure is
-/// `Malformed`, with the length of the longest front of the bytes that is a module, and 0 where none is.
+/// `Unsupported` exactly where reading from the left meets a tag that the table of its place lacks: the byte stands at that offset,
+/// and no module begins as these bytes do, up to and with it. Every other failure is `Malformed`, with the length of the longest
+/// front of the bytes that is a module, and 0 where none is.
 pub fn read_module(alloc: Global, bytes: &[u8]) -> Result<Module, ReadFault>
     ensures { Answers result bytes.now }
 {
