@@ -1,0 +1,4 @@
+pub mod SameLemmas
+pub mod AlikeLemmas
+pub mod IndexLemmas
+pub mod StandLemmas
