@@ -1,4 +1,4 @@
--- Resources that are defined get numbers behind those of the component's type.
+-- Resources that are defined get numbers behind those of the component's imports.
 use Rattle.std.proofs.Common.{◌≡◌, ℕ, ◌≤◌, nat_eq, nat_lt, cond, List, [], ◌∷◌, ◌++◌, Option, Some, None, Bool, true, false, refl, sym, subst, arith}
 use Rattle.std.specs.Prelude.{slice_get}
 use Rattle.std.specs.Option.{option_and_then}
@@ -12,7 +12,7 @@ use Rattle.comp_types.specs.Items.{Item}
 use Rattle.comp_rules.specs.Added.{after_tree, root}
 use Rattle.comp_worlds.specs.Groups.{Target, Owner, Begins}
 use Rattle.comp_link.specs.Plans.{Plan, Planned, End, Then, OfModule, OfCoreItems, CoreItemOf, OfComponent, OfItems, ItemOf, NewResource, Lifts, Lowers, MakesResource, DropsResource, ReadsResource, Imports, Exports, plan_of}
-use Rattle.comp_link.specs.Linking.{Given, GivenFunc, GivenInstance, GivenResource, GivenType, find, Owned, Whole, Making, begun, and_stage, core_find, and_core_item, given_at, givens_of, item_in, and_item, and_export, with_lowered, link_item, link, linked, all_outside, owner_in}
+use Rattle.comp_link.specs.Linking.{Given, GivenFunc, GivenInstance, GivenResource, GivenType, find, Owned, Whole, Making, begun, and_stage, core_find, and_core_item, given_at, givens_of, item_in, and_item, and_export, with_lowered, link_item, link, linked, all_outside, all_known, behind_known, owner_in}
 use Rattle.comp_link.specs.Laws.{OwnResourcesAreNew}
 
 abbrev AllFrom : ℕ → List Owned → Type 0
@@ -88,7 +88,7 @@ below_false r base le = at_test (nat_lt r base) refl
 
 pub own_are_new : OwnResourcesAreNew
 own_are_new tree r o is =
-    let base = (after_tree [] root tree).next in
+    let base = behind_known (all_known [] (after_tree [] root tree).imports) in
     below_false r base
     (owner_from base r (linked tree).whole.owners o
     (plan_fresh base (plan_of tree) (begun (record { next_instance = 0; next_resource = base; stages = []; canons = []; owners = [] }) (all_outside [] (after_tree [] root tree).imports)) (record { next = omega arith; each = tt })).each is)

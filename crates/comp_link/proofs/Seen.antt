@@ -6,10 +6,10 @@ use Rattle.comp_worlds.specs.Groups.{Group}
 use Rattle.comp_worlds.specs.Observed.{State}
 use Rattle.comp_worlds.specs.Related.{OwnsNone, SeenAlike}
 use Rattle.comp_link.specs.Linking.{group_of}
-use Rattle.comp_link.specs.Laws.{is_of_type, ComponentSeenAlike}
+use Rattle.comp_link.specs.Laws.{is_of_imports, ComponentSeenAlike}
 use Rattle.comp_link.proofs.Numbers.{own_are_new}
 
-owns_none : (host : ℕ → Bool) (tree : Tree) → ((r : ℕ) → host r ≡ true → is_of_type tree r ≡ true) → OwnsNone host (group_of tree)
+owns_none : (host : ℕ → Bool) (tree : Tree) → ((r : ℕ) → host r ≡ true → is_of_imports tree r ≡ true) → OwnsNone host (group_of tree)
 owns_none host tree within r o is = at_test (host r) refl
   where
     at_test : (b : Bool) → host r ≡ b → b ≡ false

@@ -1,7 +1,8 @@
--- The group of instances that a plan makes. Instances get numbers as they are made, and resources as they are defined; the resources of
--- the outermost imports keep the numbers of the component's type. Which places of its store an instance's core functions have follows
--- from the modules alone, since what runs meanwhile adds nothing: `shadow` is a store with as many items.
-use Rattle.std.specs.Prelude.{ℕ, ◌+◌, ◌&&◌, nat_eq, if◌then◌else◌, List, [], ◌∷◌, ◌++◌, length, slice_get, slice_index_or, Option, Some, None}
+-- The group of instances that a plan makes. Instances get numbers as they are made, and resources as they are defined: those of the
+-- outermost imports keep the numbers of the component's type, and the others get the numbers behind these. Which places of its store an
+-- instance's core functions have follows from the modules alone, since what runs meanwhile adds nothing: `shadow` is a store with as
+-- many items.
+use Rattle.std.specs.Prelude.{ℕ, ◌+◌, ◌&&◌, nat_eq, max, if◌then◌else◌, List, [], ◌∷◌, ◌++◌, length, slice_get, slice_index_or, Option, Some, None}
 use Rattle.std.specs.Option.{option_map, option_and_then}
 use Rattle.std.specs.List.{flat_map}
 use Rattle.wasm_ast.specs.declared.module.Module.{Module}
@@ -311,6 +312,11 @@ abbrev mutual
   all_known interface NoEntries = []
   all_known interface (Entry name item rest) = known interface name item ++ all_known interface rest
 
+-- the first number behind all of these
+abbrev pub behind_known : List Known → ℕ
+behind_known [] = 0
+behind_known (k ∷ ks) = max (k.number + 1) (behind_known ks)
+
 abbrev pub no_resource : Resource
 no_resource = record { interface = []; name = [] }
 
@@ -345,8 +351,8 @@ exported exports (c ∷ cs) name = find name (instance_in (find (c ∷ cs) expor
 
 abbrev pub linked : Tree → Making
 linked tree =
-    let s = after_tree [] root tree in
-    link (plan_of tree) (begun (record { next_instance = 0; next_resource = s.next; stages = []; canons = []; owners = [] }) (all_outside [] s.imports))
+    let imports = (after_tree [] root tree).imports in
+    link (plan_of tree) (begun (record { next_instance = 0; next_resource = behind_known (all_known [] imports); stages = []; canons = []; owners = [] }) (all_outside [] imports))
 
 -- the group of a component by itself
 abbrev pub group_of : Tree → Group

@@ -7,7 +7,7 @@ ghost use Rattle.comp_link.specs.Laws.{OwnResourcesAreNew, ComponentSeenAlike};
 
 use comp_worlds::{Worlds, related_hosts_are_seen_alike};
 
-/// The resources that a component's instances define have other numbers than those of its type, which are those of its imports.
+/// The resources that a component's instances define have other numbers than those of its imports.
 pub fn own_resources_are_new()
     ensures { OwnResourcesAreNew }
 {}
