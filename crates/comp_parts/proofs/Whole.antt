@@ -209,7 +209,7 @@ module _ {S : Type 0} (A B AB : Group) (left right : ℕ → ℕ) (meets : Impor
 
 -- 3. The whole is made as its parts are
 
-equals_observed : {W V X Y : Type 0} → (n : ℕ) (P : W → X → V → Y → Type 0) (x : Out W X) (y : Out V Y) → Equals n P x y → observed_of x ≡ observed_of y
+pub equals_observed : {W V X Y : Type 0} → (n : ℕ) (P : W → X → V → Y → Type 0) (x : Out W X) (y : Out V Y) → Equals n P x y → observed_of x ≡ observed_of y
 equals_observed n P (Next o l w a) (Next o' l' v b) h = h.0
 equals_observed n P (Over o e) (Over o' e') h = cc (h.0, h.1)
 equals_observed n P (Spent o) (Spent o') h = ap (λ z. z ++ IsSpent ∷ []) h
@@ -220,7 +220,7 @@ equals_observed n P (Over o e) (Spent o') h = absurd h
 equals_observed n P (Spent o) (Next o' l' v b) h = absurd h
 equals_observed n P (Spent o) (Over o' e) h = absurd h
 
-equals_seen : {W V X Y : Type 0} → (n : ℕ) (P : W → X → V → Y → Type 0) (x : Out W X) (y : Out V Y) → Equals n P x y → seen_of x ≡ seen_of y
+pub equals_seen : {W V X Y : Type 0} → (n : ℕ) (P : W → X → V → Y → Type 0) (x : Out W X) (y : Out V Y) → Equals n P x y → seen_of x ≡ seen_of y
 equals_seen n P (Next o l w a) (Next o' l' v b) h = h.0
 equals_seen n P (Over o e) (Over o' e') h = cc (h.0, h.1)
 equals_seen n P (Spent o) (Spent o') h = h
@@ -231,7 +231,7 @@ equals_seen n P (Over o e) (Spent o') h = absurd h
 equals_seen n P (Spent o) (Next o' l' v b) h = absurd h
 equals_seen n P (Spent o) (Over o' e) h = absurd h
 
-nothing_before : {W A : Type 0} → (x : Out W A) → seen_before [] x ≡ x
+pub nothing_before : {W A : Type 0} → (x : Out W A) → seen_before [] x ≡ x
 nothing_before (Next o l w a) = refl
 nothing_before (Over o e) = refl
 nothing_before (Spent o) = refl
