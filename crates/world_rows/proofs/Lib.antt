@@ -1,3 +1,4 @@
 pub mod Compute
 pub mod Counted
 pub mod Joining
+pub mod Renumbering

@@ -6,9 +6,11 @@ ghost use Rattle.comp_worlds.specs.Groups.{Nesting, Group};
 ghost use Rattle.comp_worlds.specs.Observed.{Call};
 ghost use Rattle.comp_worlds.specs.Related.{SeenAlike};
 ghost use Rattle.comp_parts.specs.Parts.{SameAsParts};
+ghost use Rattle.comp_renames.specs.Renaming.{Renames};
 ghost use Rattle.world_rows.specs.Counters.{single, double, of_hosts, SameCount, SameAnswered, Given};
 ghost use Rattle.world_rows.specs.Samples.{clock, reader};
 ghost use Rattle.world_rows.specs.Joined.{both_readers, at_first, at_second, meets_reader, JoinedExamples};
+ghost use Rattle.world_rows.specs.Renumbered.{dropper_at, seven_more};
 ghost use Rattle.world_rows.specs.Rows.{ClockExamples, ReallocExamples, BorrowExamples, DestructorExamples, EnteredExamples};
 
 use comp_parts::{Parts, parts_do_what_the_whole_does};
@@ -115,3 +117,9 @@ pub fn readers_do_what_both_do()
 {
     parts_do_what_the_whole_does::<Readers>();
 }
+
+/// The premise of the law of other numbers can be met: the resource of a group gets another one. It does nothing when it runs.
+#[tactic(auto, using(crate::proofs::Renumbering::renumbered))]
+pub fn resources_are_renumbered()
+    ensures { Renames (dropper_at 3) (dropper_at 10) seven_more }
+{}

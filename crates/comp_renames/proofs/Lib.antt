@@ -1,0 +1,4 @@
+pub mod Types
+pub mod Tables
+pub mod Locals
+pub mod Renamed
