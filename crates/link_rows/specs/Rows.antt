@@ -2,12 +2,13 @@
 use Rattle.std.specs.Prelude.{ℕ, suc, ◌≡◌, List, [], ◌∷◌, pos, codes, Option, Some, None}
 use Rattle.wit_types.specs.Plain.{Plain, Parts, UnsignedType, FourBytes, End as NoParts, More as Part}
 use Rattle.wit_types.specs.PlainValue.{PlainValue, PlainValues, IntValue, End as NoValues, More as Values}
-use Rattle.host_port.specs.Calls.{PlainObservation, Called, Dropped, Returned, Spent, Gives}
+use Rattle.host_port.specs.Calls.{PlainObservation, Called, Dropped, Returned, Trapped, Spent, Gives}
 use Rattle.host_port.specs.Hosts.{HostStep}
 use Rattle.comp_grammar.specs.Trees.{Tree}
 use Rattle.comp_worlds.specs.Observed.{Call}
 use Rattle.comp_link.specs.Components.{component_obs}
 use Rattle.link_rows.specs.Trees.{reader, handing_on, dropper}
+use Rattle.link_rows.specs.Guards.{starting, calling_back, lending, drops_it}
 
 abbrev pub counted : Option Plain → ℕ → Option PlainValue
 counted None n = None
@@ -46,3 +47,22 @@ pub record NestedExamples : Type 0 where
 
 pub record ResourceExamples : Type 0 where
   pub dropped : runs dropper 100 ≡ told 42 ∷ Returned None ∷ []
+
+pub record StartExamples : Type 0 where
+  -- two modules; then the start function, `call`, the lowered and the lifted function, `call`, and the host's function
+  pub started : runs starting 7 ≡ now ∷ Spent ∷ []
+  pub not_yet : runs starting 6 ≡ Spent ∷ []
+  -- then `drop`; the lifted function, `call` and the host's function
+  pub called_then : runs starting 11 ≡ now ∷ now ∷ Returned (Some (IntValue (pos 6))) ∷ []
+
+pub record EnteredExamples : Type 0 where
+  -- an instance that is entered is not called back
+  pub called_back : runs calling_back 100 ≡ Trapped ∷ []
+  -- a component and three modules; then three functions that are lifted, with `call` and a lowered function between two
+  pub last_step : runs calling_back 11 ≡ Trapped ∷ []
+  pub fewer : runs calling_back 10 ≡ Spent ∷ []
+
+pub record BorrowExamples : Type 0 where
+  -- what is borrowed is dropped before the call returns
+  pub dropped : runs (lending drops_it) 100 ≡ Returned None ∷ []
+  pub kept : runs (lending []) 100 ≡ Trapped ∷ []

@@ -1,7 +1,7 @@
 //! What is seen of small components, by examples that compute.
 #![tactic(auto)]
 
-ghost use Rattle.link_rows.specs.Rows.{ReaderExamples, NestedExamples, ResourceExamples};
+ghost use Rattle.link_rows.specs.Rows.{ReaderExamples, NestedExamples, ResourceExamples, StartExamples, EnteredExamples, BorrowExamples};
 
 /// A component reads a clock, with its steps counted. It does nothing when it runs.
 #[tactic(auto, using(crate::proofs::Compute::reader_examples))]
@@ -19,4 +19,22 @@ pub fn components_are_made()
 #[tactic(auto, using(crate::proofs::Compute::resource_examples))]
 pub fn resources_are_linked()
     ensures { ResourceExamples }
+{}
+
+/// A start function calls a function that its own component lifts. It does nothing when it runs.
+#[tactic(auto, using(crate::proofs::Compute::start_examples))]
+pub fn start_functions_call_their_own()
+    ensures { StartExamples }
+{}
+
+/// A component in a component calls back into the one around it, which is entered. It does nothing when it runs.
+#[tactic(auto, using(crate::proofs::Compute::entered_examples))]
+pub fn entered_components_trap()
+    ensures { EnteredExamples }
+{}
+
+/// A component keeps what it borrows past its call, or not. It does nothing when it runs.
+#[tactic(auto, using(crate::proofs::Compute::borrow_examples))]
+pub fn borrows_end()
+    ensures { BorrowExamples }
 {}
