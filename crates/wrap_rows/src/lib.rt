@@ -1,0 +1,22 @@
+//! What is seen of a small component that is wrapped, by examples that compute.
+#![tactic(auto)]
+
+ghost use Rattle.wrap_rows.specs.Rows.{AloneExamples, WrappedExamples, PremisesHold};
+
+/// A component without imports is called, with its steps counted. It does nothing when it runs.
+#[tactic(auto, using(crate::proofs::Compute::alone_examples))]
+pub fn components_are_called()
+    ensures { AloneExamples }
+{}
+
+/// In a component that hands its exports on it does the same in one step more. It does nothing when it runs.
+#[tactic(auto, using(crate::proofs::Compute::wrapped_examples))]
+pub fn wrapped_components_are_called()
+    ensures { WrappedExamples }
+{}
+
+/// The premises of the law of wrapped components can be met: these two meet them. It does nothing when it runs.
+#[tactic(auto, using(crate::proofs::Premises::premises_hold))]
+pub fn premises_are_met()
+    ensures { PremisesHold }
+{}
