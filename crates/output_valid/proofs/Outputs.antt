@@ -1,5 +1,5 @@
 -- The output of a valid component that imports nothing is valid, imports nothing, and exports what the component exports.
-use Rattle.std.proofs.Common.{◌≡◌, ◌∙◌, ap, sym, refl, subst, ℕ, List, [], ◌∷◌, ◌++◌, length, false, Some, None, map}
+use Rattle.std.proofs.Common.{◌≡◌, ◌∙◌, ap, sym, refl, subst, ℕ, List, [], ◌∷◌, ◌++◌, length, true, false, Some, None, map}
 use Rattle.std.specs.Prelude.{slice_get}
 use Rattle.wasm_ast.specs.declared.component.Alias.{Alias}
 use Rattle.wasm_ast.specs.declared.component.Alias.TheVariants as aliases
@@ -14,7 +14,7 @@ use Rattle.comp_types.proofs.ItemsWith.{entries-stay}
 use Rattle.comp_grammar.specs.Trees.{Tree, Instances, Aliases, Exports as ExportSection, End as NoSection, More as Section}
 use Rattle.comp_rules.specs.Spaces.{Space}
 use Rattle.comp_rules.specs.Definitions.{AnInstance, AnAlias, AnExport}
-use Rattle.comp_rules.specs.Resources.{numbered, given_by}
+use Rattle.comp_rules.specs.Resources.{is_among, named_in, numbered, given_by}
 use Rattle.comp_rules.specs.Added.{after, after_all, and_nested, nested_of, after_tree, root, type_of}
 use Rattle.comp_rules.specs.Validity.{AllHold, AreValid, IsValidTree, IsValidComponent}
 use Rattle.comp_rules.proofs.FaultLaws.{all_hold}
@@ -23,6 +23,8 @@ use Rattle.output_form.specs.Counts.{sort_of, count_of, and_one}
 use Rattle.output_form.specs.Output.{one_instance, aliases_of, exports_from, behind_instance, exports_of, exporting, output_tree}
 use Rattle.output_valid.proofs.Further.{tree_more}
 use Rattle.output_valid.proofs.Exported.{AllFit, joined, joined_all, exports_fit}
+use Rattle.output_valid.proofs.Imported.{nothing_imported}
+use Rattle.output_valid.proofs.Numbers.{apart, among_own}
 use Rattle.output_valid.proofs.Renamed.{sort_with, all_fit_with}
 use Rattle.output_valid.proofs.Added.{AllIn, all_in, with_items, aliases_add, aliases_valid, items_exports, items_imports, Counted, items_stand, Exports, exports_add}
 
@@ -128,3 +130,14 @@ output_stands app valid none =
 -- exports that speak of no resource are the same
 pub same_types : (app : Tree) → IsValidComponent app → (type_of app).imports ≡ End → entries_have_resource (type_of app).exports ≡ false → (type_of (output_tree app (type_of app).exports)).exports ≡ (type_of app).exports
 same_types app valid none free = (output_stands app valid none).exports ∙ entries-stay (numbers_in (scope_of app)) (type_of app).exports free
+
+-- no two resources in the exports get one number
+pub numbers_apart : (app : Tree) → (type_of app).imports ≡ End → (x y : ℕ) → is_among (named_in (type_of app).exports) x ≡ true → is_among (named_in (type_of app).exports) y ≡ true
+    → numbers_in (scope_of app) x ≡ numbers_in (scope_of app) y → x ≡ y
+numbers_apart app none x y h k e =
+    let inner : Space = scope_of app in
+    let own : List ℕ = (nested_of inner).own in
+    let imported : inner.imported ≡ [] = nothing_imported app none in
+    let named : List ℕ = named_in inner.exports in
+    let alone : (r : ℕ) → numbers_in inner r ≡ partner_in (numbered own inner.next) r = λ r. ap (λ (imports : Entries). partner_in (given_by End imports ++ numbered own inner.next) r) none in
+    apart own inner.next x y (among_own inner.imported named x imported h) (among_own inner.imported named y imported k) (sym (alone x) ∙ e ∙ alone y)

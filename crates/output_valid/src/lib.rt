@@ -8,7 +8,7 @@ ghost use Rattle.comp_types.specs.Items.{End};
 ghost use Rattle.comp_types.specs.Resources.{entries_have_resource};
 ghost use Rattle.comp_rules.specs.Added.{type_of};
 ghost use Rattle.comp_rules.specs.Validity.{IsValidComponent};
-ghost use Rattle.output_valid.specs.Laws.{StandsAlone, output_of, ExportsRenamed};
+ghost use Rattle.output_valid.specs.Laws.{StandsAlone, output_of, ExportsRenamed, KeepsApart};
 
 /// The law that the output of a valid component that imports nothing is a valid component. It does nothing when it runs.
 pub fn output_is_valid()
@@ -21,10 +21,10 @@ pub fn output_imports_nothing()
 {}
 
 /// The law that it exports what the component exports, name by name, functions, instances and types: the same where the exports speak
-/// of no resource, and else up to the numbers of resources. It does nothing when it runs.
+/// of no resource, and else up to the numbers of resources, of which no two become one. It does nothing when it runs.
 pub fn output_exports_the_same()
     ensures same { (app : Tree) → StandsAlone app → entries_have_resource (type_of app).exports ≡ false → (type_of (output_of app)).exports ≡ (type_of app).exports }
-    ensures renamed { (app : Tree) → StandsAlone app → (f : ℕ → ℕ) × ExportsRenamed app f }
+    ensures renamed { (app : Tree) → StandsAlone app → (f : ℕ → ℕ) × ExportsRenamed app f × KeepsApart app f }
 {}
 
 /// The law that where the parts of a component stand in its bytes makes no difference to its validity and its type. It does nothing
