@@ -5,7 +5,7 @@ use Rattle.std.proofs.lemmas.Bool.{false≢true}
 use Rattle.wit_types.specs.Plain.{Name, Plain, Parts, PlainFunc, ListType, RecordType, VariantType, OwnType, BorrowType, End, More, Bare, bare, case_part}
 use Rattle.comp_facts.specs.Handles.{has_handle, has_handle_in, answer_has_handle, func_has_handle}
 use Rattle.comp_rules.specs.Resources.{named_in_value, named_in_parts, named_in_answer, named_in_func}
-use Rattle.comp_resources.specs.Once.{and_each}
+use Rattle.comp_rules.specs.Rules.{is_filled}
 use Rattle.comp_resources.proofs.OnceLemmas.{each-append}
 
 -- labels alone name no resource
@@ -22,6 +22,37 @@ append-nothing [] = refl
 append-nothing (x ∷ xs) = ap (λ zs. x ∷ zs) (append-nothing xs)
 
 pub ruleset values = (named-bare, named-case_part, append-nothing, each-append)
+
+-- ---- types with handles
+
+filled-append : (xs ys : Lst ℕ) → is_filled (xs ++ ys) ≡ (is_filled xs || is_filled ys)
+filled-append [] ys = refl
+filled-append (x ∷ xs) ys = refl
+
+either_is : (xs ys : Lst ℕ) (a b : Bool) → is_filled xs ≡ a → is_filled ys ≡ b → is_filled (xs ++ ys) ≡ (a || b)
+either_is xs ys a b e f = filled-append xs ys ∙ (ap (λ c. c || is_filled ys) e ∙ ap (λ c. a || c) f)
+
+mutual
+  pub value-filled : (p : Plain) → is_filled (named_in_value p) ≡ has_handle p
+  value-filled (ListType item) = value-filled item
+  value-filled (RecordType form ps) = parts-filled ps
+  value-filled (VariantType form ps) = parts-filled ps
+  value-filled (OwnType r) = refl
+  value-filled (BorrowType r) = refl
+  value-filled _ = refl
+
+  parts-filled : (ps : Parts) → is_filled (named_in_parts ps) ≡ has_handle_in ps
+  parts-filled End = refl
+  parts-filled (More n ty rest) = either_is (named_in_value ty) (named_in_parts rest) (has_handle ty) (has_handle_in rest) (value-filled ty) (parts-filled rest)
+  parts-filled (Bare n rest) = parts-filled rest
+
+answer-filled : (o : Option Plain) → is_filled (named_in_answer o) ≡ answer_has_handle o
+answer-filled None = refl
+answer-filled (Some ty) = value-filled ty
+
+pub func-filled : (ty : PlainFunc) → is_filled (named_in_func ty) ≡ func_has_handle ty
+func-filled ty =
+    either_is (named_in_parts ty.params) (named_in_answer ty.answer) (has_handle_in ty.params) (answer_has_handle ty.answer) (parts-filled ty.params) (answer-filled ty.answer)
 
 -- ---- types without handles
 

@@ -101,10 +101,22 @@ pub fn resources_of_entries(alloc: Global, entries: &InstanceEntries) -> Result<
     Ok(found)
 }
 
-/// Whether a type names no resource, but for those that it declares.
+fn declares_all(alloc: Global, ty: &DeclaredInstance) -> Result<bool, NoMemory>
+    ensures { IfOk result (λ all. all ≡ not (is_filled (without ty.now.own (named_in ty.now.instance.value.entries)))) }
+{
+    let mut found = Resources::none(alloc);
+    add_declared(alloc, &mut found, ty)?;
+    Ok(found.is_empty())
+}
+
+/// Whether a type names no resource, but for those that it declares. Value types and functions are not walked.
 pub fn names_none(alloc: Global, kind: &TypeItem) -> Result<bool, NoMemory>
     ensures { IfOk result (λ none. none ≡ not (is_filled (named_in_kind (kind_of kind.now)))) }
 {
-    let found = resources_of_kind(alloc, kind)?;
-    Ok(found.is_empty())
+    match kind {
+        TypeItem::Resource(_) => Ok(false),
+        TypeItem::Value(ty) => Ok(!ty.facts().handles),
+        TypeItem::Func(ty) => Ok(!ty.facts().has_handle()),
+        TypeItem::Instance(ty) => declares_all(alloc, ty),
+    }
 }

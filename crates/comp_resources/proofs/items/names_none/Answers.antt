@@ -1,9 +1,14 @@
-use Rattle.std.proofs.Common.{◌∙◌, ap, not}
-use Rattle.comp_types.specs.Views.{kind_of}
-use Rattle.comp_rules.specs.Resources.{named_in_kind}
-use Rattle.comp_rules.specs.Rules.{is_filled}
-use Rattle.comp_resources.proofs.OnceLemmas.{filled-distinct}
+use Rattle.std.proofs.Common.{◌≡◌, rules, subst}
+use Rattle.comp_facts.specs.Facts.{IsFuncFactsOf}
+use Rattle.comp_resources.proofs.ValueLemmas.{value-filled, func-filled}
 use Rattle.comp_resources.proofs.items.names_none.Goals as goal
 
-pub returns : goal.returns
-returns c = c.is_empty.ensures ∙ (ap (λ rs. not (is_filled rs)) c.in_ok-found.ensures ∙ ap not (filled-distinct (named_in_kind (kind_of c.args.kind.now))))
+pub returns-in-Value : goal.returns-in-Value
+returns-in-Value c = search (rules, c.facts.ensures.handles, value-filled c.in-Value.ty.value)
+
+pub returns-in-Func : goal.returns-in-Func
+returns-in-Func c =
+    let ty = c.in-Func.ty.value in
+    let is : c.deref-in-Func.result.now ≡ ty = cc in
+    let facts = subst (λ p. IsFuncFactsOf p c.facts-in-Func.result.now) is c.facts-in-Func.ensures in
+    search (rules, c.has_handle.ensures ty facts, func-filled ty)
