@@ -1,10 +1,11 @@
 -- The functions of an instance.
-use Rattle.std.proofs.Common.{◌≡◌, ℕ, ◌+◌, ◌<◌, List, [], ◌∷◌, ◌++◌, Some, Ok, true, length, map, replicate, refl, ap, ◌∙◌, arith}
+use Rattle.std.proofs.Common.{◌≡◌, ℕ, zero, suc, ◌+◌, ◌<◌, List, [], ◌∷◌, ◌++◌, Some, Ok, true, length, map, replicate, refl, ap, ◌∙◌, arith}
 use Rattle.std.proofs.lemmas.List.{length-append, length-map}
 use Rattle.std.proofs.lemmas.Option.{slice_get-map}
 use Rattle.std.specs.Prelude.{slice_get, unwrap_or}
 use Rattle.std.specs.Option.{option_map}
 use Rattle.std.specs.List.{flat_map, range_with_len}
+use Rattle.wasm_ast.specs.declared.module.Body.{Body}
 use Rattle.wasm_ast.specs.declared.module.Global.{Global}
 use Rattle.wasm_ast.specs.declared.module.LocalRun.{LocalRun}
 use Rattle.wasm_ast.specs.declared.module.Module.{Module}
@@ -33,22 +34,29 @@ last_at : {A : Type 0} → (xs : List A) (x : A) → slice_get (xs ++ x ∷ []) 
 last_at [] x = refl
 last_at (y ∷ ys) x = last_at ys x
 
+in_front : {A : Type 0} → (xs ys : List A) (i : ℕ) (x : A) → slice_get xs i ≡ Some x → slice_get (xs ++ ys) i ≡ Some x
+in_front [] ys i x e = absurd (cc)
+in_front (z ∷ xs) ys zero x e = e
+in_front (z ∷ xs) ys (suc i) x e = in_front xs ys i x e
+
 behind_at : (xs : List ℕ) (from count i : ℕ) → i < count → slice_get (xs ++ range_with_len from count) (length xs + i) ≡ Some (from + i)
 behind_at xs from count i lt = get_behind xs (range_with_len from count) i ∙ get_range from count i lt
 
 module _ (s : StoreState) (m : Module) (imports : List Extern) (t : StoreState) (enters : can_enter s ≡ true) where
+  has_function : Kept (allocated s m imports) t → (i : ℕ) (b : Body) → slice_get m.code i ≡ Some b → slice_get t.functions (length s.functions + i) ≡ Some (Inside (body_type m i) (length s.instances) (each_local b.locals) b.code)
+  has_function kept i b here =
+      ap (λ fs. slice_get fs (length s.functions + i)) kept.functions ∙ get_behind s.functions (functions_from m (length s.instances) 0 m.code) i
+      ∙ function_from m (length s.instances) 0 m.code i i b here (omega arith) ∙ ap (λ ls. Some (Inside (body_type m i) (length s.instances) ls b.code)) (spread_same b.locals)
+
+  has_spaces : Kept (allocated s m imports) t → spaces_of t.instances (length s.instances) ≡ spaces_in s m imports
+  has_spaces kept = ap (λ is. spaces_of is (length s.instances)) kept.instances ∙ ap (λ o. unwrap_or o bare) (last_at s.instances (spaces_in s m imports))
+
   has_bodies : Kept (allocated s m imports) t → HasBodies s m imports t
   has_bodies kept = record {
-    stands = λ i b here. record {
-      instance = length s.instances;
-      function =
-          ap (λ fs. slice_get fs (length s.functions + i)) kept.functions
-          ∙ get_behind s.functions (functions_from m (length s.instances) 0 m.code) i
-          ∙ function_from m (length s.instances) 0 m.code i i b here (omega arith)
-          ∙ ap (λ ls. Some (Inside (body_type m i) (length s.instances) ls b.code)) (spread_same b.locals);
-      own = ap (λ is. spaces_of is (length s.instances)) kept.instances ∙ ap (λ o. unwrap_or o bare) (last_at s.instances (spaces_in s m imports));
-      enters = ap (λ n. allows t.deepest n) kept.nesting ∙ ap (λ d. allows d s.nesting) kept.deepest ∙ enters;
-    };
+    earlier = λ i f here. ap (λ fs. slice_get fs i) kept.functions ∙ in_front s.functions (functions_from m (length s.instances) 0 m.code) i f here;
+    functions = has_function kept;
+    own = has_spaces kept;
+    enters = ap (λ n. allows t.deepest n) kept.nesting ∙ ap (λ d. allows d s.nesting) kept.deepest ∙ enters;
     named = λ i lt. behind_at (flat_map functions_of imports) (length s.functions) (length m.code) i lt;
     globals = λ i g here.
         let value : Global → CoreValue = λ x. constant (names_of s m imports) x.init in

@@ -5,21 +5,27 @@ use Rattle.wasm_ast.specs.declared.module.Body.{Body}
 use Rattle.wasm_ast.specs.declared.module.Global.{Global}
 use Rattle.wasm_ast.specs.declared.module.Module.{Module}
 use Rattle.core_store.specs.declared.value.CoreSpaces.{CoreSpaces}
+use Rattle.core_store.specs.declared.value.StoreFunc.{StoreFunc}
+use Rattle.core_store.specs.declared.value.StoreFunc.TheVariants.{Inside}
+use Rattle.core_store.specs.Locals.{each_local}
 use Rattle.core_store.specs.State.{State as StoreState, can_enter}
+use Rattle.core_eval.specs.Config.{spaces_of}
 use Rattle.core_validate.specs.Items.{body_type}
 use Rattle.core_instance.specs.declared.external.Extern.{Extern}
 use Rattle.core_instance.specs.Spaces.{functions_of, memories_of, globals_of, places_of}
 use Rattle.core_instance.specs.Constants.{constant}
 use Rattle.core_instance.specs.Instantiation.{names_of, instantiated}
-use Rattle.adapter_transfer.specs.Transfer.{Stands}
 
 -- the index spaces of the instance
 abbrev pub spaces_in : StoreState → Module → List Extern → CoreSpaces
 spaces_in s m imports = record (places_of s m imports) { types = m.types }
 
--- each body, global and memory stands behind those that were there, and behind what is imported in its index space
+-- what was there stays; each body, global and memory stands behind it, and behind what is imported in its index space
 pub record HasBodies (s : StoreState) (m : Module) (imports : List Extern) (t : StoreState) : Type 0 where
-  pub stands : (i : ℕ) (b : Body) → slice_get m.code i ≡ Some b → Stands (body_type m i) b (spaces_in s m imports) t (length s.functions + i)
+  pub earlier : (i : ℕ) (f : StoreFunc) → slice_get s.functions i ≡ Some f → slice_get t.functions i ≡ Some f
+  pub functions : (i : ℕ) (b : Body) → slice_get m.code i ≡ Some b → slice_get t.functions (length s.functions + i) ≡ Some (Inside (body_type m i) (length s.instances) (each_local b.locals) b.code)
+  pub own : spaces_of t.instances (length s.instances) ≡ spaces_in s m imports
+  pub enters : can_enter t ≡ true
   pub named : (i : ℕ) → i < length m.code → slice_get (spaces_in s m imports).functions (length (flat_map functions_of imports) + i) ≡ Some (length s.functions + i)
   pub globals : (i : ℕ) (g : Global) → slice_get m.globals i ≡ Some g → slice_get t.globals (length s.globals + i) ≡ Some (constant (names_of s m imports) g.init)
   pub global_named : (i : ℕ) → i < length m.globals → slice_get (spaces_in s m imports).globals (length (flat_map globals_of imports) + i) ≡ Some (length s.globals + i)
