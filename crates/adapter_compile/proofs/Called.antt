@@ -1,5 +1,5 @@
 -- A call of a function whose body is a routine's code.
-use Rattle.std.proofs.Common.{◌≡◌, ℕ, ◌+◌, ◌-◌, List, [], ◌∷◌, ◌++◌, Bool, length, take, drop, reverse, replicate, refl, sym, ap, ◌∙◌, subst, arith, inl, inr, min, append_assoc}
+use Rattle.std.proofs.Common.{◌≡◌, ℕ, zero, suc, ◌+◌, ◌-◌, List, [], ◌∷◌, ◌++◌, Bool, length, take, drop, reverse, replicate, refl, sym, ap, ◌∙◌, subst, arith, inl, inr, min, append_assoc, append-nil}
 use Rattle.std.proofs.lemmas.List.{length-reverse, length-replicate, length-map, length-append, length-take, length-drop, map-append, take-append-drop, replicate-append-replicate, drop_all, take_all, reverse-reverse}
 use Rattle.std.proofs.Math.Path.{fun_ext}
 use Rattle.std.specs.Prelude.{map}
@@ -27,7 +27,7 @@ use Rattle.adapter_compile.specs.declared.calls.HandleCalls.{HandleCalls}
 use Rattle.adapter_compile.specs.Instructions.{routine_code}
 use Rattle.adapter_compile.specs.Bounds.{nesting}
 use Rattle.adapter_compile.specs.Handles.{Numbers, Follows}
-use Rattle.adapter_compile.specs.Does.{Home, store_with, config_of, ArrivesAt, DoesIn, core_type, routine_type, core_value, BeginsAsZeros, IsPlaced, DoesCalled, Compiles}
+use Rattle.adapter_compile.specs.Does.{Home, store_with, config_of, ArrivesAt, DoesIn, core_type, routine_type, core_value, BeginsAsZeros, IsPlaced, DoesCalled, Compiles, counters_of, declared_of, body_of}
 use Rattle.adapter_compile.proofs.Chains.{follows_map, refused_map}
 use Rattle.adapter_compile.proofs.Places.{widths_length}
 use Rattle.adapter_compile.proofs.Law.{do_so}
@@ -115,11 +115,21 @@ called numbers home params counters ws calls code body f s made run is placed wi
       (λ Y h p. arrives_called numbers home run.end run.state.table run.state a.further' a.made' n Y h p));
 }
 
-pub compiled : (params : ℕ) (ws : List Width) (calls : HandleCalls) (code : Code) (body : Body) → IsWellFormed ws [] code → body.code ≡ routine_code ws calls code ++ End ∷ [] → each_local body.locals ≡ map core_type (drop params ws) ++ replicate (nesting code) I32 → Compiles params ws calls code body
-compiled params ws calls code body fine is declared numbers home f s made has good placed wide zeros range =
+-- the locals that are declared
+each_counter : (n : ℕ) → each_local (counters_of n) ≡ replicate n I32
+each_counter zero = refl
+each_counter (suc n) = append-nil (replicate (suc n) I32)
+
+pub each_declared : (ws : List Width) (n : ℕ) → each_local (declared_of ws n) ≡ map core_type ws ++ replicate n I32
+each_declared [] n = each_counter n
+each_declared (w ∷ ws) n = ap (λ l. core_type w ∷ l) (each_declared ws n)
+
+pub compiled : (params : ℕ) (ws : List Width) (calls : HandleCalls) (code : Code) → IsWellFormed ws [] code → Compiles params ws calls code (body_of params ws calls code)
+compiled params ws calls code fine numbers home f s made has good placed wide zeros range =
     let counters = nesting code in
+    let body = body_of params ws calls code in
     let sized : length ws ≡ length s.locals = ap length (sym wide) ∙ widths_length s.locals in
     let long : length (each_local body.locals) ≡ length (drop params s.locals) + counters =
-    ap length declared ∙ length-append (map core_type (drop params ws)) (replicate counters I32) ∙ omega (arith, length-map (drop params ws) core_type, length-drop params ws, length-drop params s.locals, sized, length-replicate counters I32) in
-    called numbers home params counters ws calls code body f s made (routine_run code s) is placed wide zeros long
+    ap length (each_declared (drop params ws) counters) ∙ length-append (map core_type (drop params ws)) (replicate counters I32) ∙ omega (arith, length-map (drop params ws) core_type, length-drop params ws, length-drop params s.locals, sized, length-replicate counters I32) in
+    called numbers home params counters ws calls code body f s made (routine_run code s) refl placed wide zeros long
     (do_so ws calls numbers (within home) code (End ∷ []) s (replicate counters 0) made fine has (record { memory = good.memory; within = good.within; hosted = good.hosted }) wide (omega (arith, length-replicate {A = ℕ} counters 0)) range)

@@ -26,8 +26,8 @@ statement_seq ws calls ls (Int op to a b) q = Then (get a) (Then (get b) (Then (
 statement_seq ws calls ls (Load to at offset size) q = Then (get at) (Then (Plain (op.Load (load_of (width_in ws to) size) (at_offset offset))) (Then (set to) q))
 statement_seq ws calls ls (Store from at offset size) q = Then (get at) (Then (get from) (Then (Plain (op.Store (store_of (width_in ws from) size) (at_offset offset))) q))
 statement_seq ws calls ls (Leave name) q = Then (Br (label_of name ls)) q
-statement_seq ws calls ls (NewHandle kind rep to) q = Then (get rep) (Then (call_of (call_at calls.makes.items kind)) (Then (set to) q))
-statement_seq ws calls ls (DropHandle kind index) q = Then (get index) (Then (call_of (call_at calls.drops.items kind)) q)
+statement_seq ws calls ls (NewHandle kind rep to) q = Then (get rep) (Then (call_of (call_at calls.makes kind)) (Then (set to) q))
+statement_seq ws calls ls (DropHandle kind index) q = Then (get index) (Then (call_of (call_at calls.drops kind)) q)
 statement_seq ws calls ls Trap q = Then Unreachable q
 statement_seq ws calls ls Answer q = Then (Br (length ls)) q
 statement_seq ws calls ls other q = q
@@ -76,9 +76,9 @@ module _ (ws : List Width) (calls : HandleCalls) where
   parts_one ls (Repeat' name count m body) rest p ps e = e
   parts_one ls (Leave name) rest p ps e = ap (onto (statement_seq ws calls ls (Leave name))) e
   parts_one ls (NewHandle kind rep to) rest p ps e =
-      ap (onto (Then (get rep))) (parts_call (call_at calls.makes.items kind) (set to ∷ rest)) ∙ ap (onto (statement_seq ws calls ls (NewHandle kind rep to))) e
+      ap (onto (Then (get rep))) (parts_call (call_at calls.makes kind) (set to ∷ rest)) ∙ ap (onto (statement_seq ws calls ls (NewHandle kind rep to))) e
   parts_one ls (DropHandle kind index) rest p ps e =
-      ap (onto (Then (get index))) (parts_call (call_at calls.drops.items kind) rest) ∙ ap (onto (statement_seq ws calls ls (DropHandle kind index))) e
+      ap (onto (Then (get index))) (parts_call (call_at calls.drops kind) rest) ∙ ap (onto (statement_seq ws calls ls (DropHandle kind index))) e
   parts_one ls Trap rest p ps e = ap (onto (statement_seq ws calls ls Trap)) e
   parts_one ls Answer rest p ps e = ap (onto (statement_seq ws calls ls Answer)) e
 

@@ -217,7 +217,7 @@ module _ (numbers : Numbers) (home : Home) (calls : HandleCalls) (is : IsHome ca
         );
       }
 
-  new_does : (kind rep to : ℕ) (o : Option ℕ) (ls : Labels) (d room : ℕ) (q : Seq) (k : ℕ) (s : State) (cs : List ℕ) (ps : List Bool) → call_at calls.makes.items kind ≡ o → IsSome o → IsFine ws (names_of ls) (NewHandle kind rep to) → Good ws d room s cs →
+  new_does : (kind rep to : ℕ) (o : Option ℕ) (ls : Labels) (d room : ℕ) (q : Seq) (k : ℕ) (s : State) (cs : List ℕ) (ps : List Bool) → call_at calls.makes kind ≡ o → IsSome o → IsFine ws (names_of ls) (NewHandle kind rep to) → Good ws d room s cs →
       Sim numbers home d ls (exec go q) 0 (λ n rs. exec go (Then (get rep) (Then (call_of o) (Then (set to) q))) n (config_of home s cs ps rs)) s k cs (does (NewHandle kind rep to) (suc k) s)
   new_does kind rep to None ls d room q k s cs ps e there fine g = absurd (cc)
   new_does kind rep to (Some f) ls d room q k s cs ps e there fine g =
@@ -271,7 +271,7 @@ module _ (numbers : Numbers) (home : Home) (calls : HandleCalls) (is : IsHome ca
     );
   }
 
-  drop_does : (kind index : ℕ) (o : Option ℕ) (ls : Labels) (d room : ℕ) (q : Seq) (k : ℕ) (s : State) (cs : List ℕ) (ps : List Bool) → call_at calls.drops.items kind ≡ o → IsSome o → IsFine ws (names_of ls) (DropHandle kind index) → Good ws d room s cs →
+  drop_does : (kind index : ℕ) (o : Option ℕ) (ls : Labels) (d room : ℕ) (q : Seq) (k : ℕ) (s : State) (cs : List ℕ) (ps : List Bool) → call_at calls.drops kind ≡ o → IsSome o → IsFine ws (names_of ls) (DropHandle kind index) → Good ws d room s cs →
       Sim numbers home d ls (exec go q) 0 (λ n rs. exec go (Then (get index) (Then (call_of o) q)) n (config_of home s cs ps rs)) s k cs (does (DropHandle kind index) (suc k) s)
   drop_does kind index None ls d room q k s cs ps e there fine g = absurd (cc)
   drop_does kind index (Some f) ls d room q k s cs ps e there fine g =
@@ -321,8 +321,8 @@ module _ (numbers : Numbers) (home : Home) (calls : HandleCalls) (is : IsHome ca
   one_does (If' test m taken m' untaken) ls d room q k s cs ps fine has g = absurd fine
   one_does (Repeat' name count m body) ls d room q k s cs ps fine has g = absurd fine
   one_does (Leave name) ls d room q k s cs ps fine has g = leave_does name ls d q k s cs ps fine g.range
-  one_does (NewHandle kind rep to) ls d room q k s cs ps fine has g = new_does kind rep to (call_at calls.makes.items kind) ls d room q k s cs ps refl has fine g
-  one_does (DropHandle kind index) ls d room q k s cs ps fine has g = drop_does kind index (call_at calls.drops.items kind) ls d room q k s cs ps refl has fine g
+  one_does (NewHandle kind rep to) ls d room q k s cs ps fine has g = new_does kind rep to (call_at calls.makes kind) ls d room q k s cs ps refl has fine g
+  one_does (DropHandle kind index) ls d room q k s cs ps fine has g = drop_does kind index (call_at calls.drops kind) ls d room q k s cs ps refl has fine g
   one_does Trap ls d room q k s cs ps fine has g = sim_trap numbers home d ls (exec go q) (runs_one Trap ls q s cs ps) s k cs 1 (lit≤ tt) (λ n rs. refl) g.range
   one_does Answer ls d room q k s cs ps fine has g = answer_does ls d q k s cs ps g.range
 

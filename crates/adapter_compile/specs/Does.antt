@@ -1,11 +1,13 @@
 -- What the core code of a routine does, by core evaluation.
-use Rattle.std.specs.Prelude.{◌≡◌, ℕ, ◌+◌, ◌*◌, ◌<◌, ◌≤◌, ◌^◌, List, [], ◌++◌, Bool, true, ◌⊎◌, Some, map, length, slice_get, take, drop, replicate}
+use Rattle.std.specs.Prelude.{◌≡◌, ℕ, zero, suc, ◌+◌, ◌*◌, ◌<◌, ◌≤◌, ◌^◌, List, [], ◌∷◌, ◌++◌, Bool, true, ◌⊎◌, Some, map, length, slice_get, take, drop, replicate}
 use Rattle.std.specs.List.{All}
 use Rattle.virt_base.specs.declared.core_type.CoreType.{CoreType}
 use Rattle.virt_base.specs.declared.core_type.CoreType.TheVariants as types
 use Rattle.wasm_ast.specs.declared.module.CoreFunc.{CoreFunc}
 use Rattle.wasm_ast.specs.declared.module.Body.{Body}
+use Rattle.wasm_ast.specs.declared.module.LocalRun.{LocalRun}
 use Rattle.wasm_ast.specs.declared.instr.Instr.{Instr}
+use Rattle.wasm_ast.specs.declared.instr.Instr.TheVariants.{End}
 use Rattle.core_code.specs.Tree.{tree}
 use Rattle.core_store.specs.declared.value.CoreValue.{CoreValue}
 use Rattle.core_store.specs.declared.value.CoreValue.TheVariants as values
@@ -113,6 +115,21 @@ routine_type params ws = record { params = map core_type (take params ws); resul
 abbrev pub core_value : Local → CoreValue
 core_value (Small v) = values.I32 v
 core_value (Wide v) = values.I64 v
+
+-- the declaration of locals of these widths, and of so many counters behind them
+abbrev pub counters_of : ℕ → List LocalRun
+counters_of zero = []
+counters_of (suc n) = record { count = suc n; ty = types.I32 } ∷ []
+
+abbrev pub local_of : Width → LocalRun
+local_of w = record { count = 1; ty = core_type w }
+
+abbrev pub declared_of : List Width → ℕ → List LocalRun
+declared_of ws counters = map local_of ws ++ counters_of counters
+
+-- its body
+abbrev pub body_of : ℕ → List Width → HandleCalls → Code → Body
+body_of params ws calls code = record { locals = declared_of (drop params ws) (nesting code); code = routine_code ws calls code ++ End ∷ [] }
 
 -- the locals behind the parameters are zeros
 abbrev pub BeginsAsZeros : ℕ → List Local → Type 0

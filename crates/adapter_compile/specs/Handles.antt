@@ -21,8 +21,8 @@ use Rattle.adapter_compile.specs.Instructions.{call_at}
 
 -- each kind of which a routine makes or drops handles has its function
 abbrev pub HasCall : HandleCalls → Statement → Type 0
-HasCall calls (NewHandle kind rep to) = IsSome (call_at calls.makes.items kind)
-HasCall calls (DropHandle kind index) = IsSome (call_at calls.drops.items kind)
+HasCall calls (NewHandle kind rep to) = IsSome (call_at calls.makes kind)
+HasCall calls (DropHandle kind index) = IsSome (call_at calls.drops kind)
 HasCall calls other = Unit {0}
 
 abbrev pub HasCalls : HandleCalls → Code → Type 0
@@ -48,8 +48,8 @@ IsOutside spaces functions f ty number = (place : ℕ) × (slice_get spaces.func
 
 -- the functions by which handles are made and dropped are the embedder's
 pub record AreHosted (calls : HandleCalls) (numbers : Numbers) (spaces : CoreSpaces) (functions : List StoreFunc) : Type 0 where
-  pub makes : (kind f : ℕ) → call_at calls.makes.items kind ≡ Some f → IsOutside spaces functions f makes_type (numbers.makes kind)
-  pub drops : (kind f : ℕ) → call_at calls.drops.items kind ≡ Some f → IsOutside spaces functions f drops_type (numbers.drops kind)
+  pub makes : (kind f : ℕ) → call_at calls.makes kind ≡ Some f → IsOutside spaces functions f makes_type (numbers.makes kind)
+  pub drops : (kind f : ℕ) → call_at calls.drops kind ≡ Some f → IsOutside spaces functions f drops_type (numbers.drops kind)
 
 -- the question of an effect, asked in a store with so many steps left
 abbrev pub question : Numbers → Effect → StoreState → ℕ → Outcome

@@ -1,12 +1,10 @@
 // Routines as functions.
 
-ghost use Rattle.std.specs.Prelude.{◌≡◌, ◌+◌, ◌<◌, ◌≤◌, ◌^◌, ◌++◌, [], IfOk, length, map, replicate};
-ghost use Rattle.virt_base.specs.declared.core_type.CoreType.TheVariants.{I32};
-ghost use Rattle.core_store.specs.Locals.{each_local};
+ghost use Rattle.std.specs.Prelude.{◌≡◌, ◌+◌, ◌<◌, ◌≤◌, ◌^◌, [], IfOk, length};
 ghost use Rattle.adapter_code.specs.Code.{code_of};
 ghost use Rattle.adapter_code.specs.WellFormed.{IsWellFormed};
 ghost use Rattle.adapter_compile.specs.Bounds.{brackets};
-ghost use Rattle.adapter_compile.specs.Does.{Compiles, core_type as type_of};
+ghost use Rattle.adapter_compile.specs.Does.{Compiles, body_of, declared_of, core_type as type_of};
 
 use crate::bounds::nesting_of;
 use crate::calls::HandleCalls;
@@ -31,7 +29,8 @@ pub fn compile(
     requires fine { IsWellFormed widths.now [] (code_of routine.now) }
     requires shallow { length widths.now + brackets (code_of routine.now) < 2 ^ 32 }
     requires params { params ≤ length widths.now }
-    ensures { IfOk result (λ body. Compiles params widths.now calls.now (code_of routine.now) body) }
+    ensures code { IfOk result (λ body. body ≡ body_of params widths.now calls.now (code_of routine.now)) }
+    ensures does { IfOk result (λ body. Compiles params widths.now calls.now (code_of routine.now) body) }
 {
     let mut code = Vec::new(alloc);
     put_routine(alloc, &mut code, widths, calls, routine)?;
@@ -41,9 +40,9 @@ pub fn compile(
     Ok(Body { locals, code })
 }
 
-// The declaration of locals of these widths, and of so many counters.
-fn declared(alloc: Global, widths: &[Width], counters: u32) -> Result<Items<LocalRun>, NoMemory>
-    ensures { IfOk result (λ runs. each_local runs ≡ map type_of widths.now ++ replicate counters I32) }
+/// The declaration of locals of these widths, and of so many counters behind them.
+pub fn declared(alloc: Global, widths: &[Width], counters: u32) -> Result<Items<LocalRun>, NoMemory>
+    ensures { IfOk result (λ runs. runs ≡ declared_of widths.now counters) }
 {
     let mut runs = Vec::new(alloc);
     for width in widths {

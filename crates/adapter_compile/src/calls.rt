@@ -1,6 +1,11 @@
-/// The functions of a module by which handles are made and dropped, by the number of their kind; none where a kind has none.
+use virt_base::Items;
+
+/// The index of a function for each kind, by its number; none where a kind has none.
+pub type Calls = Items<Option<u32>>;
+
+/// The functions of a module by which handles are made and dropped.
 #[derive(Debug, Drop)]
 pub struct HandleCalls {
-    pub makes: Vec<Option<u32>>,
-    pub drops: Vec<Option<u32>>,
+    pub makes: Calls,
+    pub drops: Calls,
 }

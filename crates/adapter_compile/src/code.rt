@@ -155,12 +155,12 @@ fn put_plain(
         } => put_store(out, widths, *from, *at, *offset, *width),
         Statement::NewHandle { kind, rep, to } => {
             put(out, get(*rep))?;
-            put(out, call_of(&calls.makes, *kind))?;
+            put(out, call_of(calls.makes.as_slice(), *kind))?;
             put(out, set(*to))
         }
         Statement::DropHandle { kind, index } => {
             put(out, get(*index))?;
-            put(out, call_of(&calls.drops, *kind))
+            put(out, call_of(calls.drops.as_slice(), *kind))
         }
         Statement::Leave { name } => put(out, Instr::Br(label_of(labels, *name) as u32)),
         Statement::Answer => put(out, Instr::Br(labels.len() as u32)),

@@ -9,8 +9,8 @@ mod labels;
 mod laws;
 mod numbers;
 
-pub use body::compile;
+pub use body::{compile, declared};
 pub use bounds::{is_shallow, nesting_of};
-pub use calls::HandleCalls;
+pub use calls::{Calls, HandleCalls};
 pub use code::put_routine;
 pub use laws::routines_do;

@@ -1,3 +1,4 @@
 pub mod Pieces
 pub mod Instructions
 pub mod Routines
+pub mod Functions

@@ -150,13 +150,13 @@ module _ (ws : List Width) (calls : HandleCalls) (c : Context) (counters : ℕ) 
       branch_piece c (around ls outer) (label_of name ls) (label_there ls outer (label_of name ls) (omega (arith, lt)))
   statement_piece ls (NewHandle kind rep to) (lt, at_rep, at_to) =
       let L = around ls outer in
-      let call = call_of (call_at calls.makes.items kind) in
+      let call = call_of (call_at calls.makes kind) in
       joined c L (get rep ∷ []) (call ∷ set to ∷ []) [] (Known I32 ∷ []) [] (get_piece c L rep I32 (holds.locals rep Narrow at_rep))
-      (joined c L (call ∷ []) (set to ∷ []) (Known I32 ∷ []) (Known I32 ∷ []) [] (made_piece c L (call_at calls.makes.items kind) (holds.makes kind)) (set_piece c L to I32 (holds.locals to Narrow at_to)))
+      (joined c L (call ∷ []) (set to ∷ []) (Known I32 ∷ []) (Known I32 ∷ []) [] (made_piece c L (call_at calls.makes kind) (holds.makes kind)) (set_piece c L to I32 (holds.locals to Narrow at_to)))
   statement_piece ls (DropHandle kind index) (lt, at_index) =
       let L = around ls outer in
-      let call = call_of (call_at calls.drops.items kind) in
-      joined c L (get index ∷ []) (call ∷ []) [] (Known I32 ∷ []) [] (get_piece c L index I32 (holds.locals index Narrow at_index)) (dropped_piece c L (call_at calls.drops.items kind) (holds.drops kind))
+      let call = call_of (call_at calls.drops kind) in
+      joined c L (get index ∷ []) (call ∷ []) [] (Known I32 ∷ []) [] (get_piece c L index I32 (holds.locals index Narrow at_index)) (dropped_piece c L (call_at calls.drops kind) (holds.drops kind))
   statement_piece ls Trap fine = trap_piece c (around ls outer) [] []
   statement_piece ls Answer fine = branch_piece c (around ls outer) (length ls) (label_there ls outer (length ls) (omega arith))
 

@@ -1,5 +1,5 @@
 -- When the code of a routine is valid where it stands (WebAssembly Core 2.0, sections 3.3 and 3.4.3).
-use Rattle.std.specs.Prelude.{◌≡◌, ℕ, ◌+◌, ◌<◌, true, List, [], ◌∷◌, ◌++◌, length, Some, slice_get}
+use Rattle.std.specs.Prelude.{◌≡◌, ℕ, ◌+◌, ◌<◌, true, List, [], ◌∷◌, ◌++◌, length, map, take, Some, slice_get}
 use Rattle.virt_base.specs.declared.core_type.CoreType.{CoreType}
 use Rattle.virt_base.specs.declared.core_type.CoreType.TheVariants.{I32}
 use Rattle.wasm_ast.specs.declared.instr.Instr.{Instr}
@@ -8,6 +8,7 @@ use Rattle.core_body.specs.declared.operand.Operand.{Operand}
 use Rattle.core_body.specs.Context.{Context, function_type}
 use Rattle.core_body.specs.Conditions.{code_conditions}
 use Rattle.core_body.specs.Typing.{Trees, spell, Labels, Typed, operands}
+use Rattle.core_body.specs.Locals.{spread}
 use Rattle.core_body.specs.Views.{in_body}
 use Rattle.core_validate.specs.Items.{Part}
 use Rattle.core_validate.specs.Validity.{AreMet, PartHolds}
@@ -18,7 +19,7 @@ use Rattle.adapter_compile.specs.declared.calls.HandleCalls.{HandleCalls}
 use Rattle.adapter_compile.specs.Instructions.{call_at, routine_code}
 use Rattle.adapter_compile.specs.Bounds.{nesting}
 use Rattle.adapter_compile.specs.Handles.{makes_type, drops_type}
-use Rattle.adapter_compile.specs.Does.{core_type}
+use Rattle.adapter_compile.specs.Does.{core_type, body_of}
 
 -- Code in these labels, whatever stands behind it: a sequence that takes the first operands and leaves the others, and that
 -- breaks no rule which what is behind it does not break.
@@ -35,8 +36,8 @@ pub record MayHold (c : Context) (ws : List Width) (counters : ℕ) (calls : Han
   pub locals : (i : ℕ) (w : Width) → HasWidth ws i w → slice_get c.locals i ≡ Some (core_type w)
   pub behind : (i : ℕ) → i < counters → slice_get c.locals (length ws + i) ≡ Some I32
   pub memory : 0 < c.memories
-  pub makes : (kind f : ℕ) → call_at calls.makes.items kind ≡ Some f → function_type c f ≡ Some makes_type
-  pub drops : (kind f : ℕ) → call_at calls.drops.items kind ≡ Some f → function_type c f ≡ Some drops_type
+  pub makes : (kind f : ℕ) → call_at calls.makes kind ≡ Some f → function_type c f ≡ Some makes_type
+  pub drops : (kind f : ℕ) → call_at calls.drops kind ≡ Some f → function_type c f ≡ Some drops_type
 
 -- the code of a well-formed routine takes no operands and leaves none
 abbrev pub RoutinesAreValid : Type 0
@@ -60,3 +61,23 @@ BodiesAreValid =
     (c : Context) (locals results : List CoreType) (code : List Instr) →
     IsPiece (in_body c locals results) (Some (operands results) ∷ []) code [] (operands results) →
     (rule : ℕ) → PartHolds rule (body_part c locals results code)
+
+-- ---- routines as functions
+
+-- a module has a memory, and the functions by which handles are made and dropped
+pub record HasFunctions (c : Context) (calls : HandleCalls) : Type 0 where
+  pub memory : 0 < c.memories
+  pub makes : (kind f : ℕ) → call_at calls.makes kind ≡ Some f → function_type c f ≡ Some makes_type
+  pub drops : (kind f : ℕ) → call_at calls.drops kind ≡ Some f → function_type c f ≡ Some drops_type
+
+-- the code of a routine's function, of whose locals so many are parameters
+abbrev pub function_part : Context → ℕ → List Width → HandleCalls → Code → Part
+function_part c params ws calls code =
+    let body = body_of params ws calls code in
+    record { context = in_body c (map core_type (take params ws) ++ spread body.locals) []; in_body = true; code = body.code }
+
+-- the function of each well-formed routine keeps every rule in such a module
+abbrev pub FunctionsAreValid : Type 0
+FunctionsAreValid =
+    (c : Context) (params : ℕ) (ws : List Width) (calls : HandleCalls) (code : Code) →
+    IsWellFormed ws [] code → HasFunctions c calls → (rule : ℕ) → PartHolds rule (function_part c params ws calls code)

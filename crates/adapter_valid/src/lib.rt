@@ -3,4 +3,4 @@
 
 mod laws;
 
-pub use laws::{bodies_are_valid, pieces_join, routines_are_valid};
+pub use laws::{bodies_are_valid, functions_are_valid, pieces_join, routines_are_valid};

@@ -190,8 +190,8 @@ fn call_code(
         return Err(Fail::from("the routine is not well formed"));
     }
     let calls = HandleCalls {
-        makes: Vec::new(alloc),
-        drops: Vec::new(alloc),
+        makes: Items::empty(alloc),
+        drops: Items::empty(alloc),
     };
     let body = compile(alloc, widths.len(), &widths, &calls, routine)?;
     let module = module_of(alloc, &widths, body, front)?;

@@ -1,2 +1,0 @@
-pub mod Destroying
-pub mod Asking

@@ -1,5 +1,0 @@
-use Rattle.adapter_emit.proofs.Asking.{stubs_ask}
-use Rattle.adapter_emit.proofs.laws.stubs_ask.Goals as goal
-
-pub returns : goal.returns
-returns c = stubs_ask

@@ -1,2 +1,0 @@
-pub mod Destructor
-pub mod Stub

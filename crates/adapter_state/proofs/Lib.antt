@@ -1,0 +1,4 @@
+pub mod Destroying
+pub mod EachKind
+pub mod Naming
+pub mod Fitting

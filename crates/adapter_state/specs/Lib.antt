@@ -1,0 +1,2 @@
+pub mod Destructor
+pub mod State
