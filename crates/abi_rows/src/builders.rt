@@ -8,7 +8,7 @@ use std::process::Abort;
 use std::rc::Rc;
 use std::test::Fail;
 use virt_base::{Items, Text};
-use wit_types::{Case, Cases, Field, Fields, Labels, Types, Value, WitType};
+use wit_types::{Case, Cases, Field, Fields, Labels, Types, Value, Values, WitType};
 
 /// A store with one memory of one page, which holds these bytes at a place.
 pub fn memory_with(alloc: Global, at: u64, digits: &str) -> Result<Store, Fail>
@@ -67,6 +67,20 @@ pub fn variant(alloc: Global, payloads: Vec<WitType>, bare: usize) -> Result<Wit
     Ok(WitType::Variant(Rc::new(alloc, Cases { items })?))
 }
 
+/// A variant with these cases, each with a payload or without one.
+pub fn choice(alloc: Global, payloads: Vec<Option<WitType>>) -> Result<WitType, Fail> {
+    let mut items = Vec::new(alloc);
+    for payload in payloads {
+        let name = Text::from_str(alloc, "c")?;
+        let ty = match payload {
+            None => None,
+            Some(payload) => Some(Rc::new(alloc, payload)?),
+        };
+        items.push(Case { name, ty })?;
+    }
+    Ok(WitType::Variant(Rc::new(alloc, Cases { items })?))
+}
+
 pub fn list(alloc: Global, item: WitType) -> Result<WitType, Fail> {
     Ok(WitType::List(Rc::new(alloc, item)?))
 }
@@ -79,6 +93,24 @@ pub fn result(alloc: Global, ok: WitType, err: WitType) -> Result<WitType, Fail>
     let ok = Rc::new(alloc, ok)?;
     let err = Rc::new(alloc, err)?;
     Ok(WitType::Result(Some(ok), Some(err)))
+}
+
+pub fn text(alloc: Global, chars: &str) -> Result<Value, Fail> {
+    Ok(Value::Str(Text::from_str(alloc, chars)?))
+}
+
+pub fn each(values: Vec<Value>) -> Values {
+    Values::Each(values)
+}
+
+/// A list of bytes, kept as a run.
+pub fn bytes(alloc: Global, held: &[u8]) -> Result<Value, Fail> {
+    let run = Items::new(Vec::from_slice(alloc, held)?);
+    Ok(Value::List(Values::Bytes(run)))
+}
+
+pub fn case(alloc: Global, number: u32, payload: Value) -> Result<Value, Fail> {
+    Ok(Value::Variant(number, Some(Box::new(alloc, payload)?)))
 }
 
 /// The value is written so for debugging.

@@ -1,4 +1,5 @@
-//! Values loaded and lifted from bytes and numbers that were worked by hand, by the rules of the Component Model's CanonicalABI.md.
+//! Values loaded, lifted, stored and lowered, with bytes and numbers that were worked by hand, by the rules of the Component Model's
+//! CanonicalABI.md.
 #![tactic(auto)]
 
 #[cfg(test)]
@@ -7,5 +8,13 @@ mod builders;
 mod lifting;
 #[cfg(test)]
 mod loading;
+#[cfg(test)]
+mod storing;
+#[cfg(test)]
+mod storing_flat;
+#[cfg(test)]
+mod storing_plans;
+#[cfg(test)]
+mod storing_traps;
 #[cfg(test)]
 mod traps;

@@ -5,6 +5,7 @@ use abi_layout::is_small;
 use abi_load::load;
 use std::alloc::Global;
 use std::process::Abort;
+use std::rc::Rc;
 use std::test::Fail;
 use wit_types::WitType;
 
@@ -193,4 +194,59 @@ fn lists(rt: HostRuntime) -> Result<(), Fail> {
         "List(Each([Str(Text { chars: \"a\" }), Str(Text { chars: \"\" })]))",
     )];
     loads(&rt, alloc, &list(alloc, WitType::Str)?, &rows)
+}
+
+/// A record in a list in a variant in a tuple: each part at its own alignment.
+#[test]
+fn types_in_one_another(rt: HostRuntime) -> Result<(), Fail> {
+    let alloc = rt.alloc();
+    let item = record(
+        alloc,
+        vec![in alloc; WitType::U16, WitType::Bool, WitType::Str]?,
+    )?;
+    let payloads = vec![in alloc; WitType::S8, list(alloc, item)?]?;
+    let ty = tuple(
+        alloc,
+        vec![in alloc; WitType::U8, variant(alloc, payloads, 0)?]?,
+    )?;
+    let rows = [
+        (
+            "09ffffff00ffffff80",
+            "Record(Each([Int(9), Variant(0, Some(Int(-128)))]))",
+        ),
+        (
+            "09ffffff01ffffff1800000002000000010005ff3000000001000000020000ff310000000000000061",
+            "Record(Each([Int(9), Variant(1, Some(List(Each([Record(Each([Int(1), Bool(true), Str(Text { chars: \"a\" })])), Record(Each([Int(2), Bool(false), Str(Text { chars: \"\" })]))]))))]))",
+        ),
+    ];
+    loads(&rt, alloc, &ty, &rows)
+}
+
+/// The number of a case in four bytes, and a result whose cases have no payload, or one of them.
+#[test]
+fn numbers_of_cases(rt: HostRuntime) -> Result<(), Fail> {
+    let alloc = rt.alloc();
+    let rows = [
+        ("00000100", "Variant(65536, None)"),
+        ("ffff0000", "Variant(65535, None)"),
+    ];
+    loads(&rt, alloc, &cases(alloc, 65537)?, &rows)?;
+    loads(
+        &rt,
+        alloc,
+        &cases(alloc, 65536)?,
+        &[("ffff01", "Variant(65535, None)")],
+    )?;
+    let ok = WitType::Result(Some(Rc::new(alloc, WitType::U16)?), None);
+    let rows = [
+        ("00ff0201", "Variant(0, Some(Int(258)))"),
+        ("01ff0201", "Variant(1, None)"),
+    ];
+    loads(&rt, alloc, &ok, &rows)?;
+    let err = WitType::Result(None, Some(Rc::new(alloc, WitType::U8)?));
+    let rows = [
+        ("0007", "Variant(0, None)"),
+        ("0107", "Variant(1, Some(Int(7)))"),
+    ];
+    loads(&rt, alloc, &err, &rows)
 }

@@ -30,6 +30,13 @@ fn numbers_of_cases(rt: HostRuntime) -> Result<(), Fail> {
     let alloc = rt.alloc();
     traps(&rt, alloc, &cases(alloc, 2)?, 8, &["02", "ff"])?;
     traps(&rt, alloc, &cases(alloc, 257)?, 8, &["0101", "ffff"])?;
+    traps(
+        &rt,
+        alloc,
+        &cases(alloc, 65537)?,
+        8,
+        &["01000100", "00000001"],
+    )?;
     traps(&rt, alloc, &option(alloc, WitType::U8)?, 8, &["02"])?;
     traps(
         &rt,
@@ -86,6 +93,28 @@ fn lists(rt: HostRuntime) -> Result<(), Fail> {
     traps(&rt, alloc, &list(alloc, WitType::U16)?, 8, &rows)?;
     let rows = ["0100010000000000", "ffff000002000000"];
     traps(&rt, alloc, &list(alloc, WitType::U8)?, 8, &rows)?;
+    // Aligned to four bytes alone; one item more than there is room for.
+    let rows = ["1400000000000000", "1400000001000000", "0800000000200000"];
+    traps(&rt, alloc, &list(alloc, WitType::U64)?, 8, &rows)?;
+    traps(
+        &rt,
+        alloc,
+        &list(alloc, WitType::Str)?,
+        8,
+        &["0a00000000000000"],
+    )?;
     let rows = ["100000000100000000d80000"];
     traps(&rt, alloc, &list(alloc, WitType::Char)?, 8, &rows)
+}
+
+/// A trap of a part is one of the whole: the second string is no UTF-8, the payload no case, the field no char.
+#[test]
+fn parts(rt: HostRuntime) -> Result<(), Fail> {
+    let alloc = rt.alloc();
+    let rows = ["10000000020000002000000001000000210000000100000061ff"];
+    traps(&rt, alloc, &list(alloc, WitType::Str)?, 8, &rows)?;
+    let inner = option(alloc, option(alloc, WitType::U8)?)?;
+    traps(&rt, alloc, &inner, 8, &["0102", "02"])?;
+    let types = vec![in alloc; WitType::U8, WitType::Char]?;
+    traps(&rt, alloc, &record(alloc, types)?, 8, &["00000000ffdf0000"])
 }
