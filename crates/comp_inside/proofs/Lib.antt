@@ -1,0 +1,6 @@
+pub mod Numbers
+pub mod Items
+pub mod Spaces
+pub mod Planned
+pub mod Linked
+pub mod Components
