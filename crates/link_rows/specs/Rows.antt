@@ -1,5 +1,5 @@
 -- What is seen of them, over a host that counts its calls.
-use Rattle.std.specs.Prelude.{ℕ, suc, ◌≡◌, List, [], ◌∷◌, pos, codes, Option, Some, None}
+use Rattle.std.specs.Prelude.{ℕ, suc, ◌+◌, ◌≡◌, List, [], ◌∷◌, pos, codes, Option, Some, None}
 use Rattle.wit_types.specs.Plain.{Plain, Parts, UnsignedType, FourBytes, End as NoParts, More as Part}
 use Rattle.wit_types.specs.PlainValue.{PlainValue, PlainValues, IntValue, End as NoValues, More as Values}
 use Rattle.host_port.specs.Calls.{PlainObservation, Called, Dropped, Returned, Trapped, Spent, Gives}
@@ -8,7 +8,10 @@ use Rattle.comp_grammar.specs.Trees.{Tree}
 use Rattle.comp_worlds.specs.Observed.{Call}
 use Rattle.comp_link.specs.Components.{component_obs}
 use Rattle.link_rows.specs.Trees.{reader, handing_on, dropper}
-use Rattle.link_rows.specs.Guards.{starting, calling_back, lending, drops_it}
+use Rattle.comp_link.specs.Plans.{plan_of}
+use Rattle.comp_inside.specs.Later.{StaysWhole}
+use Rattle.comp_inside.specs.Linked.{PlanKnows, unmade}
+use Rattle.link_rows.specs.Guards.{starting, calling_back, owning, lending, drops_it}
 
 abbrev pub counted : Option Plain → ℕ → Option PlainValue
 counted None n = None
@@ -66,3 +69,11 @@ pub record BorrowExamples : Type 0 where
   -- what is borrowed is dropped before the call returns
   pub dropped : runs (lending drops_it) 100 ≡ Returned None ∷ []
   pub kept : runs (lending []) 100 ≡ Trapped ∷ []
+
+-- inside another component, where seven resources are defined before
+abbrev pub seven_more : ℕ → ℕ
+seven_more r = 7 + r
+
+pub record InsideExamples : Type 0 where
+  pub stays : StaysWhole 1 owning
+  pub knows : PlanKnows seven_more (plan_of owning) (unmade owning)

@@ -1,7 +1,7 @@
 //! What is seen of small components, by examples that compute.
 #![tactic(auto)]
 
-ghost use Rattle.link_rows.specs.Rows.{ReaderExamples, NestedExamples, ResourceExamples, StartExamples, EnteredExamples, BorrowExamples};
+ghost use Rattle.link_rows.specs.Rows.{ReaderExamples, NestedExamples, ResourceExamples, StartExamples, EnteredExamples, BorrowExamples, InsideExamples};
 
 /// A component reads a clock, with its steps counted. It does nothing when it runs.
 #[tactic(auto, using(crate::proofs::Compute::reader_examples))]
@@ -37,4 +37,10 @@ pub fn entered_components_trap()
 #[tactic(auto, using(crate::proofs::Compute::borrow_examples))]
 pub fn borrows_end()
     ensures { BorrowExamples }
+{}
+
+/// The premises of the law of components in components can be met: a component with a resource meets them. It does nothing when it runs.
+#[tactic(auto, using(crate::proofs::Compute::inside_examples))]
+pub fn premises_are_met()
+    ensures { InsideExamples }
 {}
