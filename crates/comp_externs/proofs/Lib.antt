@@ -1,0 +1,5 @@
+pub mod AmongLemmas
+pub mod FaultLemmas
+pub mod NumberLemmas
+pub mod StandLemmas
+pub mod StatedLemmas

@@ -1,0 +1,15 @@
+use Rattle.std.proofs.Common.{◌≡◌, ◌∙◌, ap, sym, true}
+use Rattle.comp_rules.specs.Declarations.{ATypeExport}
+use Rattle.comp_rules.specs.Definitions.{AType}
+use Rattle.comp_rules.specs.Rules.{desc_stands, lengths_of}
+use Rattle.comp_describes.proofs.IndexLemmas.{indexes_fail}
+use Rattle.comp_externs.proofs.declares.define_type_export.Goals as goal
+
+pub returns-then-not-desc_stands : goal.returns-then-not-desc_stands
+returns-then-not-desc_stands c = λ around s h.
+    indexes_fail around s (AType (ATypeExport c.args.name.now c.args.desc)) (sym (c.if-not-desc_stands.ensures ∙ ap (λ l. desc_stands l c.args.desc) (c.lengths.ensures s h)))
+
+pub returns : goal.returns
+returns c = λ around s h.
+    let stands : desc_stands (lengths_of s) c.args.desc ≡ true = ap (λ l. desc_stands l c.args.desc) (sym (c.lengths.ensures s h)) ∙ sym c.if-not-desc_stands.ensures in
+    c.in_ok-rule.ensures around s h stands (c.in_ok-d.ensures s h)

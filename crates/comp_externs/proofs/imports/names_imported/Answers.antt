@@ -1,0 +1,12 @@
+use Rattle.std.proofs.Common.{◌∙◌, ap}
+use Rattle.std.specs.List.{list_all}
+use Rattle.comp_rules.specs.Resources.{is_among}
+use Rattle.comp_rules.specs.Rules.{named_in_desc}
+use Rattle.comp_externs.proofs.AmongLemmas.{all-distinct}
+use Rattle.comp_externs.proofs.imports.names_imported.Goals as goal
+
+pub returns : goal.returns
+returns c = λ s h.
+    c.are_among.ensures s.imported h.rest.imported
+    ∙ (ap (list_all (is_among s.imported)) (c.as_slice.ensures ∙ c.in_ok-found.ensures s h)
+    ∙ all-distinct (is_among s.imported) (named_in_desc s c.args.desc))

@@ -1,0 +1,6 @@
+use Rattle.std.proofs.Common.{◌∙◌, ap}
+use Rattle.comp_rules.specs.Resources.{without}
+use Rattle.comp_externs.proofs.numbering.own_resources.Goals as goal
+
+pub returns : goal.returns
+returns c = λ rs h. c.in_ok-own.ensures rs h ∙ ap (without rs) (c.as_slice.ensures ∙ c.in_ok-found.ensures)

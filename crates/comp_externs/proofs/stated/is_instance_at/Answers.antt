@@ -1,0 +1,16 @@
+use Rattle.std.proofs.Common.{subst, true}
+use Rattle.std.specs.Prelude.{Option, Some}
+use Rattle.std.specs.Bool.{Decides}
+use Rattle.comp_types.specs.Items.{InstanceItem, Kind}
+use Rattle.comp_rules.specs.Rules.{IsInstanceOf}
+use Rattle.comp_rules.specs.Types.{instance_in}
+use Rattle.comp_externs.proofs.StatedLemmas.{decides_nothing}
+use Rattle.comp_externs.proofs.stated.is_instance_at.Goals as goal
+
+pub returns-in-None : goal.returns-in-None
+returns-in-None c = λ s h.
+    subst (λ (o : Option Kind). Decides true (IsInstanceOf (Some (InstanceItem c.args.given.now.entries)) (instance_in o))) (c.in-None.ensures s h) (decides_nothing c.args.given.now.entries)
+
+pub returns-in_ok-fits-in-Some : goal.returns-in_ok-fits-in-Some
+returns-in_ok-fits-in-Some c = λ s h.
+    subst (λ (o : Option Kind). Decides c.in_ok-fits-in-Some.fits (IsInstanceOf (Some (InstanceItem c.args.given.now.entries)) (instance_in o))) (c.in-Some.ensures s h) c.in_ok-fits-in-Some.ensures

@@ -1,0 +1,36 @@
+use Rattle.std.proofs.Common.{sym, subst, true}
+use Rattle.std.specs.Prelude.{Some}
+use Rattle.std.specs.Bool.{Decides}
+use Rattle.comp_types.specs.declared.types.TypeItem.{TypeItem}
+use Rattle.comp_types.specs.declared.types.DeclaredInstance.{DeclaredInstance}
+use Rattle.comp_types.specs.Items.{InstanceItem, InstanceKind}
+use Rattle.comp_types.specs.Subtyping.{IsSubtype}
+use Rattle.comp_types.specs.Views.{kind_of}
+use Rattle.comp_rules.specs.Resources.{named_in_kind}
+use Rattle.comp_rules.specs.Rules.{IsInstanceOf, as_they_are}
+use Rattle.comp_rules.specs.Types.{instance_in}
+use Rattle.comp_externs.proofs.StatedLemmas.{decides_given, decides_nothing}
+use Rattle.comp_externs.proofs.stated.is_instance_of_kind.Goals as goal
+
+pub returns-in-Resource : goal.returns-in-Resource
+returns-in-Resource c =
+    subst (λ (k : TypeItem). Decides true (IsInstanceOf (Some (InstanceItem c.args.given.now.entries)) (instance_in (Some (kind_of k))))) (sym c.in-Resource.is) (decides_nothing c.args.given.now.entries)
+
+pub returns-in-Value : goal.returns-in-Value
+returns-in-Value c =
+    subst (λ (k : TypeItem). Decides true (IsInstanceOf (Some (InstanceItem c.args.given.now.entries)) (instance_in (Some (kind_of k))))) (sym c.in-Value.is) (decides_nothing c.args.given.now.entries)
+
+pub returns-in-Func : goal.returns-in-Func
+returns-in-Func c =
+    subst (λ (k : TypeItem). Decides true (IsInstanceOf (Some (InstanceItem c.args.given.now.entries)) (instance_in (Some (kind_of k))))) (sym c.in-Func.is) (decides_nothing c.args.given.now.entries)
+
+pub returns-in_ok-fits-in-Instance : goal.returns-in_ok-fits-in-Instance
+returns-in_ok-fits-in-Instance c =
+    let fits = c.in_ok-fits-in-Instance.fits in
+    let given = c.args.given.now.entries in
+    let ty = c.in-Instance.ty.value in
+    let es = ty.instance.value.entries in
+    let by = as_they_are (named_in_kind (InstanceKind ty.own es)) in
+    let d = subst (λ (t : DeclaredInstance). Decides fits (IsSubtype given t.instance.value.entries (as_they_are (named_in_kind (kind_of c.args.kind.now))))) c.deref.ensures c.in_ok-fits-in-Instance.ensures in
+    let e = subst (λ (k : TypeItem). Decides fits (IsSubtype given es (as_they_are (named_in_kind (kind_of k))))) c.in-Instance.is d in
+    subst (λ (k : TypeItem). Decides fits (IsInstanceOf (Some (InstanceItem given)) (instance_in (Some (kind_of k))))) (sym c.in-Instance.is) (decides_given fits given es by e)

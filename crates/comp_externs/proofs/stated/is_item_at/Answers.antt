@@ -1,0 +1,26 @@
+use Rattle.std.proofs.Common.{sym, subst, false}
+use Rattle.std.specs.Prelude.{Some}
+use Rattle.std.specs.Bool.{Decides}
+use Rattle.comp_types.specs.declared.types.ItemType.{ItemType}
+use Rattle.comp_types.specs.declared.types.InstanceType.{InstanceType}
+use Rattle.comp_types.specs.Items.{InstanceItem}
+use Rattle.comp_types.specs.Views.{item_of}
+use Rattle.comp_rules.specs.Rules.{IsInstanceOf}
+use Rattle.comp_rules.specs.Spaces.{kind_at}
+use Rattle.comp_rules.specs.Types.{instance_in}
+use Rattle.comp_externs.proofs.StatedLemmas.{decides_no_instance}
+use Rattle.comp_externs.proofs.stated.is_item_at.Goals as goal
+
+pub returns-in-Func : goal.returns-in-Func
+returns-in-Func c = λ s h.
+    subst (λ (i : ItemType). Decides false (IsInstanceOf (Some (item_of i)) (instance_in (kind_at s c.args.index)))) (sym c.in-Func.is) (decides_no_instance _ (instance_in (kind_at s c.args.index)) (λ es e. cc))
+
+pub returns-in-Kind : goal.returns-in-Kind
+returns-in-Kind c = λ s h.
+    subst (λ (i : ItemType). Decides false (IsInstanceOf (Some (item_of i)) (instance_in (kind_at s c.args.index)))) (sym c.in-Kind.is) (decides_no_instance _ (instance_in (kind_at s c.args.index)) (λ es e. cc))
+
+pub returns-in_ok-fits-in-Instance : goal.returns-in_ok-fits-in-Instance
+returns-in_ok-fits-in-Instance c = λ s h.
+    let fits = c.in_ok-fits-in-Instance.fits in
+    subst (λ (i : ItemType). Decides fits (IsInstanceOf (Some (item_of i)) (instance_in (kind_at s c.args.index)))) (sym c.in-Instance.is)
+    (subst (λ (t : InstanceType). Decides fits (IsInstanceOf (Some (InstanceItem t.entries)) (instance_in (kind_at s c.args.index)))) c.deref.ensures (c.in_ok-fits-in-Instance.ensures s h))
