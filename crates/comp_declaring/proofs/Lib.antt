@@ -1,0 +1,3 @@
+pub mod RestLemmas
+pub mod StepLemmas
+pub mod ClosingLemmas
