@@ -1,0 +1,4 @@
+pub mod EachLemmas
+pub mod PartLemmas
+pub mod TreeLemmas
+pub mod NestedLemmas

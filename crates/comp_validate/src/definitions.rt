@@ -1,0 +1,106 @@
+ghost use Rattle.std.specs.Prelude.{List, IfOk, map};
+ghost use Rattle.comp_rules.specs.Definitions.{ACanon, ACoreInstance, AnAlias, AnExport, AnImport, AnInstance};
+ghost use Rattle.comp_rules.specs.Spaces.{Space};
+ghost use Rattle.comp_around.specs.Around.{StandAll};
+ghost use Rattle.comp_around.specs.Judged.{JudgedEach, JudgedIn};
+
+use comp_around::Scopes;
+use comp_externs::{define_export, define_import};
+use comp_instances::{define_export_alias, define_instance};
+use comp_lifting::define_canon;
+use comp_outer::define_outer_alias;
+use comp_scopes::{define_core_alias, define_core_instance};
+use std::alloc::Global;
+use virt_base::NoMemory;
+use wasm_ast::{Alias, Canon, ComponentExport, ComponentImport, CoreInstance, Instance};
+
+/// An item of a section that is a definition.
+pub trait Defines {
+    ghost use Rattle.comp_rules.specs.Definitions.{Definition};
+
+    ghost definition: { Self → Definition };
+
+    /// The least rule that it breaks, or else it is added.
+    fn define(&self, alloc: Global, scopes: &mut Scopes) -> Result<Option<u32>, NoMemory>
+        ensures { IfOk result (λ rule. (around : List Space) → (s : Space) → StandAll around s scopes.old → JudgedIn around s (definition self.now) scopes.new rule) };
+}
+
+impl Defines for CoreInstance {
+    ghost definition = { λ i. ACoreInstance i };
+
+    fn define(&self, alloc: Global, scopes: &mut Scopes) -> Result<Option<u32>, NoMemory> {
+        define_core_instance(alloc, &mut scopes.inner, self)
+    }
+}
+
+impl Defines for Instance {
+    ghost definition = { λ i. AnInstance i };
+
+    fn define(&self, alloc: Global, scopes: &mut Scopes) -> Result<Option<u32>, NoMemory> {
+        define_instance(alloc, &mut scopes.inner, self)
+    }
+}
+
+impl Defines for Alias {
+    ghost definition = { λ a. AnAlias a };
+
+    fn define(&self, alloc: Global, scopes: &mut Scopes) -> Result<Option<u32>, NoMemory> {
+        match self {
+            Alias::Export {
+                sort,
+                instance,
+                name,
+            } => define_export_alias(&mut scopes.inner, *sort, *instance, name),
+            Alias::CoreExport {
+                sort,
+                instance,
+                name,
+            } => define_core_alias(&mut scopes.inner, *sort, *instance, name),
+            Alias::Outer { sort, count, index } => {
+                define_outer_alias(alloc, scopes, *sort, *count, *index)
+            }
+        }
+    }
+}
+
+impl Defines for Canon {
+    ghost definition = { λ c. ACanon c };
+
+    fn define(&self, alloc: Global, scopes: &mut Scopes) -> Result<Option<u32>, NoMemory> {
+        define_canon(alloc, &mut scopes.inner, self)
+    }
+}
+
+impl Defines for ComponentImport {
+    ghost definition = { λ i. AnImport i };
+
+    fn define(&self, alloc: Global, scopes: &mut Scopes) -> Result<Option<u32>, NoMemory> {
+        define_import(alloc, &mut scopes.inner, self)
+    }
+}
+
+impl Defines for ComponentExport {
+    ghost definition = { λ e. AnExport e };
+
+    fn define(&self, alloc: Global, scopes: &mut Scopes) -> Result<Option<u32>, NoMemory> {
+        define_export(alloc, &mut scopes.inner, self)
+    }
+}
+
+/// The definitions of a section in order: the least rule that the first at fault breaks, or else all of them are added.
+pub fn define_all<T: Defines>(
+    alloc: Global,
+    scopes: &mut Scopes,
+    items: &[T],
+) -> Result<Option<u32>, NoMemory>
+    ensures { IfOk result (λ rule. (around : List Space) → (s : Space) → StandAll around s scopes.old → JudgedEach around s (map T.definition items.now) scopes.new rule) }
+{
+    let mut rest = items;
+    while let Some((item, more)) = rest.split_first() {
+        if let Some(rule) = item.define(alloc, scopes)? {
+            return Ok(Some(rule));
+        }
+        rest = more;
+    }
+    Ok(None)
+}

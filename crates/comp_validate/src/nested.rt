@@ -1,0 +1,41 @@
+ghost use Rattle.std.specs.Prelude.{IfOk, OnOk};
+ghost use Rattle.comp_rules.specs.Added.{and_nested, nested_of};
+ghost use Rattle.comp_rules.specs.Spaces.{Space};
+ghost use Rattle.comp_scopes.specs.Stands.{IsNested, Stands};
+
+use comp_cores::Shared;
+use comp_externs::own_resources;
+use comp_scopes::{KnownComponent, Scope};
+use std::alloc::Global;
+use virt_base::NoMemory;
+
+/// What is kept of a component, by its scope.
+fn known_component(alloc: Global, inner: Scope) -> Result<KnownComponent, NoMemory>
+    ensures { IfOk result (λ known. (s : Space) → Stands s inner → IsNested (nested_of s) known) }
+{
+    let Scope {
+        imports,
+        exports,
+        imported,
+        ..
+    } = inner;
+    let exports = exports.into_entries();
+    let own = own_resources(alloc, &exports, &imported)?;
+    let imports = imports.into_entries();
+    Ok(KnownComponent {
+        imports,
+        exports,
+        own,
+    })
+}
+
+/// Adds the component whose scope this is.
+pub fn add_nested(alloc: Global, scope: &mut Scope, inner: Scope) -> Result<(), NoMemory>
+    ensures { OnOk result ((t s : Space) → Stands t scope.old → Stands s inner → Stands (and_nested t s) scope.new) }
+{
+    let next = inner.next;
+    let known = known_component(alloc, inner)?;
+    scope.add_component(Shared::new(alloc, known)?)?;
+    scope.next = next;
+    Ok(())
+}
