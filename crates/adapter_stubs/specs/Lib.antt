@@ -1,1 +1,4 @@
 pub mod Stub
+pub mod Widths
+pub mod Bodies
+pub mod Stubs

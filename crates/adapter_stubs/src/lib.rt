@@ -1,8 +1,17 @@
-//! The functions that the adapter exports.
+//! The core module of the functions that the adapter exports.
 #![tactic(auto)]
 
+mod bodies;
+mod functions;
 mod host_call;
+mod imports;
 mod laws;
+mod stub;
+mod stubs;
+mod types;
+mod widths;
 
 pub use host_call::HostCall;
 pub use laws::stubs_ask;
+pub use stub::{HostFunc, Stub};
+pub use stubs::stubs_module;

@@ -1,0 +1,77 @@
+// The locals of a stub.
+
+ghost use Rattle.std.specs.Prelude.{◌≡◌, ◌+◌, ◌++◌, IfOk, OnOk};
+ghost use Rattle.adapter_stubs.specs.Widths.{width_of as width_from, widths_of, width_at as width_in_turn, further, result_width as result_from, host_params, stub_widths as stub_widths_of};
+
+use crate::stub::{HostFunc, Stub};
+use adapter_code::Width;
+use std::alloc::Global;
+use virt_base::{CoreType, NoMemory};
+
+/// The widths of a stub's locals.
+pub fn stub_widths(alloc: Global, stub: &Stub) -> Result<Vec<Width>, NoMemory>
+    ensures { IfOk result (λ widths. widths.items ≡ stub_widths_of stub.now) }
+{
+    let mut widths = Vec::new(alloc);
+    put_widths(&mut widths, stub.flat.params.as_slice())?;
+    widths.push(Width::Narrow)?;
+    put_host(&mut widths, &stub.host)?;
+    widths.push(result_width(stub.flat.results.as_slice()))?;
+    put_further(&mut widths, stub.further)?;
+    Ok(widths)
+}
+
+fn put_widths(widths: &mut Vec<Width>, types: &[CoreType]) -> Result<(), NoMemory>
+    ensures { OnOk result (widths.new.items ≡ widths.old.items ++ widths_of types.now) }
+{
+    for ty in types {
+        widths.push(width_of(*ty))?;
+    }
+    Ok(())
+}
+
+fn put_host(widths: &mut Vec<Width>, host: &Option<HostFunc>) -> Result<(), NoMemory>
+    ensures { OnOk result (widths.new.items ≡ widths.old.items ++ widths_of (host_params host.now)) }
+{
+    match host {
+        Some(host) => put_widths(widths, host.flat.params.as_slice()),
+        None => Ok(()),
+    }
+}
+
+fn put_further(widths: &mut Vec<Width>, count: u32) -> Result<(), NoMemory>
+    ensures { OnOk result (widths.new.items ≡ widths.old.items ++ further 0 count) }
+{
+    for i in 0..count {
+        widths.push(width_at(i))?;
+    }
+    Ok(())
+}
+
+fn width_at(i: u32) -> Width
+    ensures { result ≡ width_in_turn i }
+{
+    if i % 2 == 0 {
+        Width::Narrow
+    } else {
+        Width::Broad
+    }
+}
+
+fn width_of(ty: CoreType) -> Width
+    ensures { result ≡ width_from ty }
+{
+    match ty {
+        CoreType::I64 => Width::Broad,
+        CoreType::I32 | CoreType::Funcref | CoreType::Externref => Width::Narrow,
+    }
+}
+
+fn result_width(results: &[CoreType]) -> Width
+    ensures { result ≡ result_from results.now }
+{
+    match results {
+        [first, ..] => width_of(*first),
+        [] => Width::Narrow,
+    }
+}
