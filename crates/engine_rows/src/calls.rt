@@ -1,7 +1,7 @@
 use outside::{Contents, MemFiles, MemSink, Named, Places};
 use std::alloc::Global;
 use std::test::Fail;
-use virt_base::{Bytes, Items, NoMemory, Text, copy_bytes};
+use virt_base::{Bytes, Items, NoMemory, Text, write_u32};
 use virt_engine::{code, wasi_virt};
 
 /// A component whose export `f` answers 7.
@@ -29,10 +29,22 @@ const SEVEN_OUT: [u8; 116] = [
 /// The place of the operand of `i32.const` in it.
 const OPERAND: usize = 42;
 
-fn named(alloc: Global, name: &str, bytes: &[u8]) -> Result<Named<Bytes>, NoMemory> {
+/// The component without sections (Component Model, Binary.md).
+const EMPTY: [u8; 8] = [0x00, 0x61, 0x73, 0x6d, 0x0d, 0x00, 0x01, 0x00];
+
+/// Its output: it stands in a section, and its instance behind it.
+const EMPTY_OUT: [u8; 24] = [
+    0x00, 0x61, 0x73, 0x6d, 0x0d, 0x00, 0x01, 0x00, 0x04, 0x08, 0x00, 0x61, 0x73, 0x6d, 0x0d, 0x00,
+    0x01, 0x00, 0x05, 0x04, 0x01, 0x00, 0x00, 0x00,
+];
+
+/// Where a section of the component above ends, so that what stands before is a component.
+const ENDS: [usize; 6] = [8, 44, 50, 59, 66, 74];
+
+fn named(alloc: Global, name: &str, bytes: Vec<u8>) -> Result<Named<Bytes>, NoMemory> {
     Ok(Named {
         name: Text::from_str(alloc, name)?,
-        value: copy_bytes(alloc, bytes)?,
+        value: Items::new(bytes),
     })
 }
 
@@ -53,6 +65,19 @@ fn files_of(
     alloc: Global,
     app: &[u8],
     policy: &[u8],
+    room: usize,
+    failing: &[u64],
+) -> Result<MemFiles, NoMemory> {
+    let app = Vec::from_slice(alloc, app)?;
+    let policy = Vec::from_slice(alloc, policy)?;
+    files_with(alloc, app, policy, room, failing)
+}
+
+/// The same of bytes that are not copied.
+fn files_with(
+    alloc: Global,
+    app: Vec<u8>,
+    policy: Vec<u8>,
     room: usize,
     failing: &[u64],
 ) -> Result<MemFiles, NoMemory> {
@@ -126,15 +151,33 @@ fn seven_is_wrapped(rt: HostRuntime) -> Result<(), Fail> {
 }
 
 #[test]
-fn every_cut_is_malformed(rt: HostRuntime) -> Result<(), Fail> {
+fn nothing_is_wrapped(rt: HostRuntime) -> Result<(), Fail> {
+    let ran = run_app(rt.alloc(), &EMPTY)?;
+    let line = b"done: 8 bytes in, 24 bytes out, 0 functions imported\n";
+    assert_eq!(rt; ran.code, 0);
+    assert_eq!(rt; ran.text.as_slice(), line.as_slice());
+    assert_eq!(rt;
+        ran.out.as_ref().map(|out| out.as_slice()),
+        Some(EMPTY_OUT.as_slice())
+    );
+    Ok(())
+}
+
+#[test]
+fn every_cut_is_done_or_malformed(rt: HostRuntime) -> Result<(), Fail> {
+    let alloc = rt.alloc();
+    let mut good = 0;
     for len in 0..SEVEN.len() {
-        let ran = run_app(rt.alloc(), &SEVEN[..len])?;
-        assert_eq!(rt; ran.code, 2, "cut to {len}");
-        assert_eq!(rt;
-            ran.text.as_slice(),
-            b"application refused: malformed at 0\n".as_slice()
-        );
-        assert!(rt; ran.out.is_none());
+        let ran = run_app(alloc, &SEVEN[..len])?;
+        if ENDS.contains(&len) {
+            good = len;
+            assert_eq!(rt; ran.code, 0, "cut to {len}");
+        } else {
+            let line = format!(in alloc; "application refused: malformed at {good}\n")?;
+            assert_eq!(rt; ran.code, 2, "cut to {len}");
+            assert_eq!(rt; ran.text.as_slice(), line.as_bytes());
+            assert!(rt; ran.out.is_none());
+        }
     }
     Ok(())
 }
@@ -171,15 +214,118 @@ fn a_size_may_have_another_spelling(rt: HostRuntime) -> Result<(), Fail> {
 }
 
 #[test]
-fn a_byte_behind_the_form_is_refused(rt: HostRuntime) -> Result<(), Fail> {
+fn a_byte_behind_the_sections_is_refused(rt: HostRuntime) -> Result<(), Fail> {
     let mut app = Vec::from_slice(rt.alloc(), &SEVEN)?;
     app.push(0)?;
     let ran = run_app(rt.alloc(), app.as_slice())?;
     assert_eq!(rt; ran.code, 2);
     assert_eq!(rt;
         ran.text.as_slice(),
-        b"application refused: malformed at 0\n".as_slice()
+        b"application refused: malformed at 83\n".as_slice()
     );
+    Ok(())
+}
+
+/// What stands in place of the last section of the component above, so that it exports the function `f`, an instance `i` with a
+/// function `g`, a type `t` and the function once more as `h`.
+const EACH_SORT: [u8; 41] = [
+    0x05, 0x08, 0x01, 0x01, 0x01, 0x00, 0x01, 0x67, 0x01, 0x00, 0x07, 0x02, 0x01, 0x7d, 0x0b, 0x19,
+    0x04, 0x00, 0x01, 0x66, 0x01, 0x00, 0x00, 0x00, 0x01, 0x69, 0x05, 0x00, 0x00, 0x00, 0x01, 0x74,
+    0x03, 0x01, 0x00, 0x00, 0x01, 0x68, 0x01, 0x00, 0x00,
+];
+
+/// What stands behind such an application in its output: its instance, four aliases and four exports (Component Model, Binary.md).
+/// wasmparser 0.245 says that the output is valid.
+const EACH_SORT_BACK: [u8; 56] = [
+    0x05, 0x04, 0x01, 0x00, 0x00, 0x00, 0x06, 0x15, 0x04, 0x01, 0x00, 0x00, 0x01, 0x66, 0x05, 0x00,
+    0x00, 0x01, 0x69, 0x03, 0x00, 0x00, 0x01, 0x74, 0x01, 0x00, 0x00, 0x01, 0x68, 0x0b, 0x19, 0x04,
+    0x00, 0x01, 0x66, 0x01, 0x00, 0x00, 0x00, 0x01, 0x69, 0x05, 0x01, 0x00, 0x00, 0x01, 0x74, 0x03,
+    0x00, 0x00, 0x00, 0x01, 0x68, 0x01, 0x01, 0x00,
+];
+
+#[test]
+fn exports_of_each_sort_are_there(rt: HostRuntime) -> Result<(), Fail> {
+    let alloc = rt.alloc();
+    let mut app = Vec::from_slice(alloc, &SEVEN[..74])?;
+    app.extend_from_slice(&EACH_SORT)?;
+    let mut out = Vec::from_slice(alloc, &EMPTY)?;
+    out.extend_from_slice(&[4, 115])?;
+    out.extend_from_slice(app.as_slice())?;
+    out.extend_from_slice(&EACH_SORT_BACK)?;
+    let ran = run_app(alloc, app.as_slice())?;
+    let line = b"done: 115 bytes in, 181 bytes out, 0 functions imported\n";
+    assert_eq!(rt; ran.code, 0);
+    assert_eq!(rt; ran.text.as_slice(), line.as_slice());
+    assert_eq!(rt;
+        ran.out.as_ref().map(|out| out.as_slice()),
+        Some(out.as_slice())
+    );
+    Ok(())
+}
+
+/// What is put for applications that are refused.
+#[test]
+fn applications_are_refused_with_their_cause(rt: HostRuntime) -> Result<(), Fail> {
+    let alloc = rt.alloc();
+    // the component above with another body, or with another canonical function
+    let mut float_add = Vec::from_slice(alloc, &SEVEN[..8])?;
+    float_add.extend_from_slice(&[0x01, 0x23])?;
+    float_add.extend_from_slice(&SEVEN[10..36])?;
+    float_add.extend_from_slice(&[0x0a, 0x07, 0x01, 0x05, 0x00, 0x41, 0x07, 0x92, 0x0b])?;
+    float_add.extend_from_slice(&SEVEN[44..])?;
+    let mut long_constant = SEVEN;
+    long_constant[41] = 0x42;
+    let mut other_type = SEVEN;
+    other_type[73] = 0x01;
+    // an instance type without entries, and an import of it; a resource, and an export of it
+    let importing =
+        b"\0asm\x0D\0\x01\0\x07\x03\x01\x42\x00\x0A\x1A\x01\x00\x15wasi:http/types@0.2.0\x05\x00";
+    let resource = b"\0asm\x0D\0\x01\0\x07\x04\x01\x3F\x7F\x00\x0B\x07\x01\x00\x01r\x03\x00\x00";
+    for (app, line) in [
+        (float_add.as_slice(), "unsupported at 43 byte 92"),
+        (long_constant.as_slice(), "invalid rule 1 section 0"),
+        (other_type.as_slice(), "invalid rule 3 section 4"),
+        (importing.as_slice(), "unlisted wasi:http/types@0.2.0"),
+        (resource.as_slice(), "handle-export r"),
+    ] {
+        let ran = run_app(alloc, app)?;
+        let line = format!(in alloc; "application refused: {line}\n")?;
+        assert_eq!(rt; ran.code, 2);
+        assert_eq!(rt; ran.text.as_slice(), line.as_bytes());
+        assert!(rt; ran.out.is_none());
+    }
+    Ok(())
+}
+
+/// Components without other sections, so many in one another.
+fn nested(alloc: Global, depth: usize) -> Result<Vec<u8>, NoMemory> {
+    let mut bytes = Vec::from_slice(alloc, &EMPTY)?;
+    for _ in 1..depth {
+        let mut outer = Vec::from_slice(alloc, &EMPTY)?;
+        outer.push(4)?;
+        write_u32(alloc, &mut outer, bytes.len() as u32)?;
+        outer.extend_from_slice(bytes.as_slice())?;
+        bytes = outer;
+    }
+    Ok(bytes)
+}
+
+#[test]
+fn a_hundred_components_stand_in_one_another(rt: HostRuntime) -> Result<(), Fail> {
+    let alloc = rt.alloc();
+    for (depth, exit, out) in [(100, 0, true), (101, 5, false)] {
+        let app = nested(alloc, depth)?;
+        let files = files_of(alloc, app.as_slice(), b"", 2_000, &[])?;
+        let ran = run_on(alloc, &WORDS, files, sink_of(alloc, &[])?)?;
+        assert_eq!(rt; ran.code, exit);
+        assert_eq!(rt; ran.out.is_some(), out);
+        if !out {
+            assert_eq!(rt;
+                ran.text.as_slice(),
+                b"over limit: nesting 101\n".as_slice()
+            );
+        }
+    }
     Ok(())
 }
 
@@ -337,7 +483,7 @@ fn a_limit_passes_and_one_more_is_refused(rt: HostRuntime) -> Result<(), Fail> {
     ] {
         let app: Vec<u8> = vec![in alloc; 255; app]?;
         let policy: Vec<u8> = vec![in alloc; 255; policy]?;
-        let files = files_of(alloc, app.as_slice(), policy.as_slice(), 200, &[])?;
+        let files = files_with(alloc, app, policy, 200, &[])?;
         let ran = run_on(alloc, &WORDS, files, sink_of(alloc, &[])?)?;
         assert_eq!(rt; ran.code, exit);
         assert_eq!(rt; ran.text.as_slice(), line);

@@ -1,7 +1,7 @@
 pub mod Adding
-pub mod ConstantGrammar
 pub mod Outputs
 pub mod WordLaws
 pub mod PolicyLaws
+pub mod AppFetching
 pub mod Planning
 pub mod Runs

@@ -1,68 +1,75 @@
--- The output of an application of the constant's form.
-use Rattle.std.proofs.Common.{rules, ◌≡◌, ℕ, ◌<◌, ◌^◌, List, [], ◌∷◌, ◌++◌, length, subst, refl, ap, append_assoc}
-use Rattle.std.specs.Prelude.{true}
-use Rattle.std.specs.Str.{is_utf8}
-use Rattle.std.proofs.lemmas.Str.{is_utf8-from_IsUtf8, IsUtf8-from_ascii}
-use Rattle.wasm_format.specs.Format.{sized, vec, u32_format, name}
-use Rattle.wasm_format.proofs.Laws.{IsExact, to_end, exact_both, exact_image, exact_fixed, exact_sized, exact_vec, anything_to_end}
-use Rattle.wasm_ast.specs.ComponentItems.{argument, instance, alias, extern_name, sort, stated_desc, component_export}
-use Rattle.wasm_ast.proofs.ComponentGrammar.{exact_instance, exact_alias, exact_component_export}
-use Rattle.wasm_ast.specs.declared.component.Instance.{Instance}
-use Rattle.wasm_ast.specs.declared.component.Alias.{Alias}
-use Rattle.wasm_ast.specs.declared.component.ComponentExport.{ComponentExport}
-use Rattle.virt_engine.specs.Constant.{section}
-use Rattle.virt_engine.specs.Output.{wrapped, preamble, behind_app, output_of, one_instance, one_alias, one_export, front_of, back_bytes, output_bytes, IsOutputOf}
+-- What is written is an output of the application.
+use Rattle.std.proofs.Common.{◌≡◌, ◌∙◌, refl, sym, ap, subst, ℕ, List, [], ◌∷◌, ◌++◌, length, false}
+use Rattle.std.specs.Prelude.{map}
+use Rattle.comp_types.specs.Items.{Entries, Signature, End, More}
+use Rattle.comp_grammar.specs.Trees.{Part, Tree, CoreModule, Nested, CoreInstances, Instances, Aliases, Types, Canons, Imports, Exports, Custom, End as NoSection, More as Section}
+use Rattle.comp_write.specs.Copying.{bare_part, bare, SpellsBare}
+use Rattle.comp_rules.specs.Added.{type_of}
+use Rattle.output_form.specs.Output.{exporting, output_tree}
+use Rattle.output_valid.specs.Holding.{and_inner, components_in}
+use Rattle.output_valid.proofs.Bare.{same_valid, same_type}
+use Rattle.output_valid.proofs.Outputs.{output_stands, same_types}
+use Rattle.virt_output.specs.Bytes.{back_bytes}
+use Rattle.virt_app.specs.Apps.{IsApp}
+use Rattle.virt_engine.specs.Output.{IsOutputOf, output_bytes}
 
-ruleset exact = (to_end, exact_both, exact_image, exact_fixed, exact_sized, exact_vec, anything_to_end)
+-- ---- the components of the outermost level, without places
 
-exact_behind_app : IsExact behind_app
-unfolding behind_app
-exact_behind_app = search (exact, exact_instance, exact_alias, exact_component_export) depth 24
+bare_inner : (part : Part) (rest : List Tree) → and_inner (bare_part part) (map bare rest) ≡ map bare (and_inner part rest)
+unfolding bare_part
+bare_inner (CoreModule span m) rest = refl
+bare_inner (Nested span inner) rest = refl
+bare_inner (CoreInstances items) rest = refl
+bare_inner (Instances items) rest = refl
+bare_inner (Aliases items) rest = refl
+bare_inner (Types items) rest = refl
+bare_inner (Canons items) rest = refl
+bare_inner (Imports items) rest = refl
+bare_inner (Exports items) rest = refl
+bare_inner (Custom span) rest = refl
 
-pub exact_wrapped : IsExact wrapped
-unfolding wrapped
-exact_wrapped = search (exact, exact_behind_app) depth 24
+bare_components : (t : Tree) → components_in (bare t) ≡ map bare (components_in t)
+unfolding bare
+bare_components NoSection = refl
+bare_components (Section part rest) = ap (and_inner (bare_part part)) (bare_components rest) ∙ bare_inner part (components_in rest)
 
-f_is_text : is_utf8 (102 ∷ []) ≡ true
-f_is_text = is_utf8-from_IsUtf8 (102 ∷ []) (IsUtf8-from_ascii (102 ∷ []) (search rules))
+none_exporting : (es : Entries) → components_in (exporting es) ≡ []
+none_exporting End = refl
+none_exporting (More name item rest) = refl
 
-pub instances_fit : (sized (vec instance)).Fits one_instance
-unfolding instance argument u32_format
-instances_fit = search rules
+-- an output holds one
+holds_one : (t : Tree) (es : Entries) → components_in (output_tree t es) ≡ t ∷ []
+holds_one t es = ap (λ (rest : List Tree). t ∷ rest) (none_exporting es)
 
-pub aliases_fit : (sized (vec alias)).Fits one_alias
-unfolding alias u32_format name
-aliases_fit = search (rules, f_is_text)
+only_one : (xs : List Tree) (y : Tree) → map bare xs ≡ y ∷ [] → (x : Tree) × (xs ≡ x ∷ [])
+only_one [] y e = absurd (cc)
+only_one (x ∷ []) y e = (x, refl)
+only_one (x ∷ x2 ∷ xs) y e = absurd (cc)
 
-pub exports_fit : (sized (vec component_export)).Fits one_export
-unfolding component_export extern_name sort stated_desc u32_format name
-exports_fit = search (rules, f_is_text)
+once : (t u : Tree) (es : Entries) → bare u ≡ bare (output_tree t es) → (x : Tree) × (components_in u ≡ x ∷ [])
+once t u es same =
+    only_one (components_in u) (bare t) (sym (bare_components u) ∙ ap components_in same ∙ bare_components (output_tree t es) ∙ ap (λ (xs : List Tree). map bare xs) (holds_one t es))
 
--- the three sections, one after another
-pub joined_back : (is : List Instance) (es : List ComponentExport) (ls : List Alias) (a b c d : List ℕ) → is ≡ one_instance → ls ≡ one_alias → es ≡ one_export
-    → a ≡ [] → b ≡ a ++ (section 5 (vec instance)).write is → c ≡ b ++ (section 6 (vec alias)).write ls → d ≡ c ++ (section 11 (vec component_export)).write es → d ≡ back_bytes
-unfolding back_bytes behind_app
-joined_back is es ls a b c d i l e f g h k =
-    rw (k, h, g, f, i, l, e) (append_assoc ((section 5 (vec instance)).write one_instance) ((section 6 (vec alias)).write one_alias) ((section 11 (vec component_export)).write one_export))
+-- ---- an output
 
-pub length-back : length back_bytes ≡ 23
-unfolding back_bytes behind_app instance argument alias component_export extern_name sort stated_desc u32_format name
-length-back = refl
+pub is_output : (app out : List ℕ) (tree : Tree) (ty : Signature) → IsApp app tree → ty ≡ type_of tree → out ≡ output_bytes app ty.exports → SpellsBare 0 (output_tree tree ty.exports) out → IsOutputOf app out
+is_output app out tree ty a is written spelled =
+    let exports = ap (λ (s : Signature). s.exports) is in
+    let found : SpellsBare 0 (output_tree tree (type_of tree).exports) out = subst (λ (es : Entries). SpellsBare 0 (output_tree tree es) out) exports spelled in
+    let stands = output_stands tree a.application.valid a.imports in
+    let one = once tree found.0 (type_of tree).exports found.2 in
+    let same = same_type (output_tree tree (type_of tree).exports) found.0 (sym found.2) in
+    record {
+      tree = tree;
+      application = a;
+      output = found.0;
+      spelled = found.1;
+      valid = same_valid (output_tree tree (type_of tree).exports) found.0 (sym found.2) stands.valid;
+      imports = ap (λ (s : Signature). s.imports) (sym same) ∙ stands.imports;
+      exports = ap (λ (s : Signature). s.exports) (sym same) ∙ same_types tree a.application.valid a.imports a.exports;
+      unchanged = record { inner = one.0; once = one.1; behind = back_bytes ty.exports; unchanged = written };
+    }
 
--- ---- what is written is an output
-
-wrapped_fits : (app : List ℕ) → length app < 2 ^ 32 → wrapped.Fits (output_of app)
-unfolding wrapped behind_app
-wrapped_fits app small = (refl, (refl, (refl, ((refl, (refl, (small, tt))), ((refl, (refl, instances_fit)), ((refl, (refl, aliases_fit)), (refl, (refl, exports_fit))))))))
-
-output_written : (app : List ℕ) → wrapped.write (output_of app) ≡ output_bytes app
-unfolding wrapped front_of back_bytes
-output_written app = ap (λ (z : List ℕ). preamble ++ (4 ∷ z)) (append_assoc (u32_format.write (length app)) app back_bytes)
-
-pub is_output : (app : List ℕ) → length app < 2 ^ 32 → IsOutputOf app (output_bytes app)
-is_output app small = record {
-  output = output_of app;
-  spelled = subst (λ (z : List ℕ). wrapped.Spells 0 (output_of app) z) (output_written app) (exact_wrapped.written (output_of app) 0 (wrapped_fits app small));
-  unchanged = refl;
-  same_answers = λ n s. refl;
-}
+-- the application's bytes spell it
+pub app_spelled : (app : List ℕ) (tree : Tree) → IsApp app tree → SpellsBare 0 tree app
+app_spelled app tree a = (tree, a.application.spelled.0.0, refl)

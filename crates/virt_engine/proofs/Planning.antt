@@ -1,93 +1,141 @@
 -- What reading all that a call needs comes to, from what its parts did.
 use Rattle.std.proofs.Common.{◌≡◌, ◌∙◌, refl, sym, ap, subst, ℕ, List, ◌++◌, length, true, inl, inr, Ok, Err, string_bytes}
-use Rattle.std.specs.Prelude.{Option, Some, None, IsSome, Contains, Result, Vec, codes}
-use Rattle.std.specs.declared.alloc.Global.{Global}
+use Rattle.std.specs.Prelude.{Option, Some, None, IsSome, Contains, Result, codes}
 use Rattle.outside.specs.Files.{FilesState, Held, Goes}
 use Rattle.outside.proofs.FailingLaws.{Rose-before}
 use Rattle.policy_data.specs.declared.policy.Policy.{Policy}
+use Rattle.policy_data.specs.declared.fault.ReadPolicyFault.{ReadPolicyFault}
 use Rattle.mount_tree.specs.Building.{trees_due}
+use Rattle.comp_types.specs.Items.{Signature}
+use Rattle.virt_engine.specs.declared.app.App.{App}
 use Rattle.virt_engine.specs.declared.plan.Ready.{Ready}
 use Rattle.virt_engine.specs.declared.status.Status.{Status}
 use Rattle.virt_engine.specs.declared.status.Status.TheVariants.{Done, PolicyRefused, AppRefused, FileFault, SinkFault, OverLimit, NoMemory, ScriptRefused, Trapped, ScriptEnded, StepsSpent, BadAnswer, TooDeep, Usage}
 use Rattle.virt_engine.specs.Command.{Command}
 use Rattle.virt_engine.specs.Fetching.{with_input, IsFileFault}
-use Rattle.virt_engine.specs.Policies.{policy_limit, policy_due, with_policy, PolicyCause, FetchesPolicy}
-use Rattle.virt_engine.specs.Apps.{app_limit, unless_form, app_verdict, HasApp, AppCause, FetchesApp}
+use Rattle.virt_engine.specs.Policies.{policy_limit, policy_due, with_policy, IsPolicyVerdict, HasPolicy, PolicyCause, FetchesPolicy}
+use Rattle.virt_engine.specs.Apps.{IsRefusedBy, IsAppFile, HasApp, HasTypedApp, HasRefused, AppCause, FetchesApp}
 use Rattle.virt_engine.specs.PolicyTrees.{trees_verdict, HasTrees, TreesCause, MakesTrees}
 use Rattle.virt_engine.specs.Line.{done_text, status_text}
-use Rattle.virt_engine.specs.Output.{output_bytes}
-use Rattle.virt_engine.specs.Plan.{verdict_under, verdict_of, RefusalOf, Plans}
+use Rattle.virt_engine.specs.Output.{IsOutputOf, output_bytes}
+use Rattle.virt_engine.specs.Plan.{IsPolicyFile, IsDueUnder, IsDueOf, NoFileDue, written_by, RefusalOf, Plans}
 use Rattle.virt_engine.proofs.Adding.{goes_on}
 
-file_there : (file : Option (List ℕ)) (what name : List ℕ) (limit : ℕ) (next : List ℕ → Status) → ¬ (IsFileFault (with_input file what limit name next)) → IsSome file
-file_there None what name limit next fine = absurd (fine tt)
-file_there (Some bytes) what name limit next fine = refl
+-- ---- files that are due
 
--- ---- the policy is not there, or is refused
+fault_named : (status : Status) → IsFileFault status → (name : List ℕ) × (status ≡ FileFault name)
+fault_named (FileFault name) h = (name, refl)
+fault_named Done h = absurd h
+fault_named (PolicyRefused fault) h = absurd h
+fault_named (AppRefused fault) h = absurd h
+fault_named SinkFault h = absurd h
+fault_named (OverLimit what value) h = absurd h
+fault_named NoMemory h = absurd h
+fault_named (ScriptRefused path) h = absurd h
+fault_named Trapped h = absurd h
+fault_named ScriptEnded h = absurd h
+fault_named StepsSpent h = absurd h
+fault_named BadAnswer h = absurd h
+fault_named TooDeep h = absurd h
+fault_named Usage h = absurd h
 
-module _ (c : Command) (s t : FilesState) where
-  refused_policy : (e : Status) → PolicyCause c.policy s t e → RefusalOf (verdict_of s.held c) c s t e
-  refused_policy (FileFault kept) h = (h.1, inl (h.0, h.2))
-  refused_policy NoMemory h = tt
-  refused_policy (OverLimit what value) h = (inl h.0, λ told. sym (h.1 told (verdict_under s.held c)))
-  refused_policy (PolicyRefused fault) h = λ told. sym (h told (verdict_under s.held c))
-  refused_policy Done h = absurd h
-  refused_policy (AppRefused fault) h = absurd h
-  refused_policy SinkFault h = absurd h
-  refused_policy (ScriptRefused path) h = absurd h
-  refused_policy Trapped h = absurd h
-  refused_policy ScriptEnded h = absurd h
-  refused_policy StepsSpent h = absurd h
-  refused_policy BadAnswer h = absurd h
-  refused_policy TooDeep h = absurd h
-  refused_policy Usage h = absurd h
+-- there, unless its absence is what is due
+there : (file : Option (List ℕ)) → (file ≡ None → ⊥) → IsSome file
+there None never = absurd (never refl)
+there (Some bytes) never = refl
 
-  policy_there : ¬ (IsFileFault (verdict_of s.held c)) → IsSome (s.held.file c.policy)
-  policy_there fine = file_there (s.held.file c.policy) (codes "policy-bytes") c.policy policy_limit (λ text. with_policy (policy_due text) (verdict_under s.held c)) fine
+policy_absent : (held : Held) (name : List ℕ) → held.file name ≡ None → IsPolicyVerdict held name (FileFault name)
+policy_absent held name none = λ next. ap (λ (file : Option (List ℕ)). with_input file (codes "policy-bytes") policy_limit name (λ text. with_policy (policy_due text) next)) none
 
-  pub plans_no_policy : (e : Status) → FetchesPolicy c.policy s t (Err e) → Plans c s t (Err e)
-  plans_no_policy e f = record {
-    goes = f.goes;
-    stays = f.stays;
-    ready = tt;
-    refusal = refused_policy e f.cause;
-    quiet = λ told steady fine. f.quiet told steady (policy_there fine);
-  }
+module _ (c : Command) (s : FilesState) where
+  policy_there : NoFileDue s.held c → IsSome (s.held.file c.policy)
+  policy_there fine = there (s.held.file c.policy) (λ none. fine c.policy (inl (policy_absent s.held c.policy none)))
+
+  -- ---- the policy is not there, or is refused
+
+  module _ (t : FilesState) where
+    refused_policy : (e : Status) → PolicyCause c.policy s t e → RefusalOf c s t e
+    refused_policy (FileFault kept) h = (h.1, inl (h.0, h.2))
+    refused_policy NoMemory h = tt
+    refused_policy (OverLimit what value) h = (inl h.0, λ told. inl (h.1 told))
+    refused_policy (PolicyRefused fault) h = λ told. inl (h told)
+    refused_policy Done h = absurd h
+    refused_policy (AppRefused fault) h = absurd h
+    refused_policy SinkFault h = absurd h
+    refused_policy (ScriptRefused path) h = absurd h
+    refused_policy Trapped h = absurd h
+    refused_policy ScriptEnded h = absurd h
+    refused_policy StepsSpent h = absurd h
+    refused_policy BadAnswer h = absurd h
+    refused_policy TooDeep h = absurd h
+    refused_policy Usage h = absurd h
+
+    pub plans_no_policy : (e : Status) → FetchesPolicy c.policy s t (Err e) → Plans c s t (Err e)
+    plans_no_policy e f = record {
+      goes = f.goes;
+      stays = f.stays;
+      ready = tt;
+      refusal = refused_policy e f.cause;
+      quiet = λ told steady fine. f.quiet told steady (policy_there fine);
+    }
 
 -- ---- behind the policy
 
+policy_file : (name : List ℕ) (s : FilesState) (policy : Policy) → HasPolicy name s policy → s.told ≡ true → IsPolicyFile s.held name policy
+policy_file name s policy h told = record { text = h.text; there = h.there told; short = h.short; well_formed = h.well_formed }
+
+app_file : (name : List ℕ) (s : FilesState) (bytes : List ℕ) → HasApp name s bytes → s.told ≡ true → IsAppFile s.held name bytes
+app_file name s bytes h told = record { there = h.there told; short = h.short; tree = h.tree; application = h.application }
+
 -- what is known of contents that stayed was known before
-app_before : (name : List ℕ) (s t : FilesState) (app : List ℕ) → t.held ≡ s.held → t.told ≡ s.told → HasApp name t app → HasApp name s app
-app_before name s t app stays told h = record {
+abbrev app_before : (name : List ℕ) (s t : FilesState) (bytes : List ℕ) → t.held ≡ s.held → t.told ≡ s.told → HasApp name t bytes → HasApp name s bytes
+app_before name s t bytes stays told h = record {
   short = h.short;
-  constant = h.constant;
-  form = h.form;
-  there = λ yes. subst (λ (held : Held). held.file name ≡ Some app) stays (h.there (told ∙ yes));
-  taken = λ yes. subst (λ (held : Held). (next : Status) → app_verdict held name next ≡ next) stays (h.taken (told ∙ yes));
+  tree = h.tree;
+  application = h.application;
+  there = λ yes. subst (λ (held : Held). held.file name ≡ Some bytes) stays (h.there (told ∙ yes));
 }
 
-module _ (c : Command) (policy : Policy) (s t : FilesState) (p : FetchesPolicy c.policy s t (Ok policy)) where
-  under : s.told ≡ true → verdict_of s.held c ≡ app_verdict t.held c.app (trees_verdict t.held policy Done)
-  under told = p.policy.taken told (verdict_under s.held c) ∙ ap (λ (held : Held). verdict_under held c policy) (sym p.stays)
+refused_before : (name : List ℕ) (s t : FilesState) (status : Status) → t.held ≡ s.held → t.told ≡ s.told → HasRefused name t status → HasRefused name s status
+refused_before name s t status stays told h = record {
+  bytes = h.bytes;
+  short = h.short;
+  refused = h.refused;
+  there = λ yes. subst (λ (held : Held). held.file name ≡ Some h.bytes) stays (h.there (told ∙ yes));
+}
 
+-- a refusal of the file's bytes is what the file calls for
+refused_here : (name : List ℕ) (s : FilesState) (status : Status) → HasRefused name s status → s.told ≡ true → IsRefusedBy (s.held.file name) name status
+refused_here name s status h told = subst (λ (file : Option (List ℕ)). IsRefusedBy file name status) (sym (h.there told)) (inr (h.short, h.refused))
+
+module _ (c : Command) (policy : Policy) (s t : FilesState) (p : FetchesPolicy c.policy s t (Ok policy)) where
   told_t : s.told ≡ true → t.told ≡ true
   told_t told = p.goes.told ∙ told
 
-  fine_under : s.told ≡ true → ¬ (IsFileFault (verdict_of s.held c)) → ¬ (IsFileFault (app_verdict t.held c.app (trees_verdict t.held policy Done)))
-  fine_under told fine = subst (λ (v : Status). ¬ (IsFileFault v)) (under told) fine
+  -- what is due behind the policy is due
+  under : s.told ≡ true → (status : Status) → IsDueUnder s.held c policy status → IsDueOf s.held c status
+  under told status h = inr (policy, policy_file c.policy s policy p.policy told, h)
 
-  quiet_policy : s.told ≡ true → s.steady ≡ true → ¬ (IsFileFault (verdict_of s.held c)) → t.faults ≡ s.faults
-  quiet_policy told steady fine = (p.quiet told steady (policy_there c s t fine)).0
+  quiet_policy : s.told ≡ true → s.steady ≡ true → NoFileDue s.held c → t.faults ≡ s.faults
+  quiet_policy told steady fine = (p.quiet told steady (policy_there c s fine)).0
+
+  app_there : s.told ≡ true → NoFileDue s.held c → IsSome (t.held.file c.app)
+  app_there told fine =
+      there (t.held.file c.app) (λ none.
+      fine c.app (under told (FileFault c.app) (inl (subst (λ (file : Option (List ℕ)). IsRefusedBy file c.app (FileFault c.app)) (sym (subst (λ (held : Held). held.file c.app ≡ None) p.stays none)) refl))))
 
   module _ (u : FilesState) where
-    refused_app : (e : Status) → AppCause c.app t u e → RefusalOf (verdict_of s.held c) c s u e
+    refused_app : (e : Status) → AppCause c.app t u e → RefusalOf c s u e
     refused_app (FileFault kept) h = (
       Rose-before s.faults t.faults u.faults p.goes.later h.1,
       inr (inl (policy, p.policy, h.0, λ told steady. subst (λ (held : Held). held.file c.app ≡ None) p.stays (h.2 (told_t told) (p.goes.steady steady)))),
     )
     refused_app NoMemory h = tt
-    refused_app (OverLimit what value) h = (inr (inl (h.0, h.1)), λ told. sym (under told ∙ h.2 (told_t told) (trees_verdict t.held policy Done)))
-    refused_app (AppRefused fault) h = λ told. sym (under told ∙ h.1 (told_t told) (trees_verdict t.held policy Done))
+    refused_app (OverLimit what value) h =
+        (inr (inl h.0), λ told. under told (OverLimit what value) (inl (subst (λ (held : Held). IsRefusedBy (held.file c.app) c.app (OverLimit what value)) p.stays (h.1 (told_t told)))))
+    refused_app (AppRefused fault) h =
+        let before = refused_before c.app s t (AppRefused fault) p.stays p.goes.told h in
+        (before, λ told. under told (AppRefused fault) (inl (refused_here c.app s (AppRefused fault) before told)))
     refused_app Done h = absurd h
     refused_app (PolicyRefused fault) h = absurd h
     refused_app SinkFault h = absurd h
@@ -98,9 +146,6 @@ module _ (c : Command) (policy : Policy) (s t : FilesState) (p : FetchesPolicy c
     refused_app BadAnswer h = absurd h
     refused_app TooDeep h = absurd h
     refused_app Usage h = absurd h
-
-    app_there : s.told ≡ true → ¬ (IsFileFault (verdict_of s.held c)) → IsSome (t.held.file c.app)
-    app_there told fine = file_there (t.held.file c.app) (codes "application-bytes") c.app app_limit (λ app. unless_form app (trees_verdict t.held policy Done)) (fine_under told fine)
 
     pub plans_no_app : (e : Status) → FetchesApp c.app t u (Err e) → Plans c s u (Err e)
     plans_no_app e f = record {
@@ -115,7 +160,7 @@ module _ (c : Command) (policy : Policy) (s t : FilesState) (p : FetchesPolicy c
 
     -- ---- behind the application
 
-    module _ (v : Vec ℕ Global) (f : FetchesApp c.app t u (Ok v)) (w : FilesState) where
+    module _ (app : App) (f : FetchesApp c.app t u (Ok app)) (w : FilesState) where
       told_u : s.told ≡ true → u.told ≡ true
       told_u told = f.goes.told ∙ told_t told
 
@@ -125,30 +170,35 @@ module _ (c : Command) (policy : Policy) (s t : FilesState) (p : FetchesPolicy c
       goes_u : Goes s u
       goes_u = goes_on s t u p.goes f.goes
 
-      has_app : HasApp c.app s v.items
-      has_app = app_before c.app s t v.items p.stays p.goes.told f.app
+      abbrev typed : HasTypedApp c.app t app
+      typed = f.app
 
-      trees_left : s.told ≡ true → verdict_of s.held c ≡ trees_verdict u.held policy Done
-      trees_left told = under told ∙ f.app.taken (told_t told) (trees_verdict t.held policy Done) ∙ ap (λ (held : Held). trees_verdict held policy Done) (sym f.stays)
+      abbrev has_app : HasApp c.app s app.bytes.items
+      has_app = app_before c.app s t app.bytes.items p.stays p.goes.told typed.0
 
-      quiet_app : s.told ≡ true → s.steady ≡ true → ¬ (IsFileFault (verdict_of s.held c)) → u.faults ≡ s.faults
+      -- what the trees call for is due
+      by_trees : s.told ≡ true → (status : Status) → trees_verdict u.held policy Done ≡ status → IsDueOf s.held c status
+      by_trees told status e =
+          under told status (inr (app.bytes.items, app_file c.app s app.bytes.items has_app told, subst (λ (held : Held). trees_verdict held policy Done ≡ status) stays_u e))
+
+      quiet_app : s.told ≡ true → s.steady ≡ true → NoFileDue s.held c → u.faults ≡ s.faults
       quiet_app told steady fine = (f.quiet (told_t told) (p.goes.steady steady) (app_there told fine)).0 ∙ quiet_policy told steady fine
 
-      fine_left : s.told ≡ true → ¬ (IsFileFault (verdict_of s.held c)) → ¬ (IsFileFault (trees_verdict u.held policy Done))
-      fine_left told fine = subst (λ (v : Status). ¬ (IsFileFault v)) (trees_left told) fine
+      fine_left : s.told ≡ true → NoFileDue s.held c → ¬ (IsFileFault (trees_verdict u.held policy Done))
+      fine_left told fine h = let named = fault_named (trees_verdict u.held policy Done) h in fine named.0 (by_trees told (FileFault named.0) named.1)
 
       module _ (q : Result (Unit {0}) Status) (m : MakesTrees policy u w q) where
-        quiet_trees : s.told ≡ true → s.steady ≡ true → ¬ (IsFileFault (verdict_of s.held c)) → w.faults ≡ s.faults
+        quiet_trees : s.told ≡ true → s.steady ≡ true → NoFileDue s.held c → w.faults ≡ s.faults
         quiet_trees told steady fine = (m.quiet (told_u told) (goes_u.steady steady) (fine_left told fine)).0 ∙ quiet_app told steady fine
 
-      refused_trees : (e : Status) → MakesTrees policy u w (Err e) → TreesCause policy u w e → RefusalOf (verdict_of s.held c) c s w e
+      refused_trees : (e : Status) → MakesTrees policy u w (Err e) → TreesCause policy u w e → RefusalOf c s w e
       refused_trees (FileFault kept) m h = (
         Rose-before s.faults u.faults w.faults goes_u.later h.0,
-        inr (inr (policy, p.policy, (v.items, has_app, λ told. subst (λ (held : Held). Contains (trees_due held policy).asks kept) stays_u (h.1 (told_u told)), λ told steady. trees_left told ∙ h.2 (told_u told) (goes_u.steady steady) Done))),
+        inr (inr (policy, p.policy, (app.bytes.items, has_app, λ told. subst (λ (held : Held). Contains (trees_due held policy).asks kept) stays_u (h.1 (told_u told)), λ told steady. by_trees told (FileFault kept) (h.2 (told_u told) (goes_u.steady steady) Done)))),
       )
       refused_trees NoMemory m h = tt
-      refused_trees (OverLimit what value) m h = (inr (inr (policy, u, (w, m))), λ told. sym (trees_left told ∙ h (told_u told) Done))
-      refused_trees (PolicyRefused fault) m h = λ told. sym (trees_left told ∙ h (told_u told) Done)
+      refused_trees (OverLimit what value) m h = (inr (inr (policy, u, (w, m))), λ told. by_trees told (OverLimit what value) (h (told_u told) Done))
+      refused_trees (PolicyRefused fault) m h = λ told. by_trees told (PolicyRefused fault) (h (told_u told) Done)
       refused_trees Done m h = absurd h
       refused_trees (AppRefused fault) m h = absurd h
       refused_trees SinkFault m h = absurd h
@@ -186,23 +236,21 @@ module _ (c : Command) (policy : Policy) (s t : FilesState) (p : FetchesPolicy c
           quiet = λ told steady fine. (quiet_trees (Ok tt) m told steady fine, λ (b : ⊥). b);
         }
 
-        pub due_done : s.told ≡ true → verdict_of s.held c ≡ Done
-        due_done told = trees_left told ∙ m.trees.taken (told_u told) Done
-
-        pub plans_ready : (ready : Ready) → ready.app.items ≡ v.items → ready.front.items ++ (ready.app.items ++ ready.back.items) ≡ output_bytes v.items
-            → string_bytes ready.done_line ≡ done_text (length v.items) (length (output_bytes v.items)) 0 → ready.fault ≡ FileFault c.out
+        pub plans_ready : (ready : Ready) → written_by ready ≡ output_bytes app.bytes.items app.ty.exports → IsOutputOf app.bytes.items (written_by ready)
+            → string_bytes ready.done_line ≡ done_text (length app.bytes.items) (length (written_by ready)) 0 → ready.fault ≡ FileFault c.out
             → string_bytes ready.fault_line ≡ status_text (FileFault c.out) → Plans c s w (Ok ready)
-        plans_ready ready same output done fault line = record {
+        plans_ready ready written output done fault line = record {
           goes = goes_on s u w goes_u m.goes;
           stays = m.stays ∙ stays_u;
           ready = record {
-            due = due_done;
             policy = policy;
             has_policy = p.policy;
-            has_app = subst (λ (items : List ℕ). HasApp c.app s items) (sym same) has_app;
+            app = app.bytes.items;
+            has_app = has_app;
             has_trees = has_trees;
-            output = output ∙ ap output_bytes (sym same);
-            done_line = done ∙ ap (λ (items : List ℕ). done_text (length items) (length (output_bytes items)) 0) (sym same);
+            bytes = written ∙ ap (λ (ty : Signature). output_bytes app.bytes.items ty.exports) typed.1;
+            output = output;
+            done_line = done;
             fault = fault;
             fault_line = line;
           };

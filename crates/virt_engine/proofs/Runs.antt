@@ -1,12 +1,16 @@
 -- A whole call, by what its parts did.
-use Rattle.std.proofs.Common.{◌≡◌, ◌≢◌, ℕ, ℤ, ◌≤◌, List, [], ◌++◌, length, true, false, refl, sym, ap, subst, ◌∙◌, inl, inr, arith, Ok, Err, string_bytes}
+use Rattle.std.proofs.Common.{◌≡◌, ◌≢◌, ℕ, ◌≤◌, ◌<◌, List, [], ◌++◌, length, true, false, refl, sym, ap, subst, ◌∙◌, inl, inr, arith, Ok, Err, string_bytes}
 use Rattle.std.specs.Prelude.{◌⊎◌, Option, Some, None, Result, codes}
 use Rattle.std.proofs.lemmas.Bool.{le-ltb}
 use Rattle.outside.specs.Fault.{Rose}
 use Rattle.outside.specs.Files.{FilesState, Held, with_file, no_place}
 use Rattle.outside.specs.Sink.{SinkState}
-use Rattle.virt_engine.specs.Constant.{SpellsConstant}
-use Rattle.virt_engine.proofs.ConstantGrammar.{spelled_constant}
+use Rattle.comp_grammar.specs.Trees.{Tree}
+use Rattle.comp_rules.specs.Added.{type_of}
+use Rattle.virt_base.specs.declared.fault.AppFault.{AppFault}
+use Rattle.virt_app.specs.declared.refusal.AppRefusal.TheVariants as refusals
+use Rattle.virt_app.specs.Apps.{IsApp}
+use Rattle.virt_app.proofs.AppLaws.{app_not_refused}
 use Rattle.virt_engine.specs.declared.plan.Ready.{Ready}
 use Rattle.virt_engine.specs.declared.status.Status.{Status}
 use Rattle.virt_engine.specs.declared.status.Status.TheVariants.{Done, PolicyRefused, AppRefused, FileFault, SinkFault, OverLimit, NoMemory, ScriptRefused, Trapped, ScriptEnded, StepsSpent, BadAnswer, TooDeep, Usage}
@@ -15,35 +19,34 @@ use Rattle.virt_engine.specs.Line.{status_text}
 use Rattle.virt_engine.specs.Output.{output_bytes}
 use Rattle.virt_engine.specs.Report.{Puts, Reports}
 use Rattle.virt_engine.specs.Writing.{LeftOf}
-use Rattle.virt_engine.specs.Fetching.{with_input, IsFileFault}
-use Rattle.virt_engine.specs.Policies.{policy_limit, policy_due, with_policy}
-use Rattle.virt_engine.specs.Apps.{app_limit, unless_form}
+use Rattle.virt_engine.specs.Fetching.{with_input}
+use Rattle.virt_engine.specs.Policies.{policy_limit, policy_due, with_policy, policy_verdict, IsPolicyVerdict}
+use Rattle.virt_engine.specs.Apps.{app_limit, Refuses, IsRefusedBy, IsAppFile}
 use Rattle.virt_engine.specs.PolicyTrees.{with_trees, trees_verdict}
-use Rattle.virt_engine.specs.Plan.{verdict_under, verdict_of, on_command, verdict, IsAccepted, Plans, IsReady, RefusalOf, Wrote, DueOf, FilesQuiet, Finishes, Ran, RanCommand, Completes, Accepts, Delivers}
+use Rattle.virt_engine.specs.Plan.{IsPolicyFile, IsDueUnder, IsDueOf, IsDueFor, IsDue, IsAccepted, NoFileDue, written_by, Plans, IsReady, RefusalOf, Wrote, DueOf, FilesQuiet, Finishes, Ran, RanCommand, Completes, Accepts, Delivers}
 use Rattle.policy_data.specs.declared.policy.Policy.{Policy}
 use Rattle.policy_data.specs.declared.fault.ReadPolicyFault.{ReadPolicyFault}
 use Rattle.mount_tree.specs.declared.policy_trees.Forest.{Forest}
 use Rattle.mount_tree.specs.declared.fault.TreeFault.{TreeFault}
 use Rattle.virt_engine.proofs.PolicyLaws.{well_formed_due}
 use Rattle.virt_engine.proofs.Adding.{goes_on}
-use Rattle.virt_engine.proofs.Outputs.{is_output}
 
--- ---- the verdict of words that name a command
+-- ---- what is due of words that name a command
 
-verdict-named : (held : Held) (words : List (List ℕ)) (c : Command) → command_of words ≡ Some c → verdict held words ≡ verdict_of held c
-verdict-named held words c named = ap (λ (o : Option Command). on_command o (verdict_of held)) named
+due_named : (held : Held) (words : List (List ℕ)) (c : Command) (status : Status) → command_of words ≡ Some c → IsDueOf held c status → IsDue held words status
+due_named held words c status named h = subst (λ (o : Option Command). IsDueFor held o status) (sym named) h
 
-no_fault_of : (held : Held) (words : List (List ℕ)) (c : Command) → command_of words ≡ Some c → ¬ (IsFileFault (verdict held words)) → ¬ (IsFileFault (verdict_of held c))
-no_fault_of held words c named none = subst (λ (v : Status). ¬ (IsFileFault v)) (verdict-named held words c named) none
+no_fault_of : (held : Held) (words : List (List ℕ)) (c : Command) → command_of words ≡ Some c → ((name : List ℕ) → ¬ (IsDue held words (FileFault name))) → NoFileDue held c
+no_fault_of held words c named none = λ name h. none name (due_named held words c (FileFault name) named h)
 
 -- ---- refused before any write
 
-due_of_refusal : (c : Command) (words : List (List ℕ)) (s t : FilesState) (e : Status) → command_of words ≡ Some c → t.held ≡ s.held → RefusalOf (verdict_of s.held c) c s t e → DueOf words s t e (status_text e)
+due_of_refusal : (c : Command) (words : List (List ℕ)) (s t : FilesState) (e : Status) → command_of words ≡ Some c → t.held ≡ s.held → RefusalOf c s t e → DueOf words s t e (status_text e)
 due_of_refusal c words s t (FileFault kept) named stays r = (c, named, refl, r.0, inl (stays, r.1))
 due_of_refusal c words s t NoMemory named stays r = (stays, refl)
-due_of_refusal c words s t (OverLimit what value) named stays r = (stays, refl, r.0, λ told. r.1 told ∙ sym (verdict-named s.held words c named))
-due_of_refusal c words s t (PolicyRefused fault) named stays r = (stays, refl, λ told. r told ∙ sym (verdict-named s.held words c named))
-due_of_refusal c words s t (AppRefused fault) named stays r = (stays, refl, λ told. r told ∙ sym (verdict-named s.held words c named))
+due_of_refusal c words s t (OverLimit what value) named stays r = (stays, refl, r.0, λ told. due_named s.held words c (OverLimit what value) named (r.1 told))
+due_of_refusal c words s t (PolicyRefused fault) named stays r = (stays, refl, λ told. due_named s.held words c (PolicyRefused fault) named (r told))
+due_of_refusal c words s t (AppRefused fault) named stays r = (stays, refl, (c, named, r.0), λ told. due_named s.held words c (AppRefused fault) named (r.1 told))
 due_of_refusal c words s t Done named stays r = absurd r
 due_of_refusal c words s t SinkFault named stays r = absurd r
 due_of_refusal c words s t (ScriptRefused path) named stays r = absurd r
@@ -71,13 +74,21 @@ abbrev wrote_of : (c : Command) (p : Ready) (s : FilesState) → IsReady c s p �
 wrote_of c p s r = record {
   policy = r.policy;
   has_policy = r.has_policy;
-  app = p.app.items;
+  app = r.app;
   has_app = r.has_app;
   has_trees = r.has_trees;
-  bytes = output_bytes p.app.items;
-  output = is_output p.app.items (omega (arith, r.has_app.short));
-  due = r.due;
+  bytes = written_by p;
+  output = r.output;
 }
+
+-- all was accepted
+done_is_due : (c : Command) (s : FilesState) (w : Wrote c s) → s.told ≡ true → IsDueOf s.held c Done
+done_is_due c s w told =
+    inr (
+      w.policy,
+      record { text = w.has_policy.text; there = w.has_policy.there told; short = w.has_policy.short; well_formed = w.has_policy.well_formed },
+      inr (w.app, record { there = w.has_app.there told; short = w.has_app.short; tree = w.has_app.tree; application = w.has_app.application }, w.has_trees.taken told Done),
+    )
 
 not_silent : (due : Status) (text : List ℕ) (k l : SinkState) (result : Status) → due ≢ NoMemory → Puts due text k l result → result ≡ NoMemory → ⊥
 not_silent due text k l result loud p e = elim p.put [
@@ -106,18 +117,19 @@ ran_finish c p s t u k l result q f words named =
     let wrote = wrote_of c p s ready in
     let told_t = λ (told : s.told ≡ true). q.goes.told ∙ told in
     let quiet : FilesQuiet words s u = λ told steady none fits.
-    let room = fits c named (ready.due told) in
+    let room = fits c named (done_is_due c s wrote told) in
     let first = (q.quiet told steady (no_fault_of s.held words c named none)).0 in
     let place : no_place t.held c.out ≡ false = subst (λ (h : Held). no_place h c.out ≡ false) (sym q.stays) room.0 in
-    let short : length (output_bytes p.app.items) ≤ t.held.room c.out = subst (λ (h : Held). length (output_bytes p.app.items) ≤ h.room c.out) (sym q.stays) (room.1 p.app.items (ready.has_app.there told)) in
-    let short' : length (p.front.items ++ (p.app.items ++ p.back.items)) ≤ t.held.room c.out = subst (λ (z : List ℕ). length z ≤ t.held.room c.out) (sym ready.output) short in
-    f.quiet (told_t told) (q.goes.steady steady) place short' ∙ first in
+    let short : length (output_bytes ready.app (type_of ready.has_app.tree).exports) ≤ t.held.room c.out =
+    subst (λ (h : Held). length (output_bytes ready.app (type_of ready.has_app.tree).exports) ≤ h.room c.out) (sym q.stays) (room.1 ready.app (ready.has_app.there told) ready.has_app.tree ready.has_app.application) in
+    let fitting : length (written_by p) ≤ t.held.room c.out = subst (λ (z : List ℕ). length z ≤ t.held.room c.out) (sym ready.bytes) short in
+    f.quiet (told_t told) (q.goes.steady steady) place fitting ∙ first in
     elim f.end [
       | inl w ↦ record {
         goes = goes_on s t u q.goes f.goes;
         due = Done;
         text = string_bytes p.done_line;
-        files = (c, named, (wrote, ready.done_line, λ told. held_then s t u c.out _ (output_bytes p.app.items) q.stays (w.0 (told_t told)) ready.output));
+        files = (c, named, (wrote, ready.done_line, λ told. held_then s t u c.out (written_by p) (written_by p) q.stays (w.0 (told_t told)) refl));
         report = inl w.1;
         kept = λ h. absurd (not_silent Done (string_bytes p.done_line) k l result done_is_loud w.1 h);
         quiet = quiet;
@@ -129,7 +141,7 @@ ran_finish c p s t u k l result q f words named =
             goes = goes_on s t u q.goes f.goes;
             due = FileFault c.out;
             text = status_text (FileFault c.out);
-            files = (c, named, refl, omega (arith, q.goes.later, w.0), inr (refl, (wrote, λ told. left_then s t u c.out _ (output_bytes p.app.items) q.stays (w.1 (told_t told)) ready.output)));
+            files = (c, named, refl, omega (arith, q.goes.later, w.0), inr (refl, (wrote, λ told. left_then s t u c.out (written_by p) (written_by p) q.stays (w.1 (told_t told)) refl)));
             report = inl puts;
             kept = λ h. absurd (not_silent (FileFault c.out) (status_text (FileFault c.out)) k l result (fault_is_loud c.out) puts h);
             quiet = quiet;
@@ -170,21 +182,22 @@ put_of due text k l result r quiet = elim r [
   | inr n ↦ inr n.0
 ]
 
-then : (result due is : Status) → due ≡ is → (result ≡ due) ⊎ (result ≡ NoMemory) → (result ≡ is) ⊎ (result ≡ NoMemory)
-then result due is e w = elim w [ inl a ↦ inl (a ∙ e) | inr b ↦ inr b ]
+-- what was due is due of the result, unless memory ran out
+then : (result due : Status) (held : Held) (words : List (List ℕ)) → IsDue held words due → (result ≡ due) ⊎ (result ≡ NoMemory) → IsDue held words result ⊎ (result ≡ NoMemory)
+then result due held words h w = elim w [ inl a ↦ inl (subst (λ (status : Status). IsDue held words status) (sym a) h) | inr b ↦ inr b ]
 
-none_left : (result is : Status) → (result ≡ NoMemory) ⊎ (result ≡ NoMemory) → (result ≡ is) ⊎ (result ≡ NoMemory)
-none_left result is w = elim w [ inl a ↦ inr a | inr b ↦ inr b ]
+none_left : (result : Status) (P : Type 0) → (result ≡ NoMemory) ⊎ (result ≡ NoMemory) → P ⊎ (result ≡ NoMemory)
+none_left result P w = elim w [ inl a ↦ inr a | inr b ↦ inr b ]
 
 by_due : (due : Status) (text : List ℕ) (words : List (List ℕ)) (s t : FilesState) (k l : SinkState) (result : Status)
     → DueOf words s t due text → Reports due text k l result → Completes words s t k l result
-by_due Done text words s t k l result d r told files sink = then result Done (verdict s.held words) (sym (verdict-named s.held words d.0 d.1 ∙ d.2.0.due told)) (put_of Done text k l result r sink)
+by_due Done text words s t k l result d r told files sink = then result Done s.held words (due_named s.held words d.0 Done d.1 (done_is_due d.0 s d.2.0 told)) (put_of Done text k l result r sink)
 by_due (FileFault name) text words s t k l result d r told files sink = absurd (files d.3)
-by_due NoMemory text words s t k l result d r told files sink = none_left result (verdict s.held words) (put_of NoMemory text k l result r sink)
-by_due (OverLimit what value) text words s t k l result d r told files sink = then result (OverLimit what value) (verdict s.held words) (d.3 told) (put_of (OverLimit what value) text k l result r sink)
-by_due (PolicyRefused fault) text words s t k l result d r told files sink = then result (PolicyRefused fault) (verdict s.held words) (d.2 told) (put_of (PolicyRefused fault) text k l result r sink)
-by_due (AppRefused fault) text words s t k l result d r told files sink = then result (AppRefused fault) (verdict s.held words) (d.2 told) (put_of (AppRefused fault) text k l result r sink)
-by_due Usage text words s t k l result d r told files sink = then result Usage (verdict s.held words) (sym (ap (λ (o : Option Command). on_command o (verdict_of s.held)) d.2)) (put_of Usage text k l result r sink)
+by_due NoMemory text words s t k l result d r told files sink = none_left result (IsDue s.held words result) (put_of NoMemory text k l result r sink)
+by_due (OverLimit what value) text words s t k l result d r told files sink = then result (OverLimit what value) s.held words (d.3 told) (put_of (OverLimit what value) text k l result r sink)
+by_due (PolicyRefused fault) text words s t k l result d r told files sink = then result (PolicyRefused fault) s.held words (d.2 told) (put_of (PolicyRefused fault) text k l result r sink)
+by_due (AppRefused fault) text words s t k l result d r told files sink = then result (AppRefused fault) s.held words (d.3 told) (put_of (AppRefused fault) text k l result r sink)
+by_due Usage text words s t k l result d r told files sink = then result Usage s.held words (subst (λ (o : Option Command). IsDueFor s.held o Usage) (sym d.2) refl) (put_of Usage text k l result r sink)
 by_due SinkFault text words s t k l result d r told files sink = absurd d
 by_due (ScriptRefused path) text words s t k l result d r told files sink = absurd d
 by_due Trapped text words s t k l result d r told files sink = absurd d
@@ -201,21 +214,80 @@ completes words s t k l result r = by_due r.due r.text words s t k l result r.fi
 input_here : (file : Option (List ℕ)) (bytes what name : List ℕ) (limit : ℕ) (next : List ℕ → Status) → file ≡ Some bytes → length bytes ≤ limit → with_input file what limit name next ≡ next bytes
 input_here file bytes what name limit next e short = rw (e, le-ltb _ _ short) refl
 
-form_here : (app : List ℕ) (n : ℤ) (next : Status) → SpellsConstant n app → unless_form app next ≡ next
-form_here app n next s = rw (spelled_constant app n s) refl
+-- a policy file's policy decides what is due
+policy_decides : (held : Held) (name : List ℕ) (policy : Policy) → IsPolicyFile held name policy → (next : Policy → Status) → policy_verdict held name next ≡ next policy
+policy_decides held name policy f next =
+    input_here (held.file name) f.text (codes "policy-bytes") name policy_limit (λ text. with_policy (policy_due text) next) f.there f.short
+    ∙ ap (λ (due : Result Policy ReadPolicyFault). with_policy due next) (well_formed_due f.text policy f.well_formed)
 
-accepted_due : (held : Held) (words : List (List ℕ)) → IsAccepted held words → verdict held words ≡ Done
-accepted_due held words a =
-    let c = a.command in
-    verdict-named held words c a.named
-    ∙ input_here (held.file c.policy) a.text (codes "policy-bytes") c.policy policy_limit (λ text. with_policy (policy_due text) (verdict_under held c)) a.given a.brief
-    ∙ ap (λ (due : Result Policy ReadPolicyFault). with_policy due (verdict_under held c)) (well_formed_due a.text a.policy a.well_formed)
-    ∙ input_here (held.file c.app) a.app (codes "application-bytes") c.app app_limit (λ app. unless_form app (trees_verdict held a.policy Done)) a.there a.short
-    ∙ form_here a.app a.constant (trees_verdict held a.policy Done) a.form
-    ∙ ap (λ (r : Result Forest TreeFault). with_trees r Done) a.trees
+done_or_usage : Done ≡ Usage → ⊥
+done_or_usage h = cc
+
+-- so it is not refused
+policy_taken : (held : Held) (name : List ℕ) (policy : Policy) (status : Status) → IsPolicyFile held name policy → IsPolicyVerdict held name status → ⊥
+policy_taken held name policy status f h =
+    done_or_usage (sym (policy_decides held name policy f (λ p. Done)) ∙ h (λ p. Done) ∙ sym (h (λ p. Usage)) ∙ policy_decides held name policy f (λ p. Usage))
+
+same_some : (a b : List ℕ) → Some a ≡ Some b → a ≡ b
+same_some a b e = cc
+
+same_ok : (a b : Policy) → ◌≡◌ {A = Result Policy ReadPolicyFault} (Ok a) (Ok b) → a ≡ b
+same_ok a b e = cc
+
+one_policy : (held : Held) (name : List ℕ) (a b : Policy) → IsPolicyFile held name a → IsPolicyFile held name b → a ≡ b
+one_policy held name a b f g =
+    let text : f.text ≡ g.text = same_some f.text g.text (sym f.there ∙ g.there) in
+    same_ok a b (sym (well_formed_due f.text a f.well_formed) ∙ ap policy_due text ∙ well_formed_due g.text b g.well_formed)
+
+fault_is_some : (fault : AppFault) → refusals.Refused fault ≡ refusals.NoMemory → ⊥
+fault_is_some fault h = cc
+
+depth_is_some : (depth : ℕ) → refusals.TooNested depth ≡ refusals.NoMemory → ⊥
+depth_is_some depth h = cc
+
+-- an application that may be wrapped is not refused
+refuses_none : (bytes : List ℕ) (tree : Tree) (status : Status) → IsApp bytes tree → Refuses bytes status → ⊥
+refuses_none bytes tree (AppRefused fault) a r = app_not_refused bytes tree (refusals.Refused fault) a (fault_is_some fault) r
+refuses_none bytes tree (OverLimit what value) a r = app_not_refused bytes tree (refusals.TooNested value) a (depth_is_some value) r.1
+refuses_none bytes tree Done a r = r
+refuses_none bytes tree (PolicyRefused fault) a r = r
+refuses_none bytes tree (FileFault name) a r = r
+refuses_none bytes tree SinkFault a r = r
+refuses_none bytes tree NoMemory a r = r
+refuses_none bytes tree (ScriptRefused path) a r = r
+refuses_none bytes tree Trapped a r = r
+refuses_none bytes tree ScriptEnded a r = r
+refuses_none bytes tree StepsSpent a r = r
+refuses_none bytes tree BadAnswer a r = r
+refuses_none bytes tree TooDeep a r = r
+refuses_none bytes tree Usage a r = r
+
+app_taken : (held : Held) (name bytes : List ℕ) (status : Status) → IsAppFile held name bytes → IsRefusedBy (held.file name) name status → ⊥
+app_taken held name bytes status f h = elim (subst (λ (file : Option (List ℕ)). IsRefusedBy file name status) f.there h) [
+  | inl long ↦ absurd (omega (arith, long.0, f.short))
+  | inr r ↦ refuses_none bytes f.tree status f.application r.1
+]
+
+accepted_under : (held : Held) (words : List (List ℕ)) (a : IsAccepted held words) (policy : Policy) (status : Status) → a.policy ≡ policy → IsDueUnder held a.command policy status → status ≡ Done
+accepted_under held words a policy status same h = elim h [
+  | inl r ↦ absurd (app_taken held a.command.app a.app status a.app_file r)
+  | inr w ↦ sym w.2 ∙ ap (λ (p : Policy). trees_verdict held p Done) (sym same) ∙ ap (λ (r : Result Forest TreeFault). with_trees r Done) a.trees
+]
+
+accepted_of : (held : Held) (words : List (List ℕ)) (a : IsAccepted held words) (status : Status) → IsDueOf held a.command status → status ≡ Done
+accepted_of held words a status h = elim h [
+  | inl r ↦ absurd (policy_taken held a.command.policy a.policy status a.policy_file r)
+  | inr w ↦ accepted_under held words a w.0 status (one_policy held a.command.policy a.policy w.0 a.policy_file w.1) w.2
+]
+
+accepted_due : (held : Held) (words : List (List ℕ)) → IsAccepted held words → (status : Status) → IsDue held words status → status ≡ Done
+accepted_due held words a status h = accepted_of held words a status (subst (λ (o : Option Command). IsDueFor held o status) a.named h)
 
 pub accepts : (words : List (List ℕ)) (s t : FilesState) (k l : SinkState) (result : Status) → Ran words s t k l result → Accepts words s t k l result
-accepts words s t k l result r told a files sink = then result (verdict s.held words) Done (accepted_due s.held words a) (completes words s t k l result r told files sink)
+accepts words s t k l result r told a files sink = elim (completes words s t k l result r told files sink) [
+  | inl due ↦ inl (accepted_due s.held words a result due)
+  | inr none ↦ inr none
+]
 
 -- ---- what Done says
 
@@ -226,16 +298,10 @@ delivers_by Done text words s t d e told =
       accepted = record {
         command = d.0;
         named = d.1;
-        text = w.has_policy.text;
-        given = w.has_policy.there told;
-        brief = w.has_policy.short;
         policy = w.policy;
-        well_formed = w.has_policy.well_formed;
+        policy_file = record { text = w.has_policy.text; there = w.has_policy.there told; short = w.has_policy.short; well_formed = w.has_policy.well_formed };
         app = w.app;
-        there = w.has_app.there told;
-        short = w.has_app.short;
-        constant = w.has_app.constant;
-        form = w.has_app.form;
+        app_file = record { there = w.has_app.there told; short = w.has_app.short; tree = w.has_app.tree; application = w.has_app.application };
         forest = w.has_trees.forest;
         trees = w.has_trees.made told;
       };

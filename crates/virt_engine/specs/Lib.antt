@@ -1,7 +1,6 @@
 pub mod Apps
 pub mod Code
 pub mod Command
-pub mod Constant
 pub mod Fetching
 pub mod Line
 pub mod Output

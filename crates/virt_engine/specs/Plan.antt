@@ -1,5 +1,5 @@
 -- What a call of `virt` comes to.
-use Rattle.std.specs.Prelude.{ℕ, ℤ, ◌≤◌, ◌<◌, ◌≡◌, ◌++◌, ◌⊎◌, List, [], true, false, Option, Some, None, Contains, length, codes}
+use Rattle.std.specs.Prelude.{ℕ, ◌≤◌, ◌<◌, ◌≡◌, ◌++◌, ◌⊎◌, List, [], true, false, Option, Some, None, Contains, length, codes}
 use Rattle.std.specs.Prelude.{Result, Ok, Err, IfErr, IfOk, string_bytes}
 use Rattle.outside.specs.Fault.{Rose}
 use Rattle.outside.specs.Files.{FilesState, Held, Goes, with_file, no_place}
@@ -8,7 +8,9 @@ use Rattle.policy_data.specs.declared.policy.Policy.{Policy}
 use Rattle.policy_toml.specs.Policy.{IsWellFormed}
 use Rattle.mount_tree.specs.declared.policy_trees.Forest.{Forest}
 use Rattle.mount_tree.specs.Building.{trees_due}
-use Rattle.virt_engine.specs.Constant.{SpellsConstant}
+use Rattle.comp_grammar.specs.Trees.{Tree}
+use Rattle.comp_rules.specs.Added.{type_of}
+use Rattle.virt_app.specs.Apps.{IsApp}
 use Rattle.virt_engine.specs.declared.status.Status.{Status}
 use Rattle.virt_engine.specs.declared.status.Status.TheVariants.{Done, PolicyRefused, AppRefused, FileFault, OverLimit, NoMemory, Usage}
 use Rattle.virt_engine.specs.declared.plan.Ready.{Ready}
@@ -16,45 +18,47 @@ use Rattle.virt_engine.specs.Command.{Command, command_of}
 use Rattle.virt_engine.specs.Line.{done_text, status_text}
 use Rattle.virt_engine.specs.Output.{IsOutputOf, output_bytes}
 use Rattle.virt_engine.specs.Fetching.{IsFileFault}
-use Rattle.virt_engine.specs.Policies.{policy_limit, policy_verdict, HasPolicy, IsPolicyOver}
-use Rattle.virt_engine.specs.Apps.{app_limit, app_verdict, HasApp}
+use Rattle.virt_engine.specs.Policies.{policy_limit, IsPolicyVerdict, HasPolicy, IsPolicyOver}
+use Rattle.virt_engine.specs.Apps.{app_limit, IsAppVerdict, IsAppFile, HasApp, HasRefused, IsAppOver}
 use Rattle.virt_engine.specs.PolicyTrees.{trees_verdict, HasTrees, MakesTrees}
 use Rattle.virt_engine.specs.Report.{Puts, Reports}
 use Rattle.virt_engine.specs.Writing.{LeftOf}
 
 -- ---- the definition: the status that files with these contents call for, in the order of refusals
 
--- behind the policy: the application, and then the policy's trees
-abbrev pub verdict_under : Held → Command → Policy → Status
-verdict_under held c policy = app_verdict held c.app (trees_verdict held policy Done)
+-- The file's text is a policy.
+pub record IsPolicyFile (held : Held) (name : List ℕ) (policy : Policy) : Type 0 where
+  pub text : List ℕ
+  pub there : held.file name ≡ Some text
+  pub short : length text ≤ policy_limit
+  pub well_formed : IsWellFormed text policy
 
-abbrev pub verdict_of : Held → Command → Status
-verdict_of held c = policy_verdict held c.policy (verdict_under held c)
+-- behind the policy: the application is refused, or the policy's trees decide
+abbrev pub IsDueUnder : Held → Command → Policy → Status → Type 0
+IsDueUnder held c policy status = IsAppVerdict held c.app status ⊎ ((app : List ℕ) × IsAppFile held c.app app × (trees_verdict held policy Done ≡ status))
 
-abbrev pub on_command : Option Command → (Command → Status) → Status
-on_command None next = Usage
-on_command (Some c) next = next c
+-- the policy is refused, or what is behind it decides
+abbrev pub IsDueOf : Held → Command → Status → Type 0
+IsDueOf held c status = IsPolicyVerdict held c.policy status ⊎ ((policy : Policy) × IsPolicyFile held c.policy policy × IsDueUnder held c policy status)
 
-abbrev pub verdict : Held → List (List ℕ) → Status
-verdict held words = on_command (command_of words) (verdict_of held)
+abbrev pub IsDueFor : Held → Option Command → Status → Type 0
+IsDueFor held None status = status ≡ Usage
+IsDueFor held (Some c) status = IsDueOf held c status
+
+abbrev pub IsDue : Held → List (List ℕ) → Status → Type 0
+IsDue held words status = IsDueFor held (command_of words) status
 
 -- ---- the same in words: which calls are accepted
 
--- The words name a policy within its limit whose text is well formed and whose trees can be made, and an application of
--- the constant's form within its limit.
+-- The words name a policy within its limit whose text is well formed and whose trees can be made, and within its limit an application
+-- that is a valid component, imports nothing, and exports nothing that speaks of a resource.
 pub record IsAccepted (held : Held) (words : List (List ℕ)) : Type 0 where
   pub command : Command
   pub named : command_of words ≡ Some command
-  pub text : List ℕ
-  pub given : held.file command.policy ≡ Some text
-  pub brief : length text ≤ policy_limit
   pub policy : Policy
-  pub well_formed : IsWellFormed text policy
+  pub policy_file : IsPolicyFile held command.policy policy
   pub app : List ℕ
-  pub there : held.file command.app ≡ Some app
-  pub short : length app ≤ app_limit
-  pub constant : ℤ
-  pub form : SpellsConstant constant app
+  pub app_file : IsAppFile held command.app app
   pub forest : Forest
   pub trees : (trees_due held policy).answer ≡ Ok forest
 
@@ -70,50 +74,59 @@ DueApp c s kept = (policy : Policy) × HasPolicy c.policy s policy × (kept ≡ 
 
 abbrev pub DueTree : Command → FilesState → List ℕ → Type 0
 DueTree c s kept = (policy : Policy) × HasPolicy c.policy s policy × ((app : List ℕ) × HasApp c.app s app × (s.told ≡ true → Contains (trees_due s.held policy).asks kept)
-    × (s.told ≡ true → s.steady ≡ true → verdict_of s.held c ≡ FileFault kept))
+    × (s.told ≡ true → s.steady ≡ true → IsDueOf s.held c (FileFault kept)))
 
 abbrev pub DueName : Command → FilesState → List ℕ → Type 0
 DueName c s kept = DuePolicy c s kept ⊎ DueApp c s kept ⊎ DueTree c s kept
 
 -- The quantity that is named is above its limit: of the policy, of the application, or of the trees of a policy.
 abbrev pub IsOver : List ℕ → ℕ → Type 0
-IsOver what value = IsPolicyOver what value ⊎ ((what ≡ codes "application-bytes") × (app_limit < value))
+IsOver what value = IsPolicyOver what value ⊎ IsAppOver what value
     ⊎ ((policy : Policy) × (s : FilesState) × ((t : FilesState) × MakesTrees policy s t (Err (OverLimit what value))))
 
 -- A refusal before any write: a fault that was counted, want of memory, or what the definition says.
-abbrev pub RefusalOf : Status → Command → FilesState → FilesState → Status → Type 0
-RefusalOf due c s t (FileFault kept) = Rose s.faults t.faults × DueName c s kept
-RefusalOf due c s t NoMemory = Unit {0}
-RefusalOf due c s t (OverLimit what value) = IsOver what value × (s.told ≡ true → OverLimit what value ≡ due)
-RefusalOf due c s t (PolicyRefused fault) = s.told ≡ true → PolicyRefused fault ≡ due
-RefusalOf due c s t (AppRefused fault) = s.told ≡ true → AppRefused fault ≡ due
-RefusalOf due c s t _ = ⊥
+abbrev pub RefusalOf : Command → FilesState → FilesState → Status → Type 0
+RefusalOf c s t (FileFault kept) = Rose s.faults t.faults × DueName c s kept
+RefusalOf c s t NoMemory = Unit {0}
+RefusalOf c s t (OverLimit what value) = IsOver what value × (s.told ≡ true → IsDueOf s.held c (OverLimit what value))
+RefusalOf c s t (PolicyRefused fault) = s.told ≡ true → IsDueOf s.held c (PolicyRefused fault)
+RefusalOf c s t (AppRefused fault) = HasRefused c.app s (AppRefused fault) × (s.told ≡ true → IsDueOf s.held c (AppRefused fault))
+RefusalOf c s t _ = ⊥
+
+-- What is written.
+abbrev pub written_by : Ready → List ℕ
+written_by p = p.front.items ++ (p.app.items ++ p.back.items)
 
 -- What is known once all was read: all that a call needs from then on, and no name has changed.
 pub record IsReady (c : Command) (s : FilesState) (p : Ready) : Type 0 where
-  pub due : s.told ≡ true → verdict_of s.held c ≡ Done
   pub policy : Policy
   pub has_policy : HasPolicy c.policy s policy
-  pub has_app : HasApp c.app s p.app.items
+  pub app : List ℕ
+  pub has_app : HasApp c.app s app
   pub has_trees : HasTrees policy s
-  pub output : p.front.items ++ (p.app.items ++ p.back.items) ≡ output_bytes p.app.items
-  pub done_line : string_bytes p.done_line ≡ done_text (length p.app.items) (length (output_bytes p.app.items)) 0
+  pub bytes : written_by p ≡ output_bytes app (type_of has_app.tree).exports
+  pub output : IsOutputOf app (written_by p)
+  pub done_line : string_bytes p.done_line ≡ done_text (length app) (length (written_by p)) 0
   pub fault : p.fault ≡ FileFault c.out
   pub fault_line : string_bytes p.fault_line ≡ status_text (FileFault c.out)
+
+-- no file that is due is absent
+abbrev pub NoFileDue : Held → Command → Type 0
+NoFileDue held c = (name : List ℕ) → ¬ (IsDueOf held c (FileFault name))
 
 pub record Plans (c : Command) (s t : FilesState) (r : Result Ready Status) : Type 0 where
   pub goes : Goes s t
   pub stays : t.held ≡ s.held
   pub ready : IfOk r (IsReady c s)
-  pub refusal : IfErr r (RefusalOf (verdict_of s.held c) c s t)
-  pub quiet : s.told ≡ true → s.steady ≡ true → ¬ (IsFileFault (verdict_of s.held c)) → (t.faults ≡ s.faults) × IfErr r (λ e. ¬ (IsFileFault e))
+  pub refusal : IfErr r (RefusalOf c s t)
+  pub quiet : s.told ≡ true → s.steady ≡ true → NoFileDue s.held c → (t.faults ≡ s.faults) × IfErr r (λ e. ¬ (IsFileFault e))
 
 -- What writing the output and putting its text does: both were due, or the write failed and its fault is reported.
 pub record Finishes (name : List ℕ) (p : Ready) (s t : FilesState) (k l : SinkState) (result : Status) : Type 0 where
   pub goes : Goes s t
-  pub end : ((s.told ≡ true → t.held ≡ with_file s.held name (Some (p.front.items ++ (p.app.items ++ p.back.items)))) × Puts Done (string_bytes p.done_line) k l result)
-      ⊎ (Rose s.faults t.faults × (s.told ≡ true → LeftOf name (p.front.items ++ (p.app.items ++ p.back.items)) s.held t.held) × Puts p.fault (string_bytes p.fault_line) k l result)
-  pub quiet : s.told ≡ true → s.steady ≡ true → no_place s.held name ≡ false → length (p.front.items ++ (p.app.items ++ p.back.items)) ≤ s.held.room name → t.faults ≡ s.faults
+  pub end : ((s.told ≡ true → t.held ≡ with_file s.held name (Some (written_by p))) × Puts Done (string_bytes p.done_line) k l result)
+      ⊎ (Rose s.faults t.faults × (s.told ≡ true → LeftOf name (written_by p) s.held t.held) × Puts p.fault (string_bytes p.fault_line) k l result)
+  pub quiet : s.told ≡ true → s.steady ≡ true → no_place s.held name ≡ false → length (written_by p) ≤ s.held.room name → t.faults ≡ s.faults
 
 -- ---- the whole call
 
@@ -126,7 +139,6 @@ pub record Wrote (c : Command) (s : FilesState) : Type 0 where
   pub has_trees : HasTrees policy s
   pub bytes : List ℕ
   pub output : IsOutputOf app bytes
-  pub due : s.told ≡ true → verdict_of s.held c ≡ Done
 
 -- Why a status was due with this text, and what has become of the files.
 abbrev pub DueOf : List (List ℕ) → FilesState → FilesState → Status → List ℕ → Type 0
@@ -135,20 +147,21 @@ DueOf words s t Done text = (c : Command) × (command_of words ≡ Some c) × ((
 DueOf words s t (FileFault kept) text = (c : Command) × (command_of words ≡ Some c) × (text ≡ status_text (FileFault kept)) × Rose s.faults t.faults
     × (((t.held ≡ s.held) × DueName c s kept) ⊎ ((kept ≡ c.out) × ((w : Wrote c s) × (s.told ≡ true → LeftOf c.out w.bytes s.held t.held))))
 DueOf words s t NoMemory text = (t.held ≡ s.held) × (text ≡ [])
-DueOf words s t (OverLimit what value) text = (t.held ≡ s.held) × (text ≡ status_text (OverLimit what value)) × IsOver what value × (s.told ≡ true → OverLimit what value ≡ verdict s.held words)
-DueOf words s t (PolicyRefused fault) text = (t.held ≡ s.held) × (text ≡ status_text (PolicyRefused fault)) × (s.told ≡ true → PolicyRefused fault ≡ verdict s.held words)
-DueOf words s t (AppRefused fault) text = (t.held ≡ s.held) × (text ≡ status_text (AppRefused fault)) × (s.told ≡ true → AppRefused fault ≡ verdict s.held words)
+DueOf words s t (OverLimit what value) text = (t.held ≡ s.held) × (text ≡ status_text (OverLimit what value)) × IsOver what value × (s.told ≡ true → IsDue s.held words (OverLimit what value))
+DueOf words s t (PolicyRefused fault) text = (t.held ≡ s.held) × (text ≡ status_text (PolicyRefused fault)) × (s.told ≡ true → IsDue s.held words (PolicyRefused fault))
+DueOf words s t (AppRefused fault) text = (t.held ≡ s.held) × (text ≡ status_text (AppRefused fault))
+    × ((c : Command) × (command_of words ≡ Some c) × HasRefused c.app s (AppRefused fault)) × (s.told ≡ true → IsDue s.held words (AppRefused fault))
 DueOf words s t Usage text = (t ≡ s) × (text ≡ status_text Usage) × (command_of words ≡ None)
 DueOf words s t _ text = ⊥
 
 -- The output has a place and room, where one is due.
 abbrev pub OutputFits : Held → Command → Type 0
-OutputFits held c = (no_place held c.out ≡ false) × ((app : List ℕ) → held.file c.app ≡ Some app → length (output_bytes app) ≤ held.room c.out)
+OutputFits held c = (no_place held c.out ≡ false) × ((app : List ℕ) → held.file c.app ≡ Some app → (tree : Tree) → IsApp app tree → length (output_bytes app (type_of tree).exports) ≤ held.room c.out)
 
 -- Over steady files no fault is provoked: each file that is due is there, and the output has its place and room.
 abbrev pub FilesQuiet : List (List ℕ) → FilesState → FilesState → Type 0
-FilesQuiet words s t = s.told ≡ true → s.steady ≡ true → ¬ (IsFileFault (verdict s.held words))
-    → ((c : Command) → command_of words ≡ Some c → verdict_of s.held c ≡ Done → OutputFits s.held c) → t.faults ≡ s.faults
+FilesQuiet words s t = s.told ≡ true → s.steady ≡ true → ((name : List ℕ) → ¬ (IsDue s.held words (FileFault name)))
+    → ((c : Command) → command_of words ≡ Some c → IsDueOf s.held c Done → OutputFits s.held c) → t.faults ≡ s.faults
 
 pub record Ran (words : List (List ℕ)) (s t : FilesState) (k l : SinkState) (result : Status) : Type 0 where
   pub goes : Goes s t
@@ -169,7 +182,7 @@ RanCommand c s t k l result = (words : List (List ℕ)) → command_of words ≡
 -- Where no count rose, the status is the one that the contents call for, or memory ran out.
 abbrev pub Completes : List (List ℕ) → FilesState → FilesState → SinkState → SinkState → Status → Type 0
 Completes words s t k l result = s.told ≡ true → ¬ (Rose s.faults t.faults) → ¬ (Rose k.faults l.faults)
-    → (result ≡ verdict s.held words) ⊎ (result ≡ NoMemory)
+    → IsDue s.held words result ⊎ (result ≡ NoMemory)
 
 -- Where the call is to be accepted and no count rose, it is done, or memory ran out.
 abbrev pub Accepts : List (List ℕ) → FilesState → FilesState → SinkState → SinkState → Status → Type 0

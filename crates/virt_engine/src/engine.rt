@@ -70,8 +70,9 @@ fn run_words<F: Files, S: Sink>(alloc: Global, words: &[Text], files: &mut F, ou
 
 /// Does what the words behind the program's name say: `virt APP -p POLICY -o OUT`, the options in any order and form,
 /// writes to OUT the component APP in its adapter, and puts one line that says what came of it. POLICY is read whole, and
-/// its trees are made of what it writes out and of the files and folders that it names. For now APP has the constant's
-/// form; other commands are usage errors.
+/// its trees are made of what it writes out and of the files and folders that it names. APP is any valid component that
+/// imports nothing and exports neither a resource type nor a handle; one that imports something is unlisted for now, and
+/// other commands are usage errors.
 pub fn wasi_virt<F: Files, S: Sink>(
     alloc: Global,
     words: &[Text],
@@ -81,7 +82,7 @@ pub fn wasi_virt<F: Files, S: Sink>(
     // why the status was due, what was put for it, and what has become of the files
     ensures ran { Ran words.now (F.state files.old) (F.state files.new) (S.state out.old) (S.state out.new) result }
 
-    // the status is the one that the contents call for, where nothing failed
+    // the status is one that the contents call for, where nothing failed
     ensures complete { Completes words.now (F.state files.old) (F.state files.new) (S.state out.old) (S.state out.new) result }
     ensures accepts { Accepts words.now (F.state files.old) (F.state files.new) (S.state out.old) (S.state out.new) result }
     ensures delivers { (F.state files.old).told ≡ true → result ≡ Status.Done → Delivers words.now (F.state files.old) (F.state files.new) }

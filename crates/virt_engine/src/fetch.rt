@@ -14,7 +14,7 @@ fn file_fault(alloc: Global, name: &Text) -> Status
     }
 }
 
-fn over_limit(alloc: Global, what: &str, value: u64) -> Status
+pub fn over_limit(alloc: Global, what: &str, value: u64) -> Status
     ensures { IsOverLimitOf what.now value result }
 {
     match Text::from_str(alloc, what) {

@@ -3,11 +3,9 @@
 
 mod app;
 mod command;
-mod constant;
 mod engine;
 mod fetch;
 mod line;
-mod output;
 mod plan;
 mod policy;
 mod report;

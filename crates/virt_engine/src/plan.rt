@@ -1,20 +1,23 @@
-ghost use Rattle.std.specs.Prelude.{◌≡◌, ◌≤◌, ◌++◌, IfOk, length, string_bytes};
+ghost use Rattle.std.specs.Prelude.{◌≡◌, ◌≤◌, IfOk, List, ℕ, length, string_bytes};
 ghost use Rattle.virt_engine.specs.Apps.{app_limit};
 ghost use Rattle.virt_engine.specs.Command.{names_of};
 ghost use Rattle.virt_engine.specs.Line.{done_text, status_text};
 ghost use Rattle.virt_engine.specs.Output.{output_bytes};
-ghost use Rattle.virt_engine.specs.Plan.{Plans};
+ghost use Rattle.virt_engine.specs.Plan.{Plans, written_by};
+ghost use Rattle.comp_grammar.specs.Trees.{Tree};
+ghost use Rattle.comp_write.specs.Copying.{SpellsBare};
+ghost use Rattle.output_form.specs.Output.{output_tree};
 
-use crate::app::fetch_app;
+use crate::app::{App, fetch_app};
 use crate::command::Names;
 use crate::line::{done_line, line_of};
-use crate::output::pieces_around;
 use crate::policy::fetch_policy;
 use crate::status::Status;
 use crate::trees::make_trees;
 use outside::Files;
 use std::alloc::{AllocError, Global};
 use virt_base::{NoMemory, Text};
+use virt_output::write_around;
 
 /// All that a call needs once both files were read: the parts of the output, and the text of each end.
 #[derive(Drop)]
@@ -46,22 +49,27 @@ fn lines_for(
     Ok((done, fault, line))
 }
 
-/// The parts of the output of an application, and the texts of a call that writes it.
-fn ready_for(alloc: Global, app: Vec<u8>, out: &Text) -> Result<Ready, NoMemory>
-    requires { length app.items ≤ app_limit }
-    ensures app { IfOk result (λ p. p.app.items ≡ app.items) }
-    ensures output { IfOk result (λ p. p.front.items ++ (p.app.items ++ p.back.items) ≡ output_bytes app.items) }
-    ensures done { IfOk result (λ p. string_bytes p.done_line ≡ done_text (length app.items) (length (output_bytes app.items)) 0) }
+/// The parts of the output of an application, and the texts of a call that writes it. An output that no size can tell is want of
+/// memory: its application has more exports, or longer names, than the limit on applications lets in.
+fn ready_for(alloc: Global, app: App, out: &Text) -> Result<Ready, NoMemory>
+    requires { length app.bytes.items ≤ app_limit }
+    ensures app { IfOk result (λ p. p.app.items ≡ app.bytes.items) }
+    ensures output { IfOk result (λ p. written_by p ≡ output_bytes app.bytes.items app.ty.exports) }
+    ensures spelled { IfOk result (λ p. (t : Tree) → SpellsBare 0 t app.bytes.items → SpellsBare 0 (output_tree t app.ty.exports) (written_by p)) }
+    ensures done { IfOk result (λ p. string_bytes p.done_line ≡ done_text (length app.bytes.items) (length (written_by p)) 0) }
     ensures fault { IfOk result (λ p. p.fault ≡ Status.FileFault out.now) }
     ensures line { IfOk result (λ p. string_bytes p.fault_line ≡ status_text (Status.FileFault out.now)) }
 {
-    let pieces = pieces_around(alloc, app.as_slice())?;
-    let out_bytes = pieces.front.len() + app.len() + pieces.back.len();
+    let App { bytes: app, ty } = app;
+    let Ok(around) = write_around(alloc, app.len(), &ty.exports) else {
+        return Err(NoMemory);
+    };
+    let out_bytes = around.front.len() + app.len() + around.back.len();
     let (done_line, fault, fault_line) = lines_for(alloc, out, app.len(), out_bytes)?;
     Ok(Ready {
-        front: pieces.front,
+        front: around.front,
         app,
-        back: pieces.back,
+        back: around.back,
         done_line,
         fault,
         fault_line,

@@ -1,4 +1,5 @@
 use Rattle.std.proofs.Common.{rules}
+use Rattle.virt_engine.proofs.Outputs.{is_output, app_spelled}
 use Rattle.virt_engine.proofs.Planning.{plans_no_policy, plans_no_app, plans_no_trees, plans_ready, leaves}
 use Rattle.virt_engine.proofs.plan.plan.Goals as goal
 
@@ -18,5 +19,8 @@ returns-in_err-make_trees g c =
 
 pub returns-in-Ok : goal.returns-in-Ok
 returns-in-Ok g c =
-    plans_ready _ _ _ _ c.in_ok-policy.ensures _ _ c.in_ok-app.ensures _ c.in_ok-make_trees.ensures _ c.in-Ok.ensures.app c.in-Ok.ensures.output
+    let typed = c.in_ok-app.ensures.app in
+    let tree = typed.0.tree in
+    plans_ready _ _ _ _ c.in_ok-policy.ensures _ _ c.in_ok-app.ensures _ c.in_ok-make_trees.ensures _ c.in-Ok.ensures.output
+    (is_output _ _ tree _ typed.0.application typed.1 c.in-Ok.ensures.output (c.in-Ok.ensures.spelled tree (app_spelled c.in_ok-app.app.bytes.items tree typed.0.application)))
     c.in-Ok.ensures.done c.in-Ok.ensures.fault c.in-Ok.ensures.line

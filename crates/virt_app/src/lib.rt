@@ -1,0 +1,8 @@
+//! What an application is: its bytes are read and judged, before anything is made of them.
+#![tactic(auto)]
+
+mod judge;
+mod refusal;
+
+pub use judge::judge_app;
+pub use refusal::AppRefusal;
