@@ -1,0 +1,10 @@
+pub mod TableLaws
+pub mod FoundLemmas
+pub mod OfferLaws
+pub mod KindLaws
+pub mod UseLaws
+pub mod BegunLaws
+pub mod SplitLaws
+pub mod VerdictLaws
+pub mod PlaceLaws
+pub mod WalkLaws
