@@ -1,0 +1,9 @@
+//! The core modules of the adapter.
+#![tactic(auto)]
+
+mod laws;
+mod modules;
+mod posts;
+
+pub use laws::state_does;
+pub use modules::{Emitted, Routines, emit};
