@@ -1,5 +1,5 @@
 -- What is an application is not refused, and what the type of one says.
-use Rattle.std.proofs.Common.{◌≡◌, ◌≢◌, ◌∙◌, refl, sym, ap, subst, ℕ, List, Bool, true, false, Option, Some, None}
+use Rattle.std.proofs.Common.{◌≡◌, ◌∙◌, refl, sym, ap, subst, ℕ, List, Bool, true, false, Some, None, Ok, inl, inr}
 use Rattle.std.specs.Prelude.{◌||◌, Result, Err}
 use Rattle.comp_signature.specs.declared.ComponentType.{ComponentType}
 use Rattle.virt_base.specs.declared.fault.AppFault.{AppFault}
@@ -9,29 +9,38 @@ use Rattle.comp_types.specs.Resources.{item_has_resource, entries_have_resource}
 use Rattle.comp_grammar.specs.Trees.{Tree}
 use Rattle.comp_read.specs.Answers.{IsTheComponent}
 use Rattle.comp_rules.specs.Added.{type_of}
-use Rattle.comp_rules.specs.Validity.{IsValidComponent, BreaksComponent}
+use Rattle.comp_rules.specs.Validity.{BreaksComponent}
 use Rattle.comp_rules.proofs.VerdictLaws.{valid_breaks_nothing}
+use Rattle.std.proofs.lemmas.Bool.{false≢true}
+use Rattle.wasi_match.specs.declared.listed.ListedUse.{ListedUse}
+use Rattle.wasi_match.specs.declared.fault.Cause.{Cause}
+use Rattle.wasi_match.specs.declared.fault.Cause.TheVariants as causes
+use Rattle.wasi_match.specs.Listed.{IsListed}
+use Rattle.std.specs.Option.{IfSome}
+use Rattle.wasi_match.specs.declared.fault.MatchFault.{MatchFault}
+use Rattle.wasi_match.specs.declared.fault.MatchFault.TheVariants as match_faults
+use Rattle.wasi_match.specs.Verdicts.{joined, HasImportAtFault, IsVerdict, fault_verdict}
 use Rattle.virt_app.specs.declared.refusal.AppRefusal.{AppRefusal}
 use Rattle.virt_app.specs.declared.refusal.AppRefusal.TheVariants.{Refused, TooNested, NoMemory}
-use Rattle.virt_app.specs.Apps.{IsValidApp, IsApp, first_name, or_later, name_with_resource, IsFaultOf, IsRefusal, Judges}
+use Rattle.virt_app.specs.Apps.{IsValidApp, IsApp, first_name, refusal_of, IsFaultOf, IsRefusal, ImportsNothing, Lists, Judges}
 
--- ---- entries that speak of a resource
+-- ---- entries among which one is named
 
-none_by : (b rest : Bool) (name : List ℕ) (later : Option (List ℕ)) → (b || rest) ≡ false → (rest ≡ false → later ≡ None) → or_later b name later ≡ None
-none_by true rest name later h next = cc
-none_by false rest name later h next = next h
+named_some : (before : Entries) (name : List ℕ) (item : Item) (behind : Entries) → End ≡ joined before (More name item behind) → ⊥
+named_some End name item behind h = cc
+named_some (More n i rest) name item behind h = cc
 
-pub none_named : (es : Entries) → entries_have_resource es ≡ false → name_with_resource es ≡ None
-none_named End h = refl
-none_named (More name item rest) h = none_by (item_has_resource item) (entries_have_resource rest) name (name_with_resource rest) h (none_named rest)
+behind_or : (a b : Bool) → b ≡ true → (a || b) ≡ true
+behind_or true b h = refl
+behind_or false b h = h
 
-free_by : (b rest : Bool) (name : List ℕ) (later : Option (List ℕ)) → or_later b name later ≡ None → (later ≡ None → rest ≡ false) → (b || rest) ≡ false
-free_by true rest name later h next = cc
-free_by false rest name later h next = next h
+before_or : (a b : Bool) → a ≡ true → (a || b) ≡ true
+before_or true b h = refl
+before_or false b h = absurd (false≢true h)
 
-pub free : (es : Entries) → name_with_resource es ≡ None → entries_have_resource es ≡ false
-free End h = refl
-free (More name item rest) h = free_by (item_has_resource item) (entries_have_resource rest) name (name_with_resource rest) h (free rest)
+resource_in : (before : Entries) (name : List ℕ) (item : Item) (behind : Entries) → item_has_resource item ≡ true → entries_have_resource (joined before (More name item behind)) ≡ true
+resource_in End name item behind h = before_or (item_has_resource item) (entries_have_resource behind) h
+resource_in (More n i rest) name item behind h = behind_or (item_has_resource i) (entries_have_resource (joined rest (More name item behind))) (resource_in rest name item behind h)
 
 pub nothing : (es : Entries) → first_name es ≡ None → es ≡ End
 nothing End h = refl
@@ -39,14 +48,25 @@ nothing (More name item rest) h = cc
 
 -- ---- an application is not refused
 
+import_no : (cause : Cause) (imports : Entries) (name : List ℕ) → imports ≡ End → HasImportAtFault cause imports name → ⊥
+import_no cause imports name none h = named_some h.before name h.item h.behind (sym none ∙ h.there)
+
 fault_no : (ty : Signature) (fault : AppFault) → ty.imports ≡ End → entries_have_resource ty.exports ≡ false → IsFaultOf ty fault → ⊥
-fault_no ty (Unlisted name) none clear h = let never : None ≡ Some name = sym (ap first_name none) ∙ h in cc
-fault_no ty (HandleExport name) none clear h = let never : None ≡ Some name = sym (none_named ty.exports clear) ∙ h.1 in cc
+fault_no ty (Unlisted name) none clear h = elim h [
+  | inl fault ↦ import_no causes.Unlisted ty.imports name none fault
+  | inr w ↦ first_no (ap first_name none) w.2
+]
+  where
+    first_no : first_name ty.imports ≡ None → first_name ty.imports ≡ Some name → ⊥
+    first_no a b = let never : None ≡ Some name = sym a ∙ b in cc
+fault_no ty (TwoVersions name) none clear h = import_no causes.TwoVersions ty.imports name none h
+fault_no ty (WrongType name) none clear h = import_no causes.WrongType ty.imports name none h
+fault_no ty (HandleExport name) none clear h =
+    let handle = h.2 in
+    false≢true (sym clear ∙ ap entries_have_resource handle.there ∙ resource_in handle.before name handle.item handle.behind handle.some)
 fault_no ty (Malformed at) none clear h = h
 fault_no ty (Unsupported at byte) none clear h = h
 fault_no ty (Invalid rule section) none clear h = h
-fault_no ty (WrongType name) none clear h = h
-fault_no ty (TwoVersions name) none clear h = h
 
 -- the component that other words name is this one
 same_tree : (bytes : List ℕ) (tree u : Tree) → IsApp bytes tree → IsTheComponent u bytes → u ≡ tree
@@ -73,3 +93,35 @@ app_not_refused bytes tree NoMemory a some h = some refl
 
 pub leaves : (bytes : List ℕ) (r : Result ComponentType AppRefusal) (e : AppRefusal) → r ≡ Err e → Judges bytes (Err e) → Judges bytes r
 leaves bytes r e same h = subst (λ (x : Result ComponentType AppRefusal). Judges bytes x) (sym same) h
+
+-- ---- what is said of a type is said of its application
+
+pub refused : (ty : Signature) (fault : AppFault) → IsFaultOf ty fault → (bytes : List ℕ) → (tree : Tree) → IsValidApp bytes tree → type_of tree ≡ ty → IsRefusal bytes (Refused fault)
+refused ty (Unlisted name) h bytes tree v same = (tree, v, subst (λ (t : Signature). IsFaultOf t (Unlisted name)) (sym same) h)
+refused ty (TwoVersions name) h bytes tree v same = (tree, v, subst (λ (t : Signature). IsFaultOf t (TwoVersions name)) (sym same) h)
+refused ty (WrongType name) h bytes tree v same = (tree, v, subst (λ (t : Signature). IsFaultOf t (WrongType name)) (sym same) h)
+refused ty (HandleExport name) h bytes tree v same = (tree, v, subst (λ (t : Signature). IsFaultOf t (HandleExport name)) (sym same) h)
+refused ty (Malformed at) h bytes tree v same = absurd h
+refused ty (Unsupported at byte) h bytes tree v same = absurd h
+refused ty (Invalid rule section) h bytes tree v same = absurd h
+
+-- a listed type whose imports were asked
+pub listed : (ty : Signature) (uses : List ListedUse) (r : Result (Unit {0}) AppRefusal) → IsListed ty uses → ImportsNothing ty.imports r → Lists ty r
+listed ty uses (Ok u) l h = (h, l.exports)
+listed ty uses (Err (Refused (Unlisted name))) l h = refused ty (Unlisted name) (inr (uses, l, h))
+listed ty uses (Err NoMemory) l h = λ bytes tree v same. tt
+listed ty uses (Err (Refused (TwoVersions name))) l h = absurd h
+listed ty uses (Err (Refused (WrongType name))) l h = absurd h
+listed ty uses (Err (Refused (HandleExport name))) l h = absurd h
+listed ty uses (Err (Refused (Malformed at))) l h = absurd h
+listed ty uses (Err (Refused (Unsupported at byte))) l h = absurd h
+listed ty uses (Err (Refused (Invalid rule section))) l h = absurd h
+listed ty uses (Err (TooNested depth)) l h = absurd h
+
+-- a type whose imports or exports are at fault
+pub not_listed : (ty : Signature) (fault : MatchFault) → IfSome (fault_verdict fault) (IsVerdict ty) → Lists ty (Err (refusal_of fault))
+not_listed ty (match_faults.Unlisted name) h = refused ty (Unlisted name) (inl h)
+not_listed ty (match_faults.TwoVersions name) h = refused ty (TwoVersions name) h
+not_listed ty (match_faults.WrongType name) h = refused ty (WrongType name) h
+not_listed ty (match_faults.HandleExport name) h = refused ty (HandleExport name) h
+not_listed ty match_faults.NoMemory h = λ bytes tree v same. tt

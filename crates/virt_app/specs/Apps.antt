@@ -1,10 +1,10 @@
 -- Which applications may be wrapped, and why others are not.
-use Rattle.std.specs.Prelude.{◌≡◌, ℕ, List, Bool, true, false, Option, Some, None, Result, Ok, Err}
+use Rattle.std.specs.Prelude.{◌≡◌, ◌⊎◌, ℕ, List, false, Option, Some, None, Result, Ok, Err}
 use Rattle.virt_base.specs.declared.fault.AppFault.{AppFault}
 use Rattle.virt_base.specs.declared.fault.AppFault.TheVariants.{Malformed, Unsupported, Invalid, Unlisted, WrongType, TwoVersions, HandleExport}
 use Rattle.wasm_ast.specs.declared.component.Component.{Component}
-use Rattle.comp_types.specs.Items.{Item, Entries, Signature, End, More}
-use Rattle.comp_types.specs.Resources.{item_has_resource, entries_have_resource}
+use Rattle.comp_types.specs.Items.{Entries, Signature, End, More}
+use Rattle.comp_types.specs.Resources.{entries_have_resource}
 use Rattle.comp_signature.specs.declared.ComponentType.{ComponentType}
 use Rattle.comp_signature.specs.Signatures.{component_signature}
 use Rattle.comp_grammar.specs.Trees.{Tree, plain}
@@ -13,6 +13,12 @@ use Rattle.comp_read.specs.declared.reading.CompReadFault.{CompReadFault}
 use Rattle.comp_read.specs.declared.reading.CompReadFault.TheVariants as read_faults
 use Rattle.comp_rules.specs.Added.{type_of}
 use Rattle.comp_rules.specs.Validity.{IsValidComponent, BreaksComponent}
+use Rattle.wasi_match.specs.declared.listed.ListedUse.{ListedUse}
+use Rattle.wasi_match.specs.declared.fault.Cause.TheVariants as causes
+use Rattle.wasi_match.specs.declared.fault.MatchFault.{MatchFault}
+use Rattle.wasi_match.specs.declared.fault.MatchFault.TheVariants as match_faults
+use Rattle.wasi_match.specs.Listed.{IsListed}
+use Rattle.wasi_match.specs.Verdicts.{IsRefused}
 use Rattle.virt_app.specs.declared.refusal.AppRefusal.{AppRefusal}
 use Rattle.virt_app.specs.declared.refusal.AppRefusal.TheVariants.{Refused, TooNested, NoMemory}
 
@@ -36,24 +42,24 @@ abbrev pub first_name : Entries → Option (List ℕ)
 first_name End = None
 first_name (More name item rest) = Some name
 
--- this name, if the item is what is looked for, or else that
-abbrev pub or_later : Bool → List ℕ → Option (List ℕ) → Option (List ℕ)
-or_later true name later = Some name
-or_later false name later = later
-
--- the name of the first entry that speaks of a resource
-abbrev pub name_with_resource : Entries → Option (List ℕ)
-name_with_resource End = None
-name_with_resource (More name item rest) = or_later (item_has_resource item) name (name_with_resource rest)
-
 -- what a read fault is of the bytes
 abbrev pub IsUnread : CompReadFault → List ℕ → Type 0
 IsUnread fault bytes = ReadAnswers (Err fault) bytes
 
--- For now an application with imports is unlisted.
+-- why an application is not wrapped whose imports or exports are at fault
+abbrev pub refusal_of : MatchFault → AppRefusal
+refusal_of (match_faults.Unlisted name) = Refused (Unlisted name)
+refusal_of (match_faults.TwoVersions name) = Refused (TwoVersions name)
+refusal_of (match_faults.WrongType name) = Refused (WrongType name)
+refusal_of (match_faults.HandleExport name) = Refused (HandleExport name)
+refusal_of match_faults.NoMemory = NoMemory
+
+-- The type is not that of a listed component; or, for now, it is and has an import, of which the first is named.
 abbrev pub IsFaultOf : Signature → AppFault → Type 0
-IsFaultOf ty (Unlisted name) = first_name ty.imports ≡ Some name
-IsFaultOf ty (HandleExport name) = (ty.imports ≡ End) × (name_with_resource ty.exports ≡ Some name)
+IsFaultOf ty (Unlisted name) = IsRefused causes.Unlisted ty name ⊎ ((uses : List ListedUse) × IsListed ty uses × (first_name ty.imports ≡ Some name))
+IsFaultOf ty (TwoVersions name) = IsRefused causes.TwoVersions ty name
+IsFaultOf ty (WrongType name) = IsRefused causes.WrongType ty name
+IsFaultOf ty (HandleExport name) = IsRefused causes.HandleExport ty name
 IsFaultOf ty _ = ⊥
 
 abbrev pub IsRefusal : List ℕ → AppRefusal → Type 0
@@ -81,8 +87,12 @@ Validates tree (Err refusal) = (bytes : List ℕ) → IsTheComponent tree bytes 
 abbrev pub IsFirstName : Entries → Option (List ℕ) → Type 0
 IsFirstName entries name = first_name entries ≡ name
 
-abbrev pub FirstWithResource : Entries → Option (List ℕ) → Type 0
-FirstWithResource entries name = name_with_resource entries ≡ name
+-- of imports
+abbrev pub ImportsNothing : Entries → Result (Unit {0}) AppRefusal → Type 0
+ImportsNothing imports (Ok u) = imports ≡ End
+ImportsNothing imports (Err (Refused (Unlisted name))) = first_name imports ≡ Some name
+ImportsNothing imports (Err NoMemory) = Unit {0}
+ImportsNothing imports (Err _) = ⊥
 
 -- of the type of a valid application
 abbrev pub Lists : Signature → Result (Unit {0}) AppRefusal → Type 0

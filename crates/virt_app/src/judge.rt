@@ -3,7 +3,7 @@ ghost use Rattle.comp_grammar.specs.Trees.{plain};
 ghost use Rattle.comp_signature.specs.Signatures.{component_signature};
 ghost use Rattle.comp_types.specs.Items.{Entries};
 ghost use Rattle.comp_types.specs.Views.{entries_of};
-ghost use Rattle.virt_app.specs.Apps.{Reads, Validates, Judges, FirstWithResource, IsFirstName, Lists};
+ghost use Rattle.virt_app.specs.Apps.{Reads, Validates, Judges, ImportsNothing, IsFirstName, Lists};
 
 use crate::refusal::AppRefusal;
 use comp_read::{CompReadFault, read_component};
@@ -12,6 +12,7 @@ use comp_types::InstanceEntry;
 use comp_validate::{CompFault, validate};
 use std::alloc::Global;
 use virt_base::{AppFault, NoMemory, Text};
+use wasi_match::match_imports;
 use wasm_ast::Component;
 
 /// The component that the bytes spell.
@@ -52,35 +53,27 @@ fn first_name(alloc: Global, entries: &[InstanceEntry]) -> Result<Option<Text>, 
     }
 }
 
-/// The name of the first entry that speaks of a resource.
-fn first_with_resource(alloc: Global, entries: &[InstanceEntry]) -> Result<Option<Text>, NoMemory>
-    ensures { IfOk result (FirstWithResource (entries_of entries.now)) }
+/// For now an application may import nothing.
+fn test_imports(alloc: Global, imports: &[InstanceEntry]) -> Result<(), AppRefusal>
+    ensures { ImportsNothing (entries_of imports.now) result }
 {
-    let mut rest = entries;
-    while let Some((entry, more)) = rest.split_first() {
-        if entry.ty.has_resource() {
-            return Ok(Some(entry.name.copy(alloc)?));
-        }
-        rest = more;
-    }
-    Ok(None)
-}
-
-/// For now an application may import nothing. What it exports speaks of no resource.
-fn test_type(alloc: Global, ty: &ComponentType) -> Result<(), AppRefusal>
-    ensures { Lists (component_signature ty.now) result }
-{
-    if let Some(name) = first_name(alloc, ty.imports.as_slice())? {
-        return Err(AppRefusal::Refused(AppFault::Unlisted(name)));
-    }
-    match first_with_resource(alloc, ty.exports.as_slice())? {
-        Some(name) => Err(AppRefusal::Refused(AppFault::HandleExport(name))),
+    match first_name(alloc, imports)? {
+        Some(name) => Err(AppRefusal::Refused(AppFault::Unlisted(name))),
         None => Ok(()),
     }
 }
 
-/// The type of the application that the bytes spell, where it is valid, imports nothing and exports neither a resource type nor a
-/// handle. Its reading, its validity, its imports and its exports are asked in this order, and the first fault is the answer.
+/// The application is listed, and imports nothing.
+fn test_type(alloc: Global, ty: &ComponentType) -> Result<(), AppRefusal>
+    ensures { Lists (component_signature ty.now) result }
+{
+    match_imports(alloc, ty)?;
+    test_imports(alloc, ty.imports.as_slice())
+}
+
+/// The type of the application that the bytes spell, where it is valid and listed, and imports nothing. Its reading, its validity, its
+/// imports and its exports are asked in this order, and the first fault is the answer; for now a listed application with imports is
+/// unlisted under the name of its first import.
 pub fn judge_app(alloc: Global, bytes: &[u8]) -> Result<ComponentType, AppRefusal>
     ensures { Judges bytes.now result }
 {

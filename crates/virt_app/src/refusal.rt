@@ -1,4 +1,5 @@
 use virt_base::{AppFault, NoMemory};
+use wasi_match::MatchFault;
 
 /// Why an application is not wrapped.
 #[derive(Debug, Drop)]
@@ -17,5 +18,22 @@ impl From<NoMemory> for AppRefusal {
 
     fn from(_: NoMemory) -> AppRefusal {
         AppRefusal::NoMemory
+    }
+}
+
+impl From<MatchFault> for AppRefusal {
+    ghost use Rattle.std.specs.Prelude.{◌≡◌};
+    ghost use Rattle.virt_app.specs.Apps.{refusal_of};
+
+    ghost from_gives = { λ fault refusal. refusal ≡ refusal_of fault };
+
+    fn from(fault: MatchFault) -> AppRefusal {
+        match fault {
+            MatchFault::Unlisted(name) => AppRefusal::Refused(AppFault::Unlisted(name)),
+            MatchFault::TwoVersions(name) => AppRefusal::Refused(AppFault::TwoVersions(name)),
+            MatchFault::WrongType(name) => AppRefusal::Refused(AppFault::WrongType(name)),
+            MatchFault::HandleExport(name) => AppRefusal::Refused(AppFault::HandleExport(name)),
+            MatchFault::NoMemory => AppRefusal::NoMemory,
+        }
     }
 }
