@@ -456,39 +456,55 @@ fn words_stand_in_any_order_and_form(rt: HostRuntime) -> Result<(), Fail> {
     Ok(())
 }
 
+/// What a call ends with on an application and a policy of so many bytes, all of them 255, which begins no UTF-8.
+fn at_limit(alloc: Global, app: usize, policy: usize) -> Result<Ran, NoMemory> {
+    let app: Vec<u8> = vec![in alloc; 255; app]?;
+    let policy: Vec<u8> = vec![in alloc; 255; policy]?;
+    let files = files_with(alloc, app, policy, 200, &[])?;
+    run_on(alloc, &WORDS, files, sink_of(alloc, &[])?)
+}
+
 #[test]
-fn a_limit_passes_and_one_more_is_refused(rt: HostRuntime) -> Result<(), Fail> {
-    let alloc = rt.alloc();
-    // the bytes of the application and of the policy, all of them 255, which begins no UTF-8
-    for (app, policy, exit, line) in [
-        (0, 16_777_216, 1, b"policy refused: not-toml\n".as_slice()),
-        (
-            0,
-            16_777_217,
-            5,
-            b"over limit: policy-bytes 16777217\n".as_slice(),
-        ),
-        (
-            33_554_432,
-            0,
-            2,
-            b"application refused: malformed at 0\n".as_slice(),
-        ),
-        (
-            33_554_433,
-            0,
-            5,
-            b"over limit: application-bytes 33554433\n".as_slice(),
-        ),
-    ] {
-        let app: Vec<u8> = vec![in alloc; 255; app]?;
-        let policy: Vec<u8> = vec![in alloc; 255; policy]?;
-        let files = files_with(alloc, app, policy, 200, &[])?;
-        let ran = run_on(alloc, &WORDS, files, sink_of(alloc, &[])?)?;
-        assert_eq!(rt; ran.code, exit);
-        assert_eq!(rt; ran.text.as_slice(), line);
-        assert!(rt; ran.out.is_none());
-    }
+fn a_policy_at_its_limit_is_read(rt: HostRuntime) -> Result<(), Fail> {
+    let ran = at_limit(rt.alloc(), 0, 16_777_216)?;
+    assert_eq!(rt; ran.code, 1);
+    assert_eq!(rt;
+        ran.text.as_slice(),
+        b"policy refused: not-toml\n".as_slice()
+    );
+    Ok(())
+}
+
+#[test]
+fn a_policy_above_its_limit_is_refused(rt: HostRuntime) -> Result<(), Fail> {
+    let ran = at_limit(rt.alloc(), 0, 16_777_217)?;
+    assert_eq!(rt; ran.code, 5);
+    assert_eq!(rt;
+        ran.text.as_slice(),
+        b"over limit: policy-bytes 16777217\n".as_slice()
+    );
+    Ok(())
+}
+
+#[test]
+fn an_application_at_its_limit_is_read(rt: HostRuntime) -> Result<(), Fail> {
+    let ran = at_limit(rt.alloc(), 33_554_432, 0)?;
+    assert_eq!(rt; ran.code, 2);
+    assert_eq!(rt;
+        ran.text.as_slice(),
+        b"application refused: malformed at 0\n".as_slice()
+    );
+    Ok(())
+}
+
+#[test]
+fn an_application_above_its_limit_is_refused(rt: HostRuntime) -> Result<(), Fail> {
+    let ran = at_limit(rt.alloc(), 33_554_433, 0)?;
+    assert_eq!(rt; ran.code, 5);
+    assert_eq!(rt;
+        ran.text.as_slice(),
+        b"over limit: application-bytes 33554433\n".as_slice()
+    );
     Ok(())
 }
 
