@@ -1,0 +1,334 @@
+use crate::judging::expect_answers;
+use std::test::Fail;
+
+/// Each rule, broken and just kept.
+#[test]
+fn each_rule(rt: HostRuntime) -> Result<(), Fail> {
+    let rows = [
+        (
+            "a body of another type",
+            "011b0061736d010000000105016000017f030201000a0601040042070b",
+            "rule 1 in section 0",
+        ),
+        (
+            "a body of its type",
+            "01220061736d010000000105016000017f03020100070501016600000a0601040041070b",
+            "valid",
+        ),
+        (
+            "a faulty section of a component in it",
+            "04080061736d0d000100040d0061736d0d0001000703017000",
+            "rule 2 in section 1",
+        ),
+        (
+            "components in it, the one in the other",
+            "04160061736d0d00010004080061736d0d00010007020179",
+            "valid",
+        ),
+        (
+            "a lift to a type that is not there",
+            "01220061736d010000000105016000017f03020100070501016600000a0601040041070b020401000000060701000001000166070501400000790806010000000001",
+            "rule 3 in section 4",
+        ),
+        (
+            "a lift to a type that is there",
+            "01220061736d010000000105016000017f03020100070501016600000a0601040041070b020401000000060701000001000166070501400000790806010000000000",
+            "valid",
+        ),
+        (
+            "a repeated label beside an index that is not there",
+            "0709017202016100016179",
+            "rule 3 in section 0",
+        ),
+        (
+            "no argument for an import",
+            "01180061736d010000000105016000017f020701016101660000020401000000",
+            "rule 4 in section 1",
+        ),
+        (
+            "an argument that exports no such item",
+            "01180061736d010000000105016000017f020701016101660000020a02010000000101611200",
+            "rule 4 in section 1",
+        ),
+        (
+            "an argument",
+            "01180061736d010000000105016000017f02070101610166000001220061736d010000000105016000017f03020100070501016600000a0601040041070b020b0200010000000101611200",
+            "valid",
+        ),
+        (
+            "an argument of another type",
+            "01180061736d010000000105016000017f020701016101660000011f0061736d0100000001040160000003020100070501016600000a040102000b020b0200010000000101611200",
+            "rule 5 in section 2",
+        ),
+        (
+            "a name twice among core items",
+            "01220061736d010000000105016000017f03020100070501016600000a0601040041070b020401000000060701000001000166020b0101020166000001660000",
+            "rule 6 in section 3",
+        ),
+        (
+            "names of core items in another case",
+            "01220061736d010000000105016000017f03020100070501016600000a0601040041070b020401000000060701000001000166020b0101020166000001460000",
+            "valid",
+        ),
+        (
+            "a name of an instance in another case",
+            "070501400001000a06010001670100050d01010200016601000001460100",
+            "rule 6 in section 2",
+        ),
+        (
+            "an alias of what is not exported",
+            "01220061736d010000000105016000017f03020100070501016600000a0601040041070b020401000000060701000001000167",
+            "rule 7 in section 2",
+        ),
+        (
+            "an alias of another sort",
+            "01220061736d010000000105016000017f03020100070501016600000a0601040041070b020401000000060701000201000166",
+            "rule 7 in section 2",
+        ),
+        (
+            "an alias of a type that is a function",
+            "070501400001000a06010001670100050801010100016601000606010300000166",
+            "rule 7 in section 3",
+        ),
+        (
+            "an alias of a function",
+            "070501400001000a06010001670100050801010100016601000606010100000166",
+            "valid",
+        ),
+        (
+            "an outer alias beyond the outermost component",
+            "0702017906050103020100",
+            "rule 8 in section 1",
+        ),
+        (
+            "an outer alias of a scope that is there, with an index that is not",
+            "0702017906050103020001",
+            "rule 3 in section 1",
+        ),
+        (
+            "an outer alias of its own scope",
+            "0702017906050103020000",
+            "valid",
+        ),
+        (
+            "an outer alias that carries a resource out",
+            "0704013f7f00040f0061736d0d00010006050103020100",
+            "rule 2 in section 1",
+        ),
+        (
+            "an outer alias of a type that names no resource",
+            "07020179040f0061736d0d00010006050103020100",
+            "valid",
+        ),
+        (
+            "an outer alias of a resource in an instance type",
+            "0712023f7f004202020302010004000172030000",
+            "valid",
+        ),
+        (
+            "an import of the resource of the component",
+            "070d033f7f006900400101780101000a06010001660102",
+            "rule 8 in section 1",
+        ),
+        (
+            "a label in another case",
+            "0709017202016179014179",
+            "rule 9 in section 0",
+        ),
+        ("labels that differ", "0709017202016179016279", "valid"),
+        ("flags without labels", "0703016e00", "rule 9 in section 0"),
+        (
+            "33 flags",
+            "077d016e21026c30026c31026c32026c33026c34026c35026c36026c37026c38026c39036c3130036c3131036c3132036c3133036c3134036c3135036c3136036c3137036c3138036c3139036c3230036c3231036c3232036c3233036c3234036c3235036c3236036c3237036c3238036c3239036c3330036c3331036c3332",
+            "rule 9 in section 0",
+        ),
+        (
+            "32 flags",
+            "0779016e20026c30026c31026c32026c33026c34026c35026c36026c37026c38026c39036c3130036c3131036c3132036c3133036c3134036c3135036c3136036c3137036c3138036c3139036c3230036c3231036c3232036c3233036c3234036c3235036c3236036c3237036c3238036c3239036c3330036c3331",
+            "valid",
+        ),
+        (
+            "100 lists in one another",
+            "07ec016470797000700170027003700470057006700770087009700a700b700c700d700e700f7010701170127013701470157016701770187019701a701b701c701d701e701f7020702170227023702470257026702770287029702a702b702c702d702e702f7030703170327033703470357036703770387039703a703b703c703d703e703f70c00070c10070c20070c30070c40070c50070c60070c70070c80070c90070ca0070cb0070cc0070cd0070ce0070cf0070d00070d10070d20070d30070d40070d50070d60070d70070d80070d90070da0070db0070dc0070dd0070de0070df0070e00070e10070e200",
+            "rule 10 in section 0",
+        ),
+        (
+            "99 lists in one another",
+            "07e9016370797000700170027003700470057006700770087009700a700b700c700d700e700f7010701170127013701470157016701770187019701a701b701c701d701e701f7020702170227023702470257026702770287029702a702b702c702d702e702f7030703170327033703470357036703770387039703a703b703c703d703e703f70c00070c10070c20070c30070c40070c50070c60070c70070c80070c90070ca0070cb0070cc0070cd0070ce0070cf0070d00070d10070d20070d30070d40070d50070d60070d70070d80070d90070da0070db0070dc0070dd0070de0070df0070e00070e100",
+            "valid",
+        ),
+        (
+            "a function over 99 lists",
+            "07f1016470797000700170027003700470057006700770087009700a700b700c700d700e700f7010701170127013701470157016701770187019701a701b701c701d701e701f7020702170227023702470257026702770287029702a702b702c702d702e702f7030703170327033703470357036703770387039703a703b703c703d703e703f70c00070c10070c20070c30070c40070c50070c60070c70070c80070c90070ca0070cb0070cc0070cd0070ce0070cf0070d00070d10070d20070d30070d40070d50070d60070d70070d80070d90070da0070db0070dc0070dd0070de0070df0070e00070e10040010178e2000100",
+            "rule 10 in section 0",
+        ),
+        (
+            "a function where a value type is due",
+            "070702400001007000",
+            "rule 11 in section 0",
+        ),
+        (
+            "an import of an instance by a value type",
+            "070201790a06010001690500",
+            "rule 11 in section 1",
+        ),
+        (
+            "a handle of a value type",
+            "070402796900",
+            "rule 12 in section 0",
+        ),
+        ("a handle of a resource", "0706023f7f006900", "valid"),
+        (
+            "resource.drop of a value type",
+            "070201790803010300",
+            "rule 12 in section 1",
+        ),
+        (
+            "a borrow in a result",
+            "070a033f7f00680040000001",
+            "rule 13 in section 0",
+        ),
+        (
+            "a borrow as a parameter",
+            "070d033f7f00680040010178010100",
+            "valid",
+        ),
+        (
+            "a parameter in another case",
+            "070b0140020178790158790100",
+            "rule 13 in section 0",
+        ),
+        (
+            "a resource that an instance type defines",
+            "0707014201013f7f00",
+            "rule 14 in section 0",
+        ),
+        (
+            "a destructor in an instance type",
+            "0708014201013f7f0100",
+            "rule 3 in section 0",
+        ),
+        (
+            "a destructor that gives a number",
+            "01220061736d010000000105016000017f03020100070501016600000a0601040041070b0204010000000607010000010001660705013f7f0100",
+            "rule 14 in section 3",
+        ),
+        (
+            "a destructor",
+            "01200061736d0100000001050160017f0003020100070501016600000a040102000b0204010000000607010000010001660705013f7f0100",
+            "valid",
+        ),
+        (
+            "a declared name in another case",
+            "070f014202040001610301040001410301",
+            "rule 15 in section 0",
+        ),
+        (
+            "a declared name twice, and behind it an index that is not there",
+            "0712014203040001610301040001610301017009",
+            "rule 15 in section 0",
+        ),
+        (
+            "declared names",
+            "070f014202040001610301040001620301",
+            "valid",
+        ),
+        (
+            "a lift to a function of another core type",
+            "01220061736d010000000105016000017f03020100070501016600000a0601040041070b020401000000060701000001000166070801400101787900790806010000000000",
+            "rule 16 in section 4",
+        ),
+        (
+            "an option twice",
+            "01220061736d010000000105016000017f03020100070501016600000a0601040041070b0204010000000607010000010001660705014000007908080100000002000000",
+            "rule 17 in section 4",
+        ),
+        (
+            "an option once",
+            "01220061736d010000000105016000017f03020100070501016600000a0601040041070b02040100000006070100000100016607050140000079080701000000010000",
+            "valid",
+        ),
+        (
+            "a string without a memory",
+            "01220061736d010000000105016000017f03020100070501016600000a0601040041070b020401000000060701000001000166070501400000730806010000000000",
+            "rule 17 in section 4",
+        ),
+        (
+            "a post-return with a result",
+            "01220061736d010000000105016000017f03020100070501016600000a0601040041070b0204010000000607010000010001660705014000007908080100000001050000",
+            "rule 17 in section 4",
+        ),
+        (
+            "resource.new of an imported resource",
+            "0a060100017203010803010200",
+            "rule 18 in section 1",
+        ),
+        (
+            "resource.new of a resource of the component",
+            "0704013f7f000803010200",
+            "valid",
+        ),
+        (
+            "an imported name in another case",
+            "0a0b0200016103010001410301",
+            "rule 19 in section 0",
+        ),
+        ("imported names", "0a0b0200016103010001620301", "valid"),
+        (
+            "a name with an underscore",
+            "0a08010003615f620301",
+            "rule 20 in section 0",
+        ),
+        (
+            "a label with an underscore",
+            "070801720103615f6279",
+            "rule 20 in section 0",
+        ),
+        (
+            "an exported name in another case",
+            "070201790b0d02000161030000000141030000",
+            "rule 21 in section 1",
+        ),
+        (
+            "exported names",
+            "070201790b0d02000161030000000162030000",
+            "valid",
+        ),
+        (
+            "a stated type of another function",
+            "07090240000100400000790a060100016601000b09010001670100010101",
+            "rule 22 in section 2",
+        ),
+        (
+            "a stated type",
+            "07090240000100400001000a060100016601000b09010001670100010101",
+            "valid",
+        ),
+        (
+            "an argument that lacks an export",
+            "04200061736d0d000100070e01420201400001000400016601000a06010001690500050301010005080100000101690500",
+            "rule 23 in section 2",
+        ),
+        (
+            "an argument that has it",
+            "04200061736d0d000100070e01420201400001000400016601000a06010001690500070501400001000a060100016701000508010101000166010005080100000101690500",
+            "valid",
+        ),
+        (
+            "a method of a resource that does not stand before it",
+            "0a06010001720301070d02680040010473656c660101000a1001000b5b6d6574686f645d732e660102",
+            "rule 24 in section 2",
+        ),
+        (
+            "a method",
+            "0a06010001720301070d02680040010473656c660101000a1001000b5b6d6574686f645d722e660102",
+            "valid",
+        ),
+        (
+            "a method that takes the resource",
+            "0a06010001720301070d02690040010473656c660101000a1001000b5b6d6574686f645d722e660102",
+            "rule 24 in section 2",
+        ),
+    ];
+    expect_answers(&rt, rt.alloc(), &rows)
+}
