@@ -298,12 +298,15 @@ fn applications_are_refused_with_their_cause(rt: HostRuntime) -> Result<(), Fail
 }
 
 /// Components without other sections, so many in one another.
-fn nested(alloc: Global, depth: usize) -> Result<Vec<u8>, NoMemory> {
+fn nested(alloc: Global, depth: usize) -> Result<Vec<u8>, Fail> {
     let mut bytes = Vec::from_slice(alloc, &EMPTY)?;
     for _ in 1..depth {
         let mut outer = Vec::from_slice(alloc, &EMPTY)?;
+        let Ok(size) = u32::try_from(bytes.len()) else {
+            return Err(Fail::from("no size can tell so many bytes"));
+        };
         outer.push(4)?;
-        write_u32(alloc, &mut outer, bytes.len() as u32)?;
+        write_u32(alloc, &mut outer, size)?;
         outer.extend_from_slice(bytes.as_slice())?;
         bytes = outer;
     }
