@@ -433,8 +433,8 @@ module _ {S : Type 0} (G H : Group) (to : ℕ → ℕ) (e : Renames G H to) (gro
   abbrev p4 : Ports (StateOf groups S)
   p4 = stack groups (hosted h)
 
-  abbrev R4 : World (StateOf groups S) → World (StateOf groups S) → Type 0
-  R4 w v = Stands to w v
+  abbrev StandAlike : World (StateOf groups S) → World (StateOf groups S) → Type 0
+  StandAlike w v = Stands to w v
 
   abbrev Any4 : World (StateOf groups S) → Unit {0} → World (StateOf groups S) → Unit {0} → Type 0
   Any4 w a v b = Unit {0}
@@ -445,16 +445,16 @@ module _ {S : Type 0} (G H : Group) (to : ℕ → ℕ) (e : Renames G H to) (gro
   abbrev start : World (StateOf groups S)
   start = first_state (G ∷ groups) s
 
-  at_start : R4 start start
+  at_start : StandAlike start start
   at_start = record { here = λ k. refl; under = refl }
 
-  made4 : (b : ℕ) → Exact b (Eq R4) (are_made d (H ∷ groups) (hosted h) start) (are_made d (G ∷ groups) (hosted h) start)
+  made4 : (b : ℕ) → Exact b (Eq StandAlike) (are_made d (H ∷ groups) (hosted h) start) (are_made d (G ∷ groups) (hosted h) start)
   made4 b =
-      exact_then b (Eq R4) (Eq R4) _ _ _ _ start start (same_below G H to e p4 fair4 alike b (are_made d groups (hosted h)) (are_made_left d groups (hosted h) (host_fair h)) start start at_start)
+      exact_then b (Eq StandAlike) (Eq StandAlike) _ _ _ _ start start (same_below G H to e p4 fair4 alike b (are_made d groups (hosted h)) (are_made_left d groups (hosted h) (host_fair h)) start start at_start)
       (λ w a v b' k. made_alike G H to e p4 fair4 alike b d w v k.0)
 
   all_alike : (n : ℕ) → Equals n Any4 ((are_made d (H ∷ groups) (hosted h) >> λ _. makes_calls H p4 d calls) start n) ((are_made d (G ∷ groups) (hosted h) >> λ _. makes_calls G p4 d calls) start n)
-  all_alike n = exact_then (suc n) (Eq R4) Any4 _ _ _ _ start start (made4 (suc n)) (λ w a v b k. calls_alike G H to e p4 fair4 alike (suc n) d calls w v k.0) n (omega arith)
+  all_alike n = exact_then (suc n) (Eq StandAlike) Any4 _ _ _ _ start start (made4 (suc n)) (λ w a v b k. calls_alike G H to e p4 fair4 alike (suc n) d calls w v k.0) n (omega arith)
 
   same_as : (n : ℕ) → SameAs G H groups h s d calls n
   unfolding runs_calls
