@@ -243,73 +243,87 @@ fn lists_in_options(rt: HostRuntime) -> Result<(), Fail> {
     stores(&rt, alloc, &ty, all, &rows, digits)
 }
 
-/// Numbers of each width as one run, also bytes that are kept one by one.
+/// A list of two items, stored as one run.
+fn stores_two(
+    rt: &impl Abort,
+    alloc: Global,
+    item: WitType,
+    two: (Value, Value),
+    reply: Reply,
+    digits: &str,
+) -> Result<(), Fail> {
+    let ty = list(alloc, item)?;
+    let (first, second) = two;
+    let two = Value::List(each(vec![in alloc; first, second]?));
+    let digits = format!(in alloc; "1800000002000000{digits}")?;
+    stores(rt, alloc, &ty, two, &[reply], digits.as_str())
+}
+
+/// Also bytes that are kept one by one.
 #[test]
-fn lists_of_numbers(rt: HostRuntime) -> Result<(), Fail> {
+fn lists_of_narrow_numbers(rt: HostRuntime) -> Result<(), Fail> {
     let alloc = rt.alloc();
-    for (item, first, second, align, len, digits) in [
-        (WitType::U8, Value::Int(7), Value::Int(255), 1, 2, "07ffff"),
+    for (item, two, reply, digits) in [
         (
-            WitType::S16,
-            Value::Int(-2),
-            Value::Int(513),
-            2,
-            4,
-            "feff0102ff",
+            WitType::U8,
+            (Value::Int(7), Value::Int(255)),
+            row(1, 2, 24),
+            "07ffff",
         ),
         (
-            WitType::U32,
-            Value::Int(1),
-            Value::Int(2),
-            4,
-            8,
-            "0100000002000000ff",
+            WitType::S8,
+            (Value::Int(-2), Value::Int(127)),
+            row(1, 2, 24),
+            "fe7fff",
         ),
-        (WitType::S8, Value::Int(-2), Value::Int(127), 1, 2, "fe7fff"),
         (
             WitType::Bool,
-            Value::Bool(true),
-            Value::Bool(false),
-            1,
-            2,
+            (Value::Bool(true), Value::Bool(false)),
+            row(1, 2, 24),
             "0100ff",
         ),
         (
+            WitType::S16,
+            (Value::Int(-2), Value::Int(513)),
+            row(2, 4, 24),
+            "feff0102ff",
+        ),
+    ] {
+        stores_two(&rt, alloc, item, two, reply, digits)?;
+    }
+    Ok(())
+}
+
+#[test]
+fn lists_of_wide_numbers(rt: HostRuntime) -> Result<(), Fail> {
+    let alloc = rt.alloc();
+    for (item, two, reply, digits) in [
+        (
+            WitType::U32,
+            (Value::Int(1), Value::Int(2)),
+            row(4, 8, 24),
+            "0100000002000000ff",
+        ),
+        (
             WitType::Char,
-            Value::Char('a'),
-            Value::Char('é'),
-            4,
-            8,
+            (Value::Char('a'), Value::Char('é')),
+            row(4, 8, 24),
             "61000000e9000000ff",
         ),
         (
             WitType::Own(1),
-            Value::Handle(3),
-            Value::Handle(256),
-            4,
-            8,
+            (Value::Handle(3), Value::Handle(256)),
+            row(4, 8, 24),
             "0300000000010000ff",
         ),
         (
             WitType::S64,
-            Value::Int(-1),
-            Value::Int(1),
-            8,
-            16,
+            (Value::Int(-1), Value::Int(1)),
+            row(8, 16, 24),
             "ffffffffffffffff0100000000000000ff",
         ),
     ] {
-        let ty = list(alloc, item)?;
-        let two = Value::List(each(vec![in alloc; first, second]?));
-        let digits = format!(in alloc; "1800000002000000{digits}")?;
-        stores(
-            &rt,
-            alloc,
-            &ty,
-            two,
-            &[row(align, len, 24)],
-            digits.as_str(),
-        )?;
+        stores_two(&rt, alloc, item, two, reply, digits)?;
     }
     Ok(())
 }
