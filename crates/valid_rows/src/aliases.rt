@@ -1,9 +1,9 @@
 use crate::judging::expect_answers;
 use std::test::Fail;
 
-/// Aliases of exports, and outer aliases out of instance types and components.
+/// Aliases in instance types, and of core items.
 #[test]
-fn aliases(rt: HostRuntime) -> Result<(), Fail> {
+fn aliases_in_instance_types(rt: HostRuntime) -> Result<(), Fail> {
     let rows = [
         (
             "an alias in an instance type of what is not there",
@@ -20,6 +20,14 @@ fn aliases(rt: HostRuntime) -> Result<(), Fail> {
             "01220061736d010000000105016000017f03020100070501016600000a0601040041070b020401000000060701000201000166",
             "rule 7 in section 2",
         ),
+    ];
+    expect_answers(&rt, rt.alloc(), &rows)
+}
+
+/// Outer aliases of modules and components.
+#[test]
+fn outer_aliases_of_modules_and_components(rt: HostRuntime) -> Result<(), Fail> {
+    let rows = [
         (
             "an outer alias of a module",
             "01220061736d010000000105016000017f03020100070501016600000a0601040041070b04160061736d0d0001000606010011020100020401000000",
@@ -40,6 +48,14 @@ fn aliases(rt: HostRuntime) -> Result<(), Fail> {
             "04080061736d0d00010006050104020001",
             "rule 3 in section 1",
         ),
+    ];
+    expect_answers(&rt, rt.alloc(), &rows)
+}
+
+/// Outer aliases that lead beyond the outermost component, and out of instance types.
+#[test]
+fn outer_aliases_beyond_the_outermost(rt: HostRuntime) -> Result<(), Fail> {
+    let rows = [
         (
             "an outer alias of a component beyond the outermost one",
             "04080061736d0d00010006050104020101",
@@ -60,6 +76,14 @@ fn aliases(rt: HostRuntime) -> Result<(), Fail> {
             "0702017d04120061736d0d00010007080142010203020200",
             "valid",
         ),
+    ];
+    expect_answers(&rt, rt.alloc(), &rows)
+}
+
+/// Outer aliases that carry a resource out, or do not.
+#[test]
+fn resources_carried_out(rt: HostRuntime) -> Result<(), Fail> {
+    let rows = [
         (
             "out of an instance type and a component, a resource",
             "0704013f7f0004120061736d0d00010007080142010203020200",

@@ -1,9 +1,9 @@
 use crate::judging::expect_answers;
 use std::test::Fail;
 
-/// Names that are annotated, and their resources.
+/// Methods and constructors, and the resource that stands before them.
 #[test]
-fn annotated_names(rt: HostRuntime) -> Result<(), Fail> {
+fn methods_and_constructors(rt: HostRuntime) -> Result<(), Fail> {
     let rows = [
         (
             "a method before its resource",
@@ -35,6 +35,14 @@ fn annotated_names(rt: HostRuntime) -> Result<(), Fail> {
             "0a06010001720301070501400001000a1301000e5b636f6e7374727563746f725d720101",
             "rule 24 in section 2",
         ),
+    ];
+    expect_answers(&rt, rt.alloc(), &rows)
+}
+
+/// Parameters of methods, static functions, and names of resources.
+#[test]
+fn static_functions_and_their_resources(rt: HostRuntime) -> Result<(), Fail> {
+    let rows = [
         (
             "a method of no parameters",
             "0a06010001720301070501400001000a1001000b5b6d6574686f645d722e780101",
@@ -60,6 +68,14 @@ fn annotated_names(rt: HostRuntime) -> Result<(), Fail> {
             "070c027d40010473656c660001000a1602000172030000000b5b6d6574686f645d722e780101",
             "rule 24 in section 1",
         ),
+    ];
+    expect_answers(&rt, rt.alloc(), &rows)
+}
+
+/// Which resource a method takes.
+#[test]
+fn resources_that_methods_take(rt: HostRuntime) -> Result<(), Fail> {
+    let rows = [
         (
             "the first parameter of a method may have any name",
             "0a06010001720301070a026800400101780101000a1001000b5b6d6574686f645d722e780102",
@@ -75,6 +91,14 @@ fn annotated_names(rt: HostRuntime) -> Result<(), Fail> {
             "0a0b0200017203010001730301070d02680040010473656c660201000a1001000b5b6d6574686f645d732e780103",
             "rule 24 in section 2",
         ),
+    ];
+    expect_answers(&rt, rt.alloc(), &rows)
+}
+
+/// Annotated names in instance types and inline instances.
+#[test]
+fn annotated_names_in_lists(rt: HostRuntime) -> Result<(), Fail> {
+    let rows = [
         (
             "a method in an instance type",
             "07270142040400017203010168000140010473656c6601010004000b5b6d6574686f645d722e780102",

@@ -1,9 +1,9 @@
 use crate::judging::expect_answers;
 use std::test::Fail;
 
-/// Arguments of components: the types that they meet, and the resources for which others stand.
+/// Names of arguments, and arguments that are not there.
 #[test]
-fn instances(rt: HostRuntime) -> Result<(), Fail> {
+fn names_of_arguments(rt: HostRuntime) -> Result<(), Fail> {
     let rows = [
         (
             "an argument",
@@ -35,6 +35,14 @@ fn instances(rt: HostRuntime) -> Result<(), Fail> {
             "04170061736d0d000100070501400001000a06010001660100070501400001000a06010001670100051001000003016601000161030001620100",
             "valid",
         ),
+    ];
+    expect_answers(&rt, rt.alloc(), &rows)
+}
+
+/// Arguments of another sort or type.
+#[test]
+fn sorts_and_types_of_arguments(rt: HostRuntime) -> Result<(), Fail> {
+    let rows = [
         (
             "an argument of another sort",
             "04170061736d0d000100070501400001000a06010001660100070501400001000a0601000167010005080100000101660300",
@@ -65,6 +73,14 @@ fn instances(rt: HostRuntime) -> Result<(), Fail> {
             "041c0061736d0d000100070901720201617d01627d0a0701000174030000070901720201627d01617d05080100000101740300",
             "rule 23 in section 2",
         ),
+    ];
+    expect_answers(&rt, rt.alloc(), &rows)
+}
+
+/// Types that equal function types.
+#[test]
+fn function_types_for_types(rt: HostRuntime) -> Result<(), Fail> {
+    let rows = [
         (
             "a type may equal a function type",
             "041b0061736d0d000100070801400101787d01000a0701000174030000070801400101787d010005080100000101740300",
@@ -80,6 +96,14 @@ fn instances(rt: HostRuntime) -> Result<(), Fail> {
             "041b0061736d0d000100070801400101787d01000a0701000174030000070801400101787b010005080100000101740300",
             "rule 23 in section 2",
         ),
+    ];
+    expect_answers(&rt, rt.alloc(), &rows)
+}
+
+/// Instance types with other names, or in another order.
+#[test]
+fn instance_types_as_arguments(rt: HostRuntime) -> Result<(), Fail> {
+    let rows = [
         (
             "an instance type in another order",
             "04250061736d0d0001000712014203017d040001610300000400016203010a07010001740300000712014203017d0400016203010400016103000005080100000101740300",
@@ -100,6 +124,14 @@ fn instances(rt: HostRuntime) -> Result<(), Fail> {
             "04250061736d0d0001000712014203017d040001610300000400016203010a07010001740300000712014203017d0400016203010400014103000005080100000101740300",
             "rule 23 in section 2",
         ),
+    ];
+    expect_answers(&rt, rt.alloc(), &rows)
+}
+
+/// One or two resources for one or two.
+#[test]
+fn resources_for_resources(rt: HostRuntime) -> Result<(), Fail> {
+    let rows = [
         (
             "two resources for two",
             "04220061736d0d000100070f0142020400016103010400016203010a0701000174030000070f01420204000161030104000162030105080100000101740300",
@@ -125,6 +157,14 @@ fn instances(rt: HostRuntime) -> Result<(), Fail> {
             "04220061736d0d0001000710014202040001610301040001620300000a060100016905000707023f7f003f7f00050d0101020001610300000162030105080100000101690500",
             "rule 23 in section 3",
         ),
+    ];
+    expect_answers(&rt, rt.alloc(), &rows)
+}
+
+/// Resources in the types of functions, and named types.
+#[test]
+fn resources_through_functions(rt: HostRuntime) -> Result<(), Fail> {
+    let rows = [
         (
             "a resource through the type of a function",
             "04240061736d0d0001000a06010001720301070a026900400101780101000a060100016601020a0b0200017203010001730301070a026900400101780201000a06010001660103050c010000020172030001660100",
@@ -145,6 +185,14 @@ fn instances(rt: HostRuntime) -> Result<(), Fail> {
             "04190061736d0d000100070601720101617d0a0701000174030000070601720101617d0a070100017503000005080100000101740301",
             "valid",
         ),
+    ];
+    expect_answers(&rt, rt.alloc(), &rows)
+}
+
+/// Instances in instances.
+#[test]
+fn instances_in_instances(rt: HostRuntime) -> Result<(), Fail> {
+    let rows = [
         (
             "an instance in an instance",
             "04290061736d0d000100071701420201420201400001000400016601000400016905000a060100016a0500070501400001000a060100016701000516030101000166010001010001690500000001016a0501",

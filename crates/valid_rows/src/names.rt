@@ -1,9 +1,9 @@
 use crate::judging::expect_answers;
 use std::test::Fail;
 
-/// Legal names, and names that differ.
+/// Words that are legal.
 #[test]
-fn names(rt: HostRuntime) -> Result<(), Fail> {
+fn legal_words(rt: HostRuntime) -> Result<(), Fail> {
     let rows = [
         ("`a`", "0a06010001610301", "valid"),
         ("`a-b`", "0a08010003612d620301", "valid"),
@@ -11,16 +11,40 @@ fn names(rt: HostRuntime) -> Result<(), Fail> {
         ("`A`", "0a06010001410301", "valid"),
         ("`A-b`", "0a08010003412d620301", "valid"),
         ("`a-B1`", "0a09010004612d42310301", "valid"),
+    ];
+    expect_answers(&rt, rt.alloc(), &rows)
+}
+
+/// Words that are not.
+#[test]
+fn illegal_words(rt: HostRuntime) -> Result<(), Fail> {
+    let rows = [
         ("``", "0a050100000301", "rule 20 in section 0"),
         ("`-`", "0a060100012d0301", "rule 20 in section 0"),
         ("`a-`", "0a07010002612d0301", "rule 20 in section 0"),
         ("`-a`", "0a070100022d610301", "rule 20 in section 0"),
         ("`a--b`", "0a09010004612d2d620301", "rule 20 in section 0"),
+    ];
+    expect_answers(&rt, rt.alloc(), &rows)
+}
+
+/// Words with a digit, a capital or a sign where none may be.
+#[test]
+fn illegal_beginnings_and_signs(rt: HostRuntime) -> Result<(), Fail> {
+    let rows = [
         ("`1a`", "0a0701000231610301", "rule 20 in section 0"),
         ("`Ab`", "0a0701000241620301", "rule 20 in section 0"),
         ("`a b`", "0a080100036120620301", "rule 20 in section 0"),
         ("`a_b`", "0a08010003615f620301", "rule 20 in section 0"),
         ("`a-1`", "0a08010003612d310301", "rule 20 in section 0"),
+    ];
+    expect_answers(&rt, rt.alloc(), &rows)
+}
+
+/// Names of interfaces that are legal.
+#[test]
+fn legal_interfaces(rt: HostRuntime) -> Result<(), Fail> {
+    let rows = [
         ("`a:b/c`", "07030142000a0a010005613a622f630500", "valid"),
         (
             "`a-b:c-d/e-f`",
@@ -47,12 +71,28 @@ fn names(rt: HostRuntime) -> Result<(), Fail> {
             "07030142000a0e010009613a622f63402e2e2e0500",
             "valid",
         ),
+    ];
+    expect_answers(&rt, rt.alloc(), &rows)
+}
+
+/// Names with capitals and builds.
+#[test]
+fn legal_capitals_and_builds(rt: HostRuntime) -> Result<(), Fail> {
+    let rows = [
         (
             "`a:b/c@1+x-Y`",
             "07030142000a1001000b613a622f6340312b782d590500",
             "valid",
         ),
         ("`A:B/C`", "07030142000a0a010005413a422f430500", "valid"),
+    ];
+    expect_answers(&rt, rt.alloc(), &rows)
+}
+
+/// Names of interfaces that are not legal.
+#[test]
+fn illegal_interfaces(rt: HostRuntime) -> Result<(), Fail> {
+    let rows = [
         (
             "`a:b/c@`",
             "07030142000a0b010006613a622f63400500",
@@ -78,6 +118,14 @@ fn names(rt: HostRuntime) -> Result<(), Fail> {
             "07030142000a0d010008613a622f6340315f0500",
             "rule 20 in section 1",
         ),
+    ];
+    expect_answers(&rt, rt.alloc(), &rows)
+}
+
+/// Names of interfaces with a part too few or too many.
+#[test]
+fn illegal_parts_of_interfaces(rt: HostRuntime) -> Result<(), Fail> {
+    let rows = [
         (
             "`a:/c`",
             "07030142000a09010004613a2f630500",
@@ -98,6 +146,14 @@ fn names(rt: HostRuntime) -> Result<(), Fail> {
             "07030142000a0c010007613a622f632f640500",
             "rule 20 in section 1",
         ),
+    ];
+    expect_answers(&rt, rt.alloc(), &rows)
+}
+
+/// Labels and names of parameters and items.
+#[test]
+fn illegal_labels(rt: HostRuntime) -> Result<(), Fail> {
+    let rows = [
         (
             "a label of a case",
             "070901710103615f620000",
@@ -133,6 +189,14 @@ fn names(rt: HostRuntime) -> Result<(), Fail> {
             "0702017d0b09010003615f62030000",
             "rule 20 in section 1",
         ),
+    ];
+    expect_answers(&rt, rt.alloc(), &rows)
+}
+
+/// Names that may be any text, and names that differ.
+#[test]
+fn names_without_rules(rt: HostRuntime) -> Result<(), Fail> {
+    let rows = [
         (
             "an illegal name twice",
             "0a0f020003615f6203010003615f620301",
@@ -153,6 +217,14 @@ fn names(rt: HostRuntime) -> Result<(), Fail> {
             "0a06010001610301070d02680040010473656c660101000a1f02000b5b6d6574686f645d612e620102000b5b7374617469635d612e620102",
             "valid",
         ),
+    ];
+    expect_answers(&rt, rt.alloc(), &rows)
+}
+
+/// Annotated names that differ, and types without names.
+#[test]
+fn annotated_names_that_differ(rt: HostRuntime) -> Result<(), Fail> {
+    let rows = [
         (
             "a method named as its resource",
             "0a06010001610301070d02680040010473656c660101000a1001000b5b6d6574686f645d612e610102",

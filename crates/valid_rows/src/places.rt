@@ -1,9 +1,9 @@
 use crate::judging::expect_answers;
 use std::test::Fail;
 
-/// Which fault counts, and the place of its section.
+/// Which section is at fault.
 #[test]
-fn places(rt: HostRuntime) -> Result<(), Fail> {
+fn sections_of_faults(rt: HostRuntime) -> Result<(), Fail> {
     let rows = [
         (
             "sections are counted with the custom ones",
@@ -20,6 +20,14 @@ fn places(rt: HostRuntime) -> Result<(), Fail> {
             "042c0061736d0d00010001220061736d010000000105016000017f03020100070501016600000a0601040042070b",
             "rule 2 in section 0",
         ),
+    ];
+    expect_answers(&rt, rt.alloc(), &rows)
+}
+
+/// Which of two faults counts.
+#[test]
+fn first_faults(rt: HostRuntime) -> Result<(), Fail> {
+    let rows = [
         (
             "of two faults the first counts",
             "0704027d69000703017009",
@@ -35,6 +43,14 @@ fn places(rt: HostRuntime) -> Result<(), Fail> {
             "070d01720203615f627d03615f627d",
             "rule 9 in section 0",
         ),
+    ];
+    expect_answers(&rt, rt.alloc(), &rows)
+}
+
+/// What is in the type of a component.
+#[test]
+fn types_of_instances(rt: HostRuntime) -> Result<(), Fail> {
+    let rows = [
         (
             "a component without sections, twice",
             "04080061736d0d00010004080061736d0d000100",

@@ -1,9 +1,9 @@
 use crate::judging::expect_answers;
 use std::test::Fail;
 
-/// Who may do what with a resource, and which resources are one.
+/// Who may make a resource, look into it, and drop it.
 #[test]
-fn resources(rt: HostRuntime) -> Result<(), Fail> {
+fn makers_of_resources(rt: HostRuntime) -> Result<(), Fail> {
     let rows = [
         (
             "resource.new of a value type",
@@ -25,6 +25,14 @@ fn resources(rt: HostRuntime) -> Result<(), Fail> {
             "0a060100017203010803010300",
             "valid",
         ),
+    ];
+    expect_answers(&rt, rt.alloc(), &rows)
+}
+
+/// Imports of resources.
+#[test]
+fn imports_of_resources(rt: HostRuntime) -> Result<(), Fail> {
+    let rows = [
         (
             "an import of the resource of an instance of the component",
             "04170061736d0d0001000704013f7f000b07010001720300000504010000000606010300000172070a026900400101780101000a06010001660102",
@@ -40,6 +48,14 @@ fn resources(rt: HostRuntime) -> Result<(), Fail> {
             "0a06010001720301070a026900400101780101000a06010001660102",
             "valid",
         ),
+    ];
+    expect_answers(&rt, rt.alloc(), &rows)
+}
+
+/// Exports of resources.
+#[test]
+fn exports_of_resources(rt: HostRuntime) -> Result<(), Fail> {
+    let rows = [
         (
             "resource.new of an exported resource",
             "0704013f7f000b07010001720300000803010201",
@@ -65,6 +81,14 @@ fn resources(rt: HostRuntime) -> Result<(), Fail> {
             "0702017d0b09010001720300010301",
             "rule 22 in section 1",
         ),
+    ];
+    expect_answers(&rt, rt.alloc(), &rows)
+}
+
+/// Which resources are one.
+#[test]
+fn resources_that_are_one(rt: HostRuntime) -> Result<(), Fail> {
+    let rows = [
         (
             "instances of one component have resources of their own",
             "04170061736d0d0001000704013f7f000b0701000172030000050702000000000000060b020300000172030001017204160061736d0d0001000a0c020001610301000162030000050c010001020161030001620301",

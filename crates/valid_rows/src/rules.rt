@@ -1,9 +1,9 @@
 use crate::judging::expect_answers;
 use std::test::Fail;
 
-/// Each rule, broken and just kept.
+/// Modules and components in the component: rules 1 and 2.
 #[test]
-fn each_rule(rt: HostRuntime) -> Result<(), Fail> {
+fn rules_of_parts(rt: HostRuntime) -> Result<(), Fail> {
     let rows = [
         (
             "a body of another type",
@@ -25,6 +25,14 @@ fn each_rule(rt: HostRuntime) -> Result<(), Fail> {
             "04160061736d0d00010004080061736d0d00010007020179",
             "valid",
         ),
+    ];
+    expect_answers(&rt, rt.alloc(), &rows)
+}
+
+/// Indexes: rule 3.
+#[test]
+fn rule_of_indexes(rt: HostRuntime) -> Result<(), Fail> {
+    let rows = [
         (
             "a lift to a type that is not there",
             "01220061736d010000000105016000017f03020100070501016600000a0601040041070b020401000000060701000001000166070501400000790806010000000001",
@@ -40,6 +48,14 @@ fn each_rule(rt: HostRuntime) -> Result<(), Fail> {
             "0709017202016100016179",
             "rule 3 in section 0",
         ),
+    ];
+    expect_answers(&rt, rt.alloc(), &rows)
+}
+
+/// Arguments of modules: rules 4 and 5.
+#[test]
+fn rules_of_core_arguments(rt: HostRuntime) -> Result<(), Fail> {
+    let rows = [
         (
             "no argument for an import",
             "01180061736d010000000105016000017f020701016101660000020401000000",
@@ -60,6 +76,14 @@ fn each_rule(rt: HostRuntime) -> Result<(), Fail> {
             "01180061736d010000000105016000017f020701016101660000011f0061736d0100000001040160000003020100070501016600000a040102000b020b0200010000000101611200",
             "rule 5 in section 2",
         ),
+    ];
+    expect_answers(&rt, rt.alloc(), &rows)
+}
+
+/// Names of items that are made together: rule 6.
+#[test]
+fn rule_of_item_names(rt: HostRuntime) -> Result<(), Fail> {
+    let rows = [
         (
             "a name twice among core items",
             "01220061736d010000000105016000017f03020100070501016600000a0601040041070b020401000000060701000001000166020b0101020166000001660000",
@@ -75,6 +99,14 @@ fn each_rule(rt: HostRuntime) -> Result<(), Fail> {
             "070501400001000a06010001670100050d01010200016601000001460100",
             "rule 6 in section 2",
         ),
+    ];
+    expect_answers(&rt, rt.alloc(), &rows)
+}
+
+/// Aliases of exports: rule 7.
+#[test]
+fn rule_of_aliases(rt: HostRuntime) -> Result<(), Fail> {
+    let rows = [
         (
             "an alias of what is not exported",
             "01220061736d010000000105016000017f03020100070501016600000a0601040041070b020401000000060701000001000167",
@@ -95,6 +127,14 @@ fn each_rule(rt: HostRuntime) -> Result<(), Fail> {
             "070501400001000a06010001670100050801010100016601000606010100000166",
             "valid",
         ),
+    ];
+    expect_answers(&rt, rt.alloc(), &rows)
+}
+
+/// Outer aliases: rule 8.
+#[test]
+fn rule_of_outer_aliases(rt: HostRuntime) -> Result<(), Fail> {
+    let rows = [
         (
             "an outer alias beyond the outermost component",
             "0702017906050103020100",
@@ -130,6 +170,14 @@ fn each_rule(rt: HostRuntime) -> Result<(), Fail> {
             "070d033f7f006900400101780101000a06010001660102",
             "rule 8 in section 1",
         ),
+    ];
+    expect_answers(&rt, rt.alloc(), &rows)
+}
+
+/// Labels and flags: rule 9.
+#[test]
+fn rule_of_labels(rt: HostRuntime) -> Result<(), Fail> {
+    let rows = [
         (
             "a label in another case",
             "0709017202016179014179",
@@ -147,6 +195,14 @@ fn each_rule(rt: HostRuntime) -> Result<(), Fail> {
             "0779016e20026c30026c31026c32026c33026c34026c35026c36026c37026c38026c39036c3130036c3131036c3132036c3133036c3134036c3135036c3136036c3137036c3138036c3139036c3230036c3231036c3232036c3233036c3234036c3235036c3236036c3237036c3238036c3239036c3330036c3331",
             "valid",
         ),
+    ];
+    expect_answers(&rt, rt.alloc(), &rows)
+}
+
+/// Sizes and kinds of types: rules 10 and 11.
+#[test]
+fn rules_of_types(rt: HostRuntime) -> Result<(), Fail> {
+    let rows = [
         (
             "100 lists in one another",
             "07ec016470797000700170027003700470057006700770087009700a700b700c700d700e700f7010701170127013701470157016701770187019701a701b701c701d701e701f7020702170227023702470257026702770287029702a702b702c702d702e702f7030703170327033703470357036703770387039703a703b703c703d703e703f70c00070c10070c20070c30070c40070c50070c60070c70070c80070c90070ca0070cb0070cc0070cd0070ce0070cf0070d00070d10070d20070d30070d40070d50070d60070d70070d80070d90070da0070db0070dc0070dd0070de0070df0070e00070e10070e200",
@@ -172,6 +228,14 @@ fn each_rule(rt: HostRuntime) -> Result<(), Fail> {
             "070201790a06010001690500",
             "rule 11 in section 1",
         ),
+    ];
+    expect_answers(&rt, rt.alloc(), &rows)
+}
+
+/// Handles: rule 12.
+#[test]
+fn rule_of_handles(rt: HostRuntime) -> Result<(), Fail> {
+    let rows = [
         (
             "a handle of a value type",
             "070402796900",
@@ -183,6 +247,14 @@ fn each_rule(rt: HostRuntime) -> Result<(), Fail> {
             "070201790803010300",
             "rule 12 in section 1",
         ),
+    ];
+    expect_answers(&rt, rt.alloc(), &rows)
+}
+
+/// Functions: rule 13, and resources: rule 14.
+#[test]
+fn rules_of_functions(rt: HostRuntime) -> Result<(), Fail> {
+    let rows = [
         (
             "a borrow in a result",
             "070a033f7f00680040000001",
@@ -208,6 +280,14 @@ fn each_rule(rt: HostRuntime) -> Result<(), Fail> {
             "0708014201013f7f0100",
             "rule 3 in section 0",
         ),
+    ];
+    expect_answers(&rt, rt.alloc(), &rows)
+}
+
+/// Destructors: rule 14, and declared names: rule 15.
+#[test]
+fn rules_of_declarations(rt: HostRuntime) -> Result<(), Fail> {
+    let rows = [
         (
             "a destructor that gives a number",
             "01220061736d010000000105016000017f03020100070501016600000a0601040041070b0204010000000607010000010001660705013f7f0100",
@@ -233,6 +313,14 @@ fn each_rule(rt: HostRuntime) -> Result<(), Fail> {
             "070f014202040001610301040001620301",
             "valid",
         ),
+    ];
+    expect_answers(&rt, rt.alloc(), &rows)
+}
+
+/// Lifted functions: rules 16 and 17.
+#[test]
+fn rules_of_lifts(rt: HostRuntime) -> Result<(), Fail> {
+    let rows = [
         (
             "a lift to a function of another core type",
             "01220061736d010000000105016000017f03020100070501016600000a0601040041070b020401000000060701000001000166070801400101787900790806010000000000",
@@ -258,6 +346,14 @@ fn each_rule(rt: HostRuntime) -> Result<(), Fail> {
             "01220061736d010000000105016000017f03020100070501016600000a0601040041070b0204010000000607010000010001660705014000007908080100000001050000",
             "rule 17 in section 4",
         ),
+    ];
+    expect_answers(&rt, rt.alloc(), &rows)
+}
+
+/// Resources of others: rule 18, and names: rules 19 and 20.
+#[test]
+fn rules_of_names(rt: HostRuntime) -> Result<(), Fail> {
+    let rows = [
         (
             "resource.new of an imported resource",
             "0a060100017203010803010200",
@@ -284,6 +380,14 @@ fn each_rule(rt: HostRuntime) -> Result<(), Fail> {
             "070801720103615f6279",
             "rule 20 in section 0",
         ),
+    ];
+    expect_answers(&rt, rt.alloc(), &rows)
+}
+
+/// Exports: rules 21 and 22.
+#[test]
+fn rules_of_exports(rt: HostRuntime) -> Result<(), Fail> {
+    let rows = [
         (
             "an exported name in another case",
             "070201790b0d02000161030000000141030000",
@@ -304,6 +408,14 @@ fn each_rule(rt: HostRuntime) -> Result<(), Fail> {
             "07090240000100400001000a060100016601000b09010001670100010101",
             "valid",
         ),
+    ];
+    expect_answers(&rt, rt.alloc(), &rows)
+}
+
+/// Arguments of components: rule 23, and annotated names: rule 24.
+#[test]
+fn rules_of_arguments_and_annotations(rt: HostRuntime) -> Result<(), Fail> {
+    let rows = [
         (
             "an argument that lacks an export",
             "04200061736d0d000100070e01420201400001000400016601000a06010001690500050301010005080100000101690500",

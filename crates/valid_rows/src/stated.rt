@@ -1,9 +1,9 @@
 use crate::judging::expect_answers;
 use std::test::Fail;
 
-/// Exports with a stated type.
+/// Instances that are exported with a stated type.
 #[test]
-fn stated_types(rt: HostRuntime) -> Result<(), Fail> {
+fn stated_instances(rt: HostRuntime) -> Result<(), Fail> {
     let rows = [
         (
             "an instance shows the stated names alone",
@@ -25,6 +25,14 @@ fn stated_types(rt: HostRuntime) -> Result<(), Fail> {
             "07120240000100420201400001000400016101000a06010001660100050d01010200016101000001620100070e01420201400001000400016301000b09010001690500010502",
             "rule 22 in section 4",
         ),
+    ];
+    expect_answers(&rt, rt.alloc(), &rows)
+}
+
+/// Other stated types.
+#[test]
+fn stated_types(rt: HostRuntime) -> Result<(), Fail> {
+    let rows = [
         (
             "stated names of parameters",
             "070f02400101787d0100400101797d01000a060100016601000b09010001670100010101",
