@@ -10,8 +10,8 @@ ghost use Rattle.comp_describes.specs.Describes.{IsDescribed, IsNewInstance};
 
 use crate::again::add_type_again;
 use crate::descriptions::Described;
-use crate::functions::{func_at, no_func};
 use crate::giving::give_numbers;
+use comp_functions::{func_at, no_func};
 use comp_scopes::Scope;
 use comp_types::{
     DeclaredInstance, InstanceEntries, InstanceType, ItemType, Substitution, TypeItem, entries_with,

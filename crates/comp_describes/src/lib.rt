@@ -5,12 +5,10 @@ mod again;
 mod annotated;
 mod describes;
 mod descriptions;
-mod functions;
 mod giving;
 
 pub use again::add_type_again;
 pub use annotated::name_fits;
 pub use describes::{add_described, describe};
 pub use descriptions::Described;
-pub use functions::func_at;
 pub use giving::{Fresh, give_numbers};

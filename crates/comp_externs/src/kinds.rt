@@ -6,52 +6,13 @@ ghost use Rattle.comp_rules.specs.Spaces.{Space, kind_at};
 ghost use Rattle.comp_rules.specs.Types.{func_in};
 ghost use Rattle.comp_scopes.specs.Stands.{Stands};
 
+use comp_functions::{is_func_at, is_instance_at};
 use comp_resources::{Resources, resources_of_kind};
 use comp_scopes::Scope;
 use comp_types::TypeItem;
 use std::alloc::Global;
 use virt_base::NoMemory;
 use wasm_ast::ExternDesc;
-
-fn is_func(kind: &TypeItem) -> bool
-    ensures { result ≡ is_func (kind_of kind.now) }
-{
-    match kind {
-        TypeItem::Resource(_) => false,
-        TypeItem::Value(_) => false,
-        TypeItem::Func(_) => true,
-        TypeItem::Instance(_) => false,
-    }
-}
-
-fn is_instance(kind: &TypeItem) -> bool
-    ensures { result ≡ is_instance (kind_of kind.now) }
-{
-    match kind {
-        TypeItem::Resource(_) => false,
-        TypeItem::Value(_) => false,
-        TypeItem::Func(_) => false,
-        TypeItem::Instance(_) => true,
-    }
-}
-
-fn is_func_at(scope: &Scope, index: u32) -> bool
-    ensures { (s : Space) → Stands s scope.now → result ≡ if_there is_func (kind_at s index) }
-{
-    match scope.kind_at(index) {
-        None => true,
-        Some(kind) => is_func(kind),
-    }
-}
-
-fn is_instance_at(scope: &Scope, index: u32) -> bool
-    ensures { (s : Space) → Stands s scope.now → result ≡ if_there is_instance (kind_at s index) }
-{
-    match scope.kind_at(index) {
-        None => true,
-        Some(kind) => is_instance(kind),
-    }
-}
 
 /// Whether a function type or an instance type stands where a description names one.
 pub fn desc_has_kind(scope: &Scope, desc: ExternDesc) -> bool

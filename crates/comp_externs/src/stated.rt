@@ -11,7 +11,7 @@ ghost use Rattle.comp_rules.specs.Types.{instance_in};
 ghost use Rattle.comp_scopes.specs.Stands.{Stands};
 ghost use Rattle.comp_externs.specs.Takes.{TakesAlike};
 
-use comp_describes::func_at;
+use comp_functions::func_at;
 use comp_resources::resources_of_kind;
 use comp_scopes::Scope;
 use comp_types::{

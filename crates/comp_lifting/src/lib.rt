@@ -2,8 +2,8 @@
 #![tactic(auto)]
 
 mod canons;
+mod core_funcs;
 mod core_types;
-mod functions;
 mod lifts;
 mod lowers;
 mod resources;

@@ -9,8 +9,9 @@ ghost use Rattle.comp_types.specs.Views.{kind_of};
 ghost use Rattle.comp_scopes.specs.Judged.{Judged};
 ghost use Rattle.comp_scopes.specs.Stands.{Stands};
 
-use crate::functions::{CoreOf, facts_at, func_at, is_func_at};
+use crate::core_funcs::CoreOf;
 use comp_canons::{is_lifted_from, lift_options};
+use comp_functions::{facts_at, func_at, is_func_at};
 use comp_scopes::Scope;
 use comp_types::TypeItem;
 use std::alloc::Global;

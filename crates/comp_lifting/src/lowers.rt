@@ -8,9 +8,10 @@ ghost use Rattle.comp_rules.specs.Spaces.{Space, core_func_at};
 ghost use Rattle.comp_scopes.specs.Judged.{Judged};
 ghost use Rattle.comp_scopes.specs.Stands.{Stands};
 
+use crate::core_funcs::CoreOf;
 use crate::core_types::{add_core_func, lowered_type};
-use crate::functions::{CoreOf, facts_of_none};
 use comp_canons::lower_options;
+use comp_functions::facts_of_none;
 use comp_scopes::Scope;
 use std::alloc::Global;
 use virt_base::NoMemory;

@@ -1,57 +1,17 @@
 ghost use Rattle.std.specs.Prelude.{◌≡◌, IfOk, Some};
 ghost use Rattle.comp_types.specs.Views.{kind_of};
 ghost use Rattle.comp_facts.specs.Facts.{IsFuncFactsOf};
-ghost use Rattle.comp_rules.specs.Rules.{if_there, is_func};
 ghost use Rattle.comp_rules.specs.Spaces.{Space, kind_at};
 ghost use Rattle.comp_rules.specs.Types.{func_in, no_func};
 ghost use Rattle.comp_scopes.specs.Stands.{Stands};
 
-use comp_canons::CoreFuncs;
-use comp_cores::CoreScope;
 use comp_facts::{FuncFacts, PartFacts};
 use comp_scopes::Scope;
 use comp_types::{KnownFunc, TypeItem};
 use std::alloc::Global;
 use std::rc::Rc;
 use virt_base::NoMemory;
-use wasm_ast::CoreFunc;
 use wit_types::{Fields, FuncType};
-
-/// The types of a scope's core functions.
-#[derive(Clone, Copy)]
-pub struct CoreOf<'a>(pub &'a CoreScope);
-
-impl CoreFuncs for CoreOf<'_> {
-    ghost use Rattle.std.specs.Prelude.{ℕ};
-    ghost use Rattle.comp_cores.specs.Scopes.{func_in as core_func_in};
-
-    ghost at = { λ c i. core_func_in c.0.now i };
-
-    fn at(&self, index: u32) -> Option<&CoreFunc> {
-        self.0.func_at(index)
-    }
-}
-
-/// Whether the type at an index, if it is there, is that of a function.
-pub fn is_func_at(scope: &Scope, index: u32) -> bool
-    ensures { (s : Space) → Stands s scope.now → result ≡ if_there is_func (kind_at s index) }
-{
-    match scope.kind_at(index) {
-        None => true,
-        Some(kind) => is_func(kind),
-    }
-}
-
-fn is_func(kind: &TypeItem) -> bool
-    ensures { result ≡ is_func (kind_of kind.now) }
-{
-    match kind {
-        TypeItem::Resource(_) => false,
-        TypeItem::Value(_) => false,
-        TypeItem::Func(_) => true,
-        TypeItem::Instance(_) => false,
-    }
-}
 
 /// What is kept of a function without parameters and results.
 pub fn facts_of_none() -> FuncFacts
@@ -84,7 +44,8 @@ pub fn facts_at(scope: &Scope, index: u32) -> FuncFacts
     }
 }
 
-fn no_func(alloc: Global) -> Result<Rc<KnownFunc>, NoMemory>
+/// The type of a function without parameters and results.
+pub fn no_func(alloc: Global) -> Result<Rc<KnownFunc>, NoMemory>
     ensures { IfOk result (λ f. f.value ≡ no_func) }
 {
     let params = Fields {
@@ -111,7 +72,7 @@ fn func_of(alloc: Global, kind: &TypeItem) -> Result<Rc<KnownFunc>, NoMemory>
     }
 }
 
-/// The function type at an index.
+/// The function type at an index; one without parameters and results stands for what is none.
 pub fn func_at(alloc: Global, scope: &Scope, index: u32) -> Result<Rc<KnownFunc>, NoMemory>
     ensures { IfOk result (λ f. (s : Space) → Stands s scope.now → f.value ≡ func_in (kind_at s index)) }
 {

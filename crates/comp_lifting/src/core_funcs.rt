@@ -1,0 +1,20 @@
+ghost use Rattle.std.specs.Prelude.{ℕ};
+
+use comp_canons::CoreFuncs;
+use comp_cores::CoreScope;
+use wasm_ast::CoreFunc;
+
+/// The types of a scope's core functions.
+#[derive(Clone, Copy)]
+pub struct CoreOf<'a>(pub &'a CoreScope);
+
+impl CoreFuncs for CoreOf<'_> {
+    ghost use Rattle.std.specs.Prelude.{ℕ};
+    ghost use Rattle.comp_cores.specs.Scopes.{func_in as core_func_in};
+
+    ghost at = { λ c i. core_func_in c.0.now i };
+
+    fn at(&self, index: u32) -> Option<&CoreFunc> {
+        self.0.func_at(index)
+    }
+}
