@@ -3,4 +3,4 @@
 
 mod laws;
 
-pub use laws::bodies_stand;
+pub use laws::{bodies_stand, memories_are_filled};
