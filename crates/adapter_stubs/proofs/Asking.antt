@@ -1,7 +1,7 @@
 -- The code of a stub between its two routines.
-use Rattle.std.proofs.Common.{◌≡◌, ◌≢◌, ℕ, zero, suc, ◌+◌, ◌<◌, ◌≤◌, ◌^◌, List, [], ◌∷◌, ◌++◌, Bool, true, false, Option, Some, None, map, length, take, drop, reverse, refl, sym, ap, ◌∙◌, subst, arith, append-nil, append_assoc, set}
+use Rattle.std.proofs.Common.{◌≡◌, ◌≢◌, ℕ, zero, suc, ◌+◌, ◌<◌, ◌≤◌, ◌^◌, List, [], ◌∷◌, ◌++◌, Bool, true, false, map, length, take, drop, reverse, refl, sym, ap, ◌∙◌, subst, arith, append-nil, append_assoc}
 use Rattle.std.proofs.lemmas.List.{length-map, length-take-le, length-drop, length-reverse, reverse-append, reverse-reverse, drop_all, take_all}
-use Rattle.std.specs.Prelude.{if◌then◌else◌, slice_get, slice_set, slice_index_or}
+use Rattle.std.specs.Prelude.{if◌then◌else◌, slice_set, slice_index_or}
 use Rattle.wasm_ast.specs.declared.module.CoreFunc.{CoreFunc}
 use Rattle.wasm_ast.specs.declared.instr.BlockType.TheVariants.{Empty}
 use Rattle.wasm_ast.specs.declared.instr.Instr.{Instr}
@@ -9,8 +9,8 @@ use Rattle.wasm_ast.specs.declared.instr.Instr.TheVariants.{If, End, Call}
 use Rattle.core_code.specs.Tree.{Seq, Stop, Then, InBlock, InIf, Part, first, onto, placed, parts, tree}
 use Rattle.core_memory.specs.Linear.{Linear}
 use Rattle.core_store.specs.State.{State as StoreState, memory_at}
-use Rattle.core_eval.specs.Words.{words, word_of, i32_in, values_in}
-use Rattle.core_eval.specs.Config.{Reply, Config, Out, Over, Asks, then_do, with_stack}
+use Rattle.core_eval.specs.Words.{words, word_of, values_in}
+use Rattle.core_eval.specs.Config.{Reply, Out, Over, Asks, then_do, with_stack}
 use Rattle.core_eval.specs.Eval.{block_end, choose, replied, exec, go}
 use Rattle.handle_space.specs.HandleMap.{HandleMap}
 use Rattle.adapter_code.specs.declared.statement.Width.{Width}
@@ -24,11 +24,11 @@ use Rattle.adapter_compile.specs.declared.calls.HandleCalls.{HandleCalls}
 use Rattle.adapter_compile.specs.Instructions.{get, set as set_of, routine_code}
 use Rattle.adapter_compile.specs.Handles.{IsOutside}
 use Rattle.adapter_compile.specs.Does.{Home, store_with, config_of, IsInRange}
-use Rattle.adapter_compile.proofs.Places.{reads, small_fits, has_index}
+use Rattle.adapter_compile.proofs.Places.{reads, small_fits}
 use Rattle.adapter_compile.proofs.Steps.{i32_same, get_step, set_step, call_step}
 use Rattle.adapter_compile.proofs.Sequences.{seq_in, parts_of, tree_of}
 use Rattle.adapter_stubs.specs.declared.host_call.HostCall.{HostCall}
-use Rattle.adapter_stubs.specs.Stub.{gets, result_at, keeps_result, host_code, given, home_behind, result_in, state_behind, Answers, Skips, AsksHost, GoesOn, HasLocals, AsksSo, StubsAsk}
+use Rattle.adapter_stubs.specs.Stub.{gets, result_at, keeps_result, host_code, given, home_behind, result_in, state_behind, Skips, AsksHost, GoesOn, HasLocals, AsksSo, StubsAsk}
 
 -- ---- the structured syntax
 

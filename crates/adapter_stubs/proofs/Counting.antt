@@ -1,5 +1,5 @@
 -- How many functions are imported, and the module of its parts.
-use Rattle.std.proofs.Common.{◌≡◌, ℕ, suc, ◌+◌, ◌-◌, ◌<◌, ◌≤◌, ◌^◌, List, [], ◌∷◌, ◌++◌, Option, Some, None, length, refl, sym, ap, ◌∙◌, arith, append_assoc, length-append}
+use Rattle.std.proofs.Common.{◌≡◌, ℕ, suc, ◌+◌, ◌≤◌, List, [], ◌∷◌, ◌++◌, Option, Some, None, length, refl, ap, ◌∙◌, arith, append_assoc, length-append}
 use Rattle.wasm_ast.specs.declared.module.CoreFunc.{CoreFunc}
 use Rattle.wasm_ast.specs.declared.module.Import.{Import}
 use Rattle.wasm_ast.specs.declared.module.Export.{Export}
@@ -10,7 +10,6 @@ use Rattle.wasm_ast.specs.declared.module.Module.{Module}
 use Rattle.adapter_code.specs.declared.layout.Layout.{Layout}
 use Rattle.adapter_compile.specs.declared.calls.HandleCalls.{HandleCalls}
 use Rattle.adapter_module.specs.declared.module.Defined.{Defined}
-use Rattle.adapter_module.specs.declared.module.Parts.{Parts}
 use Rattle.adapter_module.specs.Module.{module_of}
 use Rattle.adapter_state.specs.declared.parts.Presence.{Presence}
 use Rattle.adapter_state.specs.State.{each_kind, drop_import, drop_calls}

@@ -1,18 +1,14 @@
 -- The parts of the stubs module fit each other, so it is valid.
-use Rattle.std.proofs.Common.{◌≡◌, ◌≢◌, ℕ, zero, suc, ◌+◌, ◌-◌, ◌<◌, ◌≤◌, ◌^◌, List, [], ◌∷◌, ◌++◌, Option, Some, None, All, map, length, drop, refl, sym, ap, ◌∙◌, subst, arith, append-nil, length-append, lit<}
+use Rattle.std.proofs.Common.{◌≡◌, ◌≢◌, ℕ, suc, ◌+◌, ◌<◌, ◌≤◌, ◌^◌, List, [], ◌∷◌, ◌++◌, Some, All, map, length, drop, refl, sym, ap, ◌∙◌, subst, arith, length-append}
 use Rattle.std.specs.Prelude.{slice_get}
 use Rattle.std.specs.Option.{option_and_then}
 use Rattle.std.specs.Fmt.{decimal}
 use Rattle.std.proofs.lemmas.Fmt.{decimal_injective}
 use Rattle.std.proofs.lemmas.List.{length-drop}
 use Rattle.std.proofs.lemmas.List.Elements.{All-nil, All-cons, All-append, All-head, All-tail, All-weaker}
-use Rattle.virt_base.specs.declared.core_type.CoreType.{CoreType}
 use Rattle.wasm_ast.specs.declared.module.CoreFunc.{CoreFunc}
 use Rattle.wasm_ast.specs.declared.module.Import.{Import}
 use Rattle.wasm_ast.specs.declared.module.Export.{Export}
-use Rattle.wasm_ast.specs.declared.module.Limits.{Limits}
-use Rattle.wasm_ast.specs.declared.module.Global.{Global}
-use Rattle.wasm_ast.specs.declared.module.Data.{Data}
 use Rattle.core_body.specs.Context.{Context, function_type}
 use Rattle.core_body.specs.Typing.{operands}
 use Rattle.core_body.specs.Locals.{spread}
@@ -20,7 +16,6 @@ use Rattle.core_body.specs.Views.{in_body}
 use Rattle.core_validate.specs.Spaces.{imported_functions, imported_memories, context}
 use Rattle.core_validate.specs.Validity.{IsValidModule}
 use Rattle.adapter_code.specs.declared.layout.Layout.{Layout}
-use Rattle.adapter_code.specs.Layout.{pages_of}
 use Rattle.adapter_code.specs.Layout.{Fits as FitsPages}
 use Rattle.adapter_compile.specs.declared.calls.HandleCalls.{HandleCalls}
 use Rattle.adapter_compile.specs.Instructions.{call_at}
@@ -28,10 +23,10 @@ use Rattle.adapter_compile.specs.Handles.{makes_type, drops_type}
 use Rattle.adapter_compile.specs.Does.{declared_of}
 use Rattle.adapter_valid.specs.Valid.{HasFunctions}
 use Rattle.adapter_valid.proofs.Pieces.{whole_body}
-use Rattle.adapter_valid.proofs.Functions.{sum_declared, get_front, get_back, locals_of}
+use Rattle.adapter_valid.proofs.Functions.{sum_declared, get_front, get_back}
 use Rattle.adapter_module.specs.declared.module.Defined.{Defined}
 use Rattle.adapter_module.specs.Module.{exports_from}
-use Rattle.adapter_module.specs.Valid.{AreDistinct, AreLimits, ImportFits, GlobalFits, SegmentFits, ExportFits, BodyFits, FunctionFits, Fits, names_of}
+use Rattle.adapter_module.specs.Valid.{AreDistinct, AreLimits, ImportFits, GlobalFits, SegmentFits, ExportFits, FunctionFits, Fits, names_of}
 use Rattle.adapter_module.proofs.Whole.{are_valid}
 use Rattle.adapter_state.specs.declared.parts.Presence.{Presence}
 use Rattle.adapter_state.specs.declared.parts.Presence.TheVariants.{Absent, Own, Host}
@@ -42,7 +37,7 @@ use Rattle.adapter_state.proofs.Fitting.{pages_fit}
 use Rattle.adapter_stubs.specs.declared.stub.HostFunc.{HostFunc}
 use Rattle.adapter_stubs.specs.declared.stub.Stub.{Stub}
 use Rattle.adapter_stubs.specs.Widths.{stub_widths}
-use Rattle.adapter_stubs.specs.Bodies.{stub_body, stub_code, counters_of, IsStub}
+use Rattle.adapter_stubs.specs.Bodies.{stub_code, counters_of, IsStub}
 use Rattle.adapter_stubs.specs.Stubs.{new_import, new_calls, memory_import, realloc_import, first_drop, calls_in, host_import, host_type, asked, host_imports, host_types, stub_types, stub_function, stub_functions, stubs_types, stubs_imports, first_host, stubs_parts, stubs_of, AreStubs}
 use Rattle.adapter_stubs.proofs.Locals.{function_locals}
 use Rattle.adapter_stubs.proofs.Pieces.{stub_piece}

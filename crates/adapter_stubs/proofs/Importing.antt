@@ -1,13 +1,10 @@
 -- The functions that the stubs module imports.
-use Rattle.std.proofs.Common.{◌≡◌, ℕ, zero, suc, ◌+◌, ◌<◌, ◌≤◌, List, [], ◌∷◌, ◌++◌, Option, Some, None, All, map, length, refl, sym, ap, ◌∙◌, subst, arith, append_assoc, append-nil, length-append}
+use Rattle.std.proofs.Common.{◌≡◌, ℕ, zero, suc, ◌+◌, ◌≤◌, List, [], ◌∷◌, ◌++◌, Option, Some, None, All, length, refl, sym, ap, ◌∙◌, arith, append_assoc, length-append}
 use Rattle.std.specs.Prelude.{slice_get}
 use Rattle.std.proofs.lemmas.List.Elements.{All-nil, All-cons, All-append}
-use Rattle.wasm_ast.specs.declared.module.CoreFunc.{CoreFunc}
-use Rattle.wasm_ast.specs.declared.module.Limits.{Limits}
-use Rattle.wasm_ast.specs.declared.module.GlobalType.{GlobalType}
 use Rattle.wasm_ast.specs.declared.module.Import.{Import}
 use Rattle.core_validate.specs.Gather.{gather}
-use Rattle.core_validate.specs.Spaces.{functions_of, memories_of, globals_of, imported_functions, imported_memories, imported_globals}
+use Rattle.core_validate.specs.Spaces.{functions_of, memories_of, imported_functions, imported_memories}
 use Rattle.adapter_code.specs.declared.layout.Layout.{Layout}
 use Rattle.adapter_compile.specs.Instructions.{call_at}
 use Rattle.adapter_module.specs.Valid.{ImportFits}
@@ -17,7 +14,7 @@ use Rattle.adapter_state.specs.State.{each_kind, drop_import}
 use Rattle.adapter_state.proofs.EachKind.{all_imported, no_memories, none_at}
 use Rattle.adapter_stubs.specs.declared.stub.HostFunc.{HostFunc}
 use Rattle.adapter_stubs.specs.declared.stub.Stub.{Stub}
-use Rattle.adapter_stubs.specs.Stubs.{new_import, new_calls, first_drop, host_import, host_type, asked, host_imports, host_types, memory_import, realloc_import, stubs_imports, first_host}
+use Rattle.adapter_stubs.specs.Stubs.{new_import, new_calls, host_import, host_type, asked, host_imports, host_types, stubs_imports, first_host}
 
 pub gather_append : {A B : Type 0} (f : A → List B) → (xs ys : List A) → gather f (xs ++ ys) ≡ gather f xs ++ gather f ys
 gather_append f [] ys = refl

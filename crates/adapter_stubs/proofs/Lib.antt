@@ -5,3 +5,6 @@ pub mod Pieces
 pub mod Importing
 pub mod Counting
 pub mod Fitting
+pub mod Running
+pub mod Answering
+pub mod Calling

@@ -1,5 +1,5 @@
 -- Where the locals of a stub stand.
-use Rattle.std.proofs.Common.{◌≡◌, ℕ, zero, suc, ◌+◌, ◌≤◌, List, [], ◌∷◌, ◌++◌, Option, Some, None, All, map, length, take, drop, refl, sym, ap, ◌∙◌, subst, arith, append_assoc}
+use Rattle.std.proofs.Common.{◌≡◌, ℕ, zero, suc, ◌+◌, List, [], ◌∷◌, ◌++◌, Some, All, map, length, take, drop, refl, sym, ap, ◌∙◌, arith, append_assoc}
 use Rattle.std.specs.Prelude.{slice_get}
 use Rattle.std.specs.Option.{option_map}
 use Rattle.std.proofs.lemmas.List.{length-map}
@@ -13,10 +13,9 @@ use Rattle.adapter_code.specs.declared.statement.Width.{Width}
 use Rattle.adapter_code.specs.declared.statement.Width.TheVariants.{Narrow}
 use Rattle.adapter_compile.specs.Does.{core_type, declared_of}
 use Rattle.adapter_valid.proofs.Functions.{get_front, get_back, locals_of, whole_locals}
-use Rattle.adapter_stubs.specs.declared.stub.HostFunc.{HostFunc}
 use Rattle.adapter_stubs.specs.declared.stub.Stub.{Stub}
 use Rattle.adapter_stubs.specs.Widths.{width_of, IsFlat, widths_of, further, result_width, host_params, first_widths, stub_widths, flag_of, result_of}
-use Rattle.adapter_stubs.specs.Bodies.{IsStub, counters_of}
+use Rattle.adapter_stubs.specs.Bodies.{counters_of}
 
 pub flat_same : (t : CoreType) → IsFlat t → core_type (width_of t) ≡ t
 flat_same I32 is = refl

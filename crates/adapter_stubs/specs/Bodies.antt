@@ -15,7 +15,7 @@ use Rattle.adapter_stubs.specs.declared.host_call.HostCall.{HostCall}
 use Rattle.adapter_stubs.specs.declared.stub.HostFunc.{HostFunc}
 use Rattle.adapter_stubs.specs.declared.stub.Stub.{Stub}
 use Rattle.adapter_stubs.specs.Stub.{host_code}
-use Rattle.adapter_stubs.specs.Widths.{IsFlat, gives, host_params, stub_widths, flag_of, result_of}
+use Rattle.adapter_stubs.specs.Widths.{IsFlat, gives, stub_widths, flag_of, result_of}
 
 -- the call of the host's function, which has this index
 abbrev pub host_call : ℕ → HostFunc → HostCall

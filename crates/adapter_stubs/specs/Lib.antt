@@ -2,3 +2,4 @@ pub mod Stub
 pub mod Widths
 pub mod Bodies
 pub mod Stubs
+pub mod Calls

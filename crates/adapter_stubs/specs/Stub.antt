@@ -1,14 +1,13 @@
 -- The code of a stub: a routine before, the host's function where the first routine asks for it, and then a routine after it.
-use Rattle.std.specs.Prelude.{◌≡◌, ◌≢◌, ℕ, zero, suc, ◌+◌, ◌<◌, ◌≤◌, ◌^◌, List, [], ◌∷◌, ◌++◌, Bool, true, false, map, length, take, drop, Option, Some, None, slice_get, if◌then◌else◌}
+use Rattle.std.specs.Prelude.{◌≡◌, ◌≢◌, ℕ, zero, suc, ◌+◌, ◌<◌, List, [], ◌∷◌, ◌++◌, Bool, map, length, take, drop, if◌then◌else◌}
 use Rattle.wasm_ast.specs.declared.module.CoreFunc.{CoreFunc}
 use Rattle.wasm_ast.specs.declared.instr.BlockType.TheVariants.{Empty}
 use Rattle.wasm_ast.specs.declared.instr.Instr.{Instr}
 use Rattle.wasm_ast.specs.declared.instr.Instr.TheVariants.{If, End, Call}
 use Rattle.core_code.specs.Tree.{tree}
-use Rattle.core_store.specs.declared.value.CoreValue.{CoreValue}
 use Rattle.core_store.specs.State.{memory_at}
 use Rattle.core_eval.specs.Words.{words, values_in}
-use Rattle.core_eval.specs.Config.{Reply, Out, Over, Asks, then_do}
+use Rattle.core_eval.specs.Config.{Reply, Over, Asks, then_do}
 use Rattle.core_eval.specs.Eval.{block_end, exec, go}
 use Rattle.handle_space.specs.HandleMap.{HandleMap}
 use Rattle.adapter_code.specs.declared.statement.Width.{Width}

@@ -1,9 +1,8 @@
 -- The stubs module: a function for each stub, exported under its place.
-use Rattle.std.specs.Prelude.{ℕ, zero, suc, ◌+◌, ◌<◌, ◌≤◌, ◌^◌, List, [], ◌∷◌, ◌++◌, Option, Some, None, length, codes}
+use Rattle.std.specs.Prelude.{ℕ, suc, ◌+◌, ◌<◌, ◌^◌, List, [], ◌∷◌, ◌++◌, Option, Some, None, length, codes}
 use Rattle.std.specs.List.{All}
 use Rattle.std.specs.Fmt.{decimal}
 use Rattle.wasm_ast.specs.declared.module.CoreFunc.{CoreFunc}
-use Rattle.wasm_ast.specs.declared.module.Limits.{Limits}
 use Rattle.wasm_ast.specs.declared.module.Import.{Import}
 use Rattle.wasm_ast.specs.declared.module.ImportItem.TheVariants.{Func, Memory}
 use Rattle.wasm_ast.specs.declared.module.Module.{Module}

@@ -12,6 +12,6 @@ mod types;
 mod widths;
 
 pub use host_call::HostCall;
-pub use laws::stubs_ask;
+pub use laws::{stubs_ask, stubs_run};
 pub use stub::{HostFunc, Stub};
 pub use stubs::stubs_module;

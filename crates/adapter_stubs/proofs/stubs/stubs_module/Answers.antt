@@ -1,9 +1,8 @@
-use Rattle.std.proofs.Common.{◌≡◌, ℕ, ◌+◌, ◌-◌, ◌≤◌, ◌++◌, List, refl, Result, Ok, Err, IfOk, length, sym, ap, ◌∙◌, subst, arith}
+use Rattle.std.proofs.Common.{◌≡◌, ◌+◌, ◌-◌, refl, Result, Ok, Err, IfOk, length, sym, ap, ◌∙◌, subst, arith}
 use Rattle.virt_base.specs.declared.fault.NoMemory.{NoMemory}
 use Rattle.wasm_ast.specs.declared.module.Module.{Module}
 use Rattle.core_validate.specs.Validity.{IsValidModule}
-use Rattle.adapter_compile.specs.declared.calls.HandleCalls.{HandleCalls}
-use Rattle.adapter_stubs.specs.Stubs.{first_drop, first_host, host_types, stub_functions, stubs_of}
+use Rattle.adapter_stubs.specs.Stubs.{first_drop, first_host, host_types, stubs_of}
 use Rattle.adapter_stubs.proofs.Counting.{functions_length, counts, imports_are, calls_are, module_is}
 use Rattle.adapter_stubs.proofs.Fitting.{stubs_valid}
 use Rattle.adapter_stubs.proofs.stubs.stubs_module.Goals as goal
