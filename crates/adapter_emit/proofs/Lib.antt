@@ -1,2 +1,5 @@
 pub mod Placing
+pub mod Opened
 pub mod Working
+pub mod Importing
+pub mod Stubbing

@@ -1,5 +1,5 @@
 -- Where the functions of the state module stand among its functions, and what it imports.
-use Rattle.std.proofs.Common.{◌≡◌, ◌≢◌, ℕ, zero, suc, ◌+◌, ◌<◌, ◌≤◌, List, [], ◌∷◌, ◌++◌, Bool, true, false, Option, Some, None, IsSome, length, take, refl, sym, ap, ◌∙◌, subst, arith, length-append}
+use Rattle.std.proofs.Common.{◌≡◌, ℕ, zero, suc, ◌+◌, List, [], ◌∷◌, ◌++◌, Bool, true, false, Option, Some, None, IsSome, length, take, refl, ap, ◌∙◌, arith, length-append}
 use Rattle.std.specs.Prelude.{slice_get, codes}
 use Rattle.std.specs.List.{flat_map}
 use Rattle.core_store.specs.declared.value.StoreFunc.{StoreFunc}
@@ -21,7 +21,7 @@ use Rattle.adapter_state.specs.declared.parts.Presence.TheVariants.{Absent, Own,
 use Rattle.adapter_state.specs.declared.parts.Posts.{Posts}
 use Rattle.adapter_state.specs.State.{each_kind, hosts, drop_calls, posts_of}
 use Rattle.adapter_state.proofs.EachKind.{none_at}
-use Rattle.adapter_emit.specs.StateWorks.{AreDrops, has_post, before_post, one_if}
+use Rattle.adapter_emit.specs.StateWorks.{AreDrops, has_post, before_post}
 
 -- what the kind at a place gives, where it gives one
 pub each_at : {A : Type 0} (f : ℕ → Presence → List A) → (k j i : ℕ) (ps : List Presence) (p : Presence) (x : A) → slice_get ps i ≡ Some p → j ≡ k + i → f j p ≡ x ∷ [] →

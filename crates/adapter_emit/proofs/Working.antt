@@ -1,6 +1,6 @@
 -- What the functions of the state module do.
-use Rattle.std.proofs.Common.{◌≡◌, ◌≢◌, ℕ, zero, suc, ◌+◌, ◌*◌, ◌/◌, ◌%◌, ◌<◌, ◌≤◌, ◌^◌, List, [], ◌∷◌, ◌++◌, Bool, true, false, Option, Some, None, IsSome, map, length, take, refl, sym, ap, ◌∙◌, subst, arith, length-append}
-use Rattle.std.specs.Prelude.{slice_get, unwrap_or, IfSome, Ok}
+use Rattle.std.proofs.Common.{◌≡◌, ◌≢◌, ℕ, suc, ◌+◌, ◌*◌, ◌%◌, ◌<◌, ◌≤◌, ◌^◌, List, [], ◌∷◌, true, Option, Some, None, length, take, refl, sym, ap, ◌∙◌, subst, arith}
+use Rattle.std.specs.Prelude.{slice_get, unwrap_or, IfSome}
 use Rattle.std.specs.Option.{option_and_then, option_map}
 use Rattle.std.specs.List.{flat_map}
 use Rattle.std.specs.Int.{w32}
@@ -11,24 +11,25 @@ use Rattle.wasm_ast.specs.declared.module.Module.{Module}
 use Rattle.core_body.specs.Context.{arrow}
 use Rattle.core_store.specs.declared.value.CoreSpaces.{CoreSpaces}
 use Rattle.core_store.specs.declared.value.CoreValue.TheVariants as values
-use Rattle.core_store.specs.declared.value.StoreFunc.{StoreFunc}
-use Rattle.core_store.specs.declared.value.StoreFunc.TheVariants.{Inside, Outside}
+use Rattle.core_store.specs.declared.value.StoreFunc.TheVariants.{Inside}
 use Rattle.core_store.specs.Locals.{each_local}
-use Rattle.core_store.specs.State.{State as StoreState, can_enter}
+use Rattle.core_memory.specs.Linear.{fresh, written}
+use Rattle.core_store.specs.State.{State as StoreState, memory_at}
 use Rattle.core_eval.specs.Config.{spaces_of}
 use Rattle.core_validate.specs.Items.{body_type}
 use Rattle.core_instance.specs.declared.external.Extern.{Extern}
 use Rattle.core_instance.specs.Spaces.{functions_of, memories_of, globals_of}
-use Rattle.core_instance.specs.Instantiation.{instantiated}
+use Rattle.core_instance.specs.Constants.{constant, offset_in}
+use Rattle.core_instance.specs.Instantiation.{names_of}
 use Rattle.instance_bodies.specs.Bodies.{HasBodies, spaces_in}
 use Rattle.instance_bodies.proofs.Standing.{stands}
+use Rattle.instance_bodies.proofs.Filling.{fill}
 use Rattle.adapter_code.specs.declared.layout.Layout.{Layout}
 use Rattle.adapter_code.specs.declared.statement.Width.{Width}
 use Rattle.adapter_code.specs.declared.statement.Width.TheVariants.{Narrow, Broad}
-use Rattle.adapter_code.specs.Layout.{Fits, table_at, transfer_at, end_of}
-use Rattle.adapter_compile.specs.declared.calls.HandleCalls.{HandleCalls}
+use Rattle.adapter_code.specs.Layout.{Fits, table_at, image_at, transfer_at, pages_of}
 use Rattle.adapter_compile.specs.Instructions.{call_at}
-use Rattle.adapter_compile.specs.Handles.{Numbers, drops_type, makes_type, IsOutside, AreHosted}
+use Rattle.adapter_compile.specs.Handles.{Numbers, drops_type, makes_type, IsOutside}
 use Rattle.adapter_compile.specs.Does.{Home, IsHome, IsPlaced, body_of}
 use Rattle.adapter_compile.proofs.Called.{compiled}
 use Rattle.adapter_valid.proofs.Functions.{get_front, get_back}
@@ -40,10 +41,11 @@ use Rattle.adapter_state.specs.declared.parts.Presence.{Presence}
 use Rattle.adapter_state.specs.declared.parts.Presence.TheVariants.{Absent, Own, Host}
 use Rattle.adapter_state.specs.declared.parts.Posts.{Posts}
 use Rattle.adapter_state.specs.Destructor.{destroy_widths, routine_of, CanDrop}
-use Rattle.adapter_state.specs.State.{each_kind, drop_calls, calls_in, host_kind, realloc_function, free_function, destructor_of, posts_of, state_functions, state_types, state_of}
+use Rattle.adapter_state.specs.State.{each_kind, drop_calls, calls_in, host_kind, realloc_function, free_function, destructor_of, posts_of, state_functions, state_types, constant_code, state_of}
 use Rattle.adapter_state.proofs.Destroying.{fine_destructor, destructs}
 use Rattle.adapter_state.proofs.EachKind.{none_at}
-use Rattle.adapter_emit.specs.StateWorks.{AreDrops, Later, destructor_at, posts_at, has_post, before_post, DestroysAt, StateWorks, StateStands, StateDoes}
+use Rattle.adapter_emit.specs.StateWorks.{AreDrops, Later, destructor_at, posts_at, has_post, before_post, DestroysAt, StateWorks, StateDoes}
+use Rattle.adapter_emit.proofs.Opened.{opened}
 use Rattle.adapter_emit.proofs.Placing.{each_at, type_at, post_of, post_here, none_memories, none_globals, drops_lead, can_drop}
 
 module _ (kinds : List Presence) (l : Layout) (image : List ℕ) (posts : Posts) (numbers : Numbers) (s t : StoreState) (imports : List Extern)
@@ -176,5 +178,15 @@ module _ (kinds : List Presence) (l : Layout) (image : List ℕ) (posts : Posts)
 
 pub does : StateDoes
 does kinds l image posts numbers s t imports few fits enters are made =
-    let has = stands s (state_of kinds l image posts) imports t enters made in
-    record { begins = begins kinds l image posts numbers s t imports few fits are has; works = λ u later. works kinds l image posts numbers s t imports few fits are has u later }
+    let m = state_of kinds l image posts in
+    let has = stands s m imports t enters made in
+    let full = fill s m imports t (record { min = pages_of l; max = Some (pages_of l) }) (constant_code (image_at l)) image (record { bare = refl; imported = none_memories numbers s.functions 0 kinds imports are; memory = refl; segment = refl }) made in
+    let small : image_at l < 2 ^ 32 = omega (arith, fits) in
+    let low : image_at l % 2 ^ 32 ≡ image_at l = omega (arith, small) in
+    let at : offset_in (constant (names_of s m imports) (constant_code (image_at l))) ≡ image_at l = of_z-to_z w32 (image_at l % 2 ^ 32) (omega (arith, small, low)) ∙ low in
+    let inside : image_at l + length image ≤ 65536 * pages_of l = let fit = full.within in omega (arith, fit, at) in
+    record {
+      opens = opened l image (memory_at t (length s.memories)) fits inside (full.holds ∙ ap (λ k. written (fresh (pages_of l) (Some (pages_of l))) k image) at);
+      begins = begins kinds l image posts numbers s t imports few fits are has;
+      works = λ u later. works kinds l image posts numbers s t imports few fits are has u later;
+    }

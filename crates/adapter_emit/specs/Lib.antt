@@ -1,2 +1,4 @@
 pub mod Emit
+pub mod Opening
 pub mod StateWorks
+pub mod StubsWork

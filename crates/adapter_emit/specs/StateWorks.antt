@@ -1,5 +1,5 @@
 -- What the functions of the state module do, in a store in which it was instantiated.
-use Rattle.std.specs.Prelude.{◌≡◌, ◌≢◌, ℕ, zero, suc, ◌+◌, ◌<◌, ◌≤◌, ◌^◌, List, [], ◌∷◌, ◌++◌, Bool, true, false, Option, Some, None, map, length, take, slice_get, Ok, if◌then◌else◌}
+use Rattle.std.specs.Prelude.{◌≡◌, ◌≢◌, ℕ, suc, ◌+◌, ◌<◌, ◌≤◌, ◌^◌, List, [], ◌∷◌, Bool, true, false, Option, Some, None, map, length, take, slice_get, Ok}
 use Rattle.std.specs.List.{All}
 use Rattle.slot_tables.specs.Places.{entry_of as entry_in}
 use Rattle.handle_space.specs.HandleMap.{HandleMap}
@@ -7,7 +7,7 @@ use Rattle.core_store.specs.declared.value.CoreValue.TheVariants as values
 use Rattle.core_store.specs.declared.value.CoreSpaces.{CoreSpaces}
 use Rattle.core_store.specs.declared.value.StoreFunc.{StoreFunc}
 use Rattle.core_store.specs.declared.value.StoreFunc.TheVariants.{Outside}
-use Rattle.core_store.specs.State.{State as StoreState, can_enter}
+use Rattle.core_store.specs.State.{State as StoreState, memory_at, can_enter}
 use Rattle.core_eval.specs.Config.{Reply, Done, spaces_of}
 use Rattle.core_eval.specs.Eval.{eval}
 use Rattle.core_instance.specs.declared.external.Extern.{Extern}
@@ -28,7 +28,8 @@ use Rattle.adapter_state.specs.declared.parts.Presence.{Presence}
 use Rattle.adapter_state.specs.declared.parts.Presence.TheVariants.{Absent, Own, Host}
 use Rattle.adapter_state.specs.declared.parts.Posts.{Posts}
 use Rattle.adapter_state.specs.Destructor.{Destroys, destructor_state}
-use Rattle.adapter_state.specs.State.{each_kind, host_kind, destructor_of, post_function, state_of}
+use Rattle.adapter_state.specs.State.{each_kind, host_kind, destructor_of, state_of}
+use Rattle.adapter_emit.specs.Opening.{Opens}
 
 -- ---- where the instance stands
 
@@ -87,8 +88,9 @@ pub record StateWorks (kinds : List Presence) (l : Layout) (posts : Posts) (numb
   pub post_returns : (flat : Option Width) → has_post posts flat ≡ true → (global at : ℕ) → IsUsed l spaces u global at → (v : ℕ) (rs : List Reply) (n : ℕ) →
       eval u (first + (posts_at kinds l + before_post posts flat)) (result_values flat v) rs (2 + n) ≡ Done [] (with_end u global (transfer_at l)) n
 
--- so it is in each later store; and once the module is instantiated, the used part is empty
-pub record StateStands (kinds : List Presence) (l : Layout) (posts : Posts) (numbers : Numbers) (s t : StoreState) : Type 0 where
+-- so it is in each later store; and once the module is instantiated, the used part is empty, and the memory is as it opens
+pub record StateStands (kinds : List Presence) (l : Layout) (image : List ℕ) (posts : Posts) (numbers : Numbers) (s t : StoreState) : Type 0 where
+  pub opens : Opens l image (memory_at t (length s.memories))
   pub begins : IsUsed l (spaces_of t.instances (length s.instances)) t (length s.globals) (transfer_at l)
   pub works : (u : StoreState) → Later t u (length s.instances) → StateWorks kinds l posts numbers (spaces_of t.instances (length s.instances)) u (length s.functions) (length s.memories)
 
@@ -96,4 +98,4 @@ abbrev pub StateDoes : Type 0
 StateDoes =
     (kinds : List Presence) (l : Layout) (image : List ℕ) (posts : Posts) (numbers : Numbers) (s t : StoreState) (imports : List Extern) →
     length kinds ≤ 14 → Fits l → can_enter s ≡ true → AreDrops numbers s.functions 0 kinds imports → instantiated s (state_of kinds l image posts) imports ≡ Ok t →
-    StateStands kinds l posts numbers s t
+    StateStands kinds l image posts numbers s t

@@ -5,5 +5,5 @@ mod laws;
 mod modules;
 mod posts;
 
-pub use laws::state_does;
+pub use laws::{state_does, stubs_do};
 pub use modules::{Emitted, Routines, emit};
