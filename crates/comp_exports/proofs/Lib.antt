@@ -1,0 +1,5 @@
+pub mod Shapes
+pub mod Kept
+pub mod Items
+pub mod Made
+pub mod Spelled
