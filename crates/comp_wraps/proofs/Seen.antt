@@ -16,7 +16,7 @@ module _ {S : Type 0} (h : HostStep S) (s : S) (calls : List Call) where
   all_of_it : (xs ys : List PlainObservation) → xs ≡ ys → IsPrefixOf xs ys
   all_of_it xs ys e = ([], append-nil xs ∙ e)
 
-  later_same : (H G : Group) → OneStepLater H G h s Endless calls → SameObservations (seen G [] h s calls) (seen H [] h s calls)
+  pub later_same : (H G : Group) → OneStepLater H G h s Endless calls → SameObservations (seen G [] h s calls) (seen H [] h s calls)
   later_same H G l = record {
     first = λ n. (suc n, all_of_it (seen G [] h s calls n) (seen H [] h s calls (suc n)) (sym (l.seen n)));
     second = back;
@@ -28,9 +28,9 @@ module _ {S : Type 0} (h : HostStep S) (s : S) (calls : List Call) where
 
 pub wrapped_do_same : {S : Type 0} → (h : HostStep S) → WrappedDoSame h
 wrapped_do_same h w c wraps none s calls =
-    subst (λ z. SeenWrapped z c h s calls) (sym wraps.2)
-    (let sur = surrounds wraps.0 c wraps.1 none wraps.3 in
+    subst (λ z. SeenWrapped z c h s calls) (sym wraps.3)
+    (let sur = surrounds wraps.0 c wraps.1 wraps.2 wraps.4 none wraps.5 in
     record {
-      same = later_same h s calls (group_of (wrapping wraps.0 c wraps.1)) (group_of c) (surrounded _ _ (place behind_one) sur h s Endless calls);
+      same = later_same h s calls (group_of (wrapping wraps.0 c wraps.2)) (group_of c) (surrounded _ _ (place behind_one) sur h s Endless calls);
       later = λ d. surrounded _ _ (place behind_one) sur h s d calls;
     })

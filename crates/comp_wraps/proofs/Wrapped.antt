@@ -1,5 +1,5 @@
 -- The group of a wrapping component surrounds that of the component in it.
-use Rattle.std.proofs.Common.{◌≡◌, ℕ, ◌+◌, ◌&&◌, nat_eq, cond, List, [], ◌∷◌, map, Option, Some, None, Bool, true, false, refl, sym, ◌∙◌, ap, arith}
+use Rattle.std.proofs.Common.{◌≡◌, inl, inr, ℕ, ◌+◌, ◌&&◌, nat_eq, cond, List, [], ◌∷◌, map, Option, Some, None, Bool, true, false, refl, sym, ◌∙◌, ap, subst, arith}
 use Rattle.std.specs.Prelude.{slice_get}
 use Rattle.std.specs.Option.{option_map}
 use Rattle.std.proofs.lemmas.Bool.{eqb-true, eqb-false}
@@ -18,7 +18,7 @@ use Rattle.comp_parts.specs.Parts.{func_to, owner_to}
 use Rattle.comp_link.specs.Plans.{Scope, no_scope, and_plan, Plan, End, Then, followed, own_numbers, plan_all, plan_tree, plan_of}
 use Rattle.comp_link.specs.Linking.{Given, Givens, GivenFunc, GivenInstance, GivenResource, GivenType, Nothing, find, Placed, Owned, Whole, Making, begun, and_stage, with_component, link_item, link, all_outside, all_known, behind_known, known_in, canon_in, owner_in, target_in as target_of, instance_in, exported, linked, group_of}
 use Rattle.comp_wraps.specs.Inside.{Standing, place, target_in, given_in, givens_in, placed_in, owned_in, whole_in, making_in}
-use Rattle.comp_wraps.specs.Wrapping.{Handed, alias_of, exports_from, wrapping, is_of_sort, AreThere, IsNamed, AreExports}
+use Rattle.comp_wraps.specs.Wrapping.{Handed, alias_of, exports_from, HandOn, wrapping, is_of_sort, AreThere, IsNamed, AreExports}
 use Rattle.comp_wraps.specs.Laws.{Surrounds, ImportsNone}
 use Rattle.comp_wraps.proofs.Inside.{cond_some, find_in, linked_inside}
 use Rattle.comp_wraps.proofs.Apart.{tree_apart, plan_apart}
@@ -73,15 +73,19 @@ with_aliases inner es = after_all [] (with_one inner) (map AnAlias (map alias_of
 abbrev with_exports : Space → List Handed → Space
 with_exports inner es = after_all [] (with_aliases inner es) (map AnExport (exports_from 0 1 0 es))
 
+handed_space : (s : Space) (es : List Handed) (sections : Tree) → HandOn es sections → after_tree [] s sections ≡ after_all [] (after_all [] s (map AnAlias (map alias_of es))) (map AnExport (exports_from 0 1 0 es))
+handed_space s es sections (inl e) = ap (after_tree [] s) e
+handed_space s es sections (inr (none, e)) = subst (λ z. after_tree [] s sections ≡ after_all [] (after_all [] s (map AnAlias (map alias_of z))) (map AnExport (exports_from 0 1 0 z))) (sym none) (ap (after_tree [] s) e)
+
 -- in the spaces of the component where it stands
-wrapping_space : (span : Span) (c : Tree) (es : List Handed) → after_tree [] root (wrapping span c es) ≡ with_exports (after_tree [] root c) es
-wrapping_space span c es = ap (λ inner. with_exports inner es) (tree_apart [] root c)
+wrapping_space : (span : Span) (c : Tree) (es : List Handed) (sections : Tree) → HandOn es sections → after_tree [] root (wrapping span c sections) ≡ with_exports (after_tree [] root c) es
+wrapping_space span c es sections hand = handed_space (with_one (after_tree (root ∷ []) root c)) es sections hand ∙ ap (λ inner. with_exports inner es) (tree_apart [] root c)
 
 all_kept : (inner : Space) (es : List Handed) → Kept (with_one inner) (with_exports inner es)
 all_kept inner es = exports_kept (with_aliases inner es) 0 1 0 es ∙ aliases_kept (with_one inner) es
 
-no_imports : (span : Span) (c : Tree) (es : List Handed) → (after_tree [] root (wrapping span c es)).imports ≡ NoEntries
-no_imports span c es = ap (λ s. s.imports) (wrapping_space span c es) ∙ all_kept (after_tree [] root c) es
+no_imports : (span : Span) (c : Tree) (es : List Handed) (sections : Tree) → HandOn es sections → (after_tree [] root (wrapping span c sections)).imports ≡ NoEntries
+no_imports span c es sections hand = ap (λ s. s.imports) (wrapping_space span c es sections hand) ∙ all_kept (after_tree [] root c) es
 
 -- ---- 2. how it is linked
 
@@ -112,7 +116,17 @@ same_place j k = go (nat_eq j k) refl (nat_eq (1 + j) (1 + k)) refl
     go true is false is' = absurd (eqb-false (1 + j) (1 + k) is' (ap (λ z. 1 + z) (eqb-true j k is)))
     go false is true is' = absurd (eqb-false j k is (one_less j k (eqb-true (1 + j) (1 + k) is')))
 
-module _ (span : Span) (c : Tree) (es : List Handed) (none : ImportsNone c) where
+-- the plan of the sections that hand on
+abbrev handed_after : Space → Scope → List Handed → Plan
+handed_after s scope es =
+    followed (plan_all [] [] s scope (map AnAlias (map alias_of es))).plan
+    (followed (plan_all [] [] (after_all [] s (map AnAlias (map alias_of es))) (plan_all [] [] s scope (map AnAlias (map alias_of es))).scope (map AnExport (exports_from 0 1 0 es))).plan End)
+
+handed_plan : (s : Space) (scope : Scope) (es : List Handed) (sections : Tree) → HandOn es sections → plan_tree [] [] s scope sections ≡ handed_after s scope es
+handed_plan s scope es sections (inl e) = ap (plan_tree [] [] s scope) e
+handed_plan s scope es sections (inr (none, e)) = subst (λ z. plan_tree [] [] s scope sections ≡ handed_after s scope z) (sym none) (ap (plan_tree [] [] s scope) e)
+
+module _ (span : Span) (c : Tree) (es : List Handed) (sections : Tree) (hand : HandOn es sections) (none : ImportsNone c) where
   abbrev inner : Space
   inner = after_tree (root ∷ []) root c
 
@@ -123,7 +137,7 @@ module _ (span : Span) (c : Tree) (es : List Handed) (none : ImportsNone c) wher
   scope = and_plan no_scope (Some planned)
 
   abbrev w : Tree
-  w = wrapping span c es
+  w = wrapping span c sections
 
   abbrev first : Making
   first = begun (nothing_yet (base_of w)) (all_outside [] (after_tree [] root w).imports)
@@ -149,7 +163,7 @@ module _ (span : Span) (c : Tree) (es : List Handed) (none : ImportsNone c) wher
   linked_within : link planned (begun (and_stage first.whole Begins) Nothing) ≡ within
   linked_within =
       ap (λ p. link p (begun (and_stage first.whole Begins) Nothing)) (plan_apart [] [] root no_scope c)
-      ∙ ap (λ z. link (plan_of c) (making_in behind_one (begun (nothing_yet z) Nothing))) (ap (λ i. behind_known (all_known [] i)) (no_imports span c es ∙ sym none))
+      ∙ ap (λ z. link (plan_of c) (making_in behind_one (begun (nothing_yet z) Nothing))) (ap (λ i. behind_known (all_known [] i)) (no_imports span c es sections hand ∙ sym none))
       ∙ linked_inside behind_one (plan_of c) (begun (nothing_yet (base_of c)) Nothing)
       ∙ ap (making_in behind_one) (sym linked_alone)
 
@@ -158,7 +172,8 @@ module _ (span : Span) (c : Tree) (es : List Handed) (none : ImportsNone c) wher
 
   linked_wrapping : linked w ≡ link (exports_plan X (with_aliases inner es) scope_reached 0 1 0 es) (link (items_of es) made_one)
   linked_wrapping =
-      link_followed aliases_reached (followed (exports_plan X (with_aliases inner es) scope_reached 0 1 0 es) End) (with_component first own (link planned (begun (and_stage first.whole Begins) Nothing)))
+      ap (λ p. link p (with_component first own (link planned (begun (and_stage first.whole Begins) Nothing)))) (handed_plan (with_one inner) scope es sections hand)
+      ∙ link_followed aliases_reached (followed (exports_plan X (with_aliases inner es) scope_reached 0 1 0 es) End) (with_component first own (link planned (begun (and_stage first.whole Begins) Nothing)))
       ∙ link_followed (exports_plan X (with_aliases inner es) scope_reached 0 1 0 es) End (link aliases_reached (with_component first own (link planned (begun (and_stage first.whole Begins) Nothing))))
       ∙ ap (λ z. link (exports_plan X (with_aliases inner es) scope_reached 0 1 0 es) (link aliases_reached (with_component first own z))) linked_within
       ∙ ap (λ p. link (exports_plan X (with_aliases inner es) scope_reached 0 1 0 es) (link p made_one)) (aliases_plan (with_one inner) scope es)
@@ -237,7 +252,7 @@ module _ (span : Span) (c : Tree) (es : List Handed) (none : ImportsNone c) wher
       record {
         canons = λ k n. ap (λ z. canon_in z.canons (place behind_one k) n) whole ∙ canons_in (linked c).whole.canons k n;
         owner = λ r. ap (λ z. owner_in z.owners r) whole ∙ owners_in (linked c).whole.owners r;
-        imported = λ r. ap (λ z. known_in (all_known [] z) r) (no_imports span c es ∙ sym none);
+        imported = λ r. ap (λ z. known_in (all_known [] z) r) (no_imports span c es sections hand ∙ sym none);
         exports = λ interface name. ap (λ z. target_of (exported z interface name)) exports ∙ same_targets X es x.0 x.1 (exports_in are) interface name ∙ targets_in (linked c).exports interface name;
         stages = ap (λ z. z.stages) whole;
         once = one_less;

@@ -33,13 +33,19 @@ exports_from f i t (e ∷ es) = elim e.sort [
   | sorts.Type ↦ export_at e t ∷ exports_from f i (t + 1) es
 ]
 
--- the aliased instances stand behind the one instance
-abbrev pub wrapping : Span → Tree → List Handed → Tree
-wrapping span tree es =
+-- the sections that hand these on; the aliased instances stand behind the one instance
+abbrev pub handing : List Handed → Tree
+handing es = More (Aliases (map alias_of es)) (More (Exports (exports_from 0 1 0 es)) End)
+
+-- where nothing is handed on, there may be none
+abbrev pub HandOn : List Handed → Tree → Type 0
+HandOn es sections = (sections ≡ handing es) ⊎ ((es ≡ []) × (sections ≡ End))
+
+abbrev pub wrapping : Span → Tree → Tree → Tree
+wrapping span tree sections =
     More (Nested span tree)
     (More (Instances (instances.Instantiate 0 [] ∷ []))
-    (More (Aliases (map alias_of es))
-    (More (Exports (exports_from 0 1 0 es)) End)))
+    sections)
 
 -- ---- these are all exports, each by its sort
 
@@ -67,4 +73,4 @@ pub record AreExports (exports : Givens) (es : List Handed) : Type 0 where
 
 -- `w` holds `c` unchanged and hands on all that it exports
 abbrev pub Wraps : Tree → Tree → Type 0
-Wraps w c = (span : Span) × (es : List Handed) × (w ≡ wrapping span c es) × AreExports (linked c).exports es
+Wraps w c = (span : Span) × (es : List Handed) × (sections : Tree) × (w ≡ wrapping span c sections) × HandOn es sections × AreExports (linked c).exports es

@@ -1,2 +1,3 @@
 pub mod Compute
+pub mod Exported
 pub mod Premises

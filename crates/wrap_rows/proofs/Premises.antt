@@ -1,12 +1,13 @@
 -- The component exports what is handed on, and nothing else.
-use Rattle.std.proofs.Common.{◌≡◌, inl, inr, cond, Some, None, Bool, true, false, refl, subst}
+use Rattle.std.proofs.Common.{◌≡◌, inl, inr, cond, [], Some, None, Bool, true, false, refl, subst}
 use Rattle.std.specs.Prelude.{codes}
 use Rattle.wit_types.specs.Plain.{Name}
 use Rattle.comp_types.specs.Items.{same_name}
 use Rattle.comp_types.proofs.ValueLaws.{name-sound}
+use Rattle.comp_grammar.specs.Trees.{End}
 use Rattle.comp_link.specs.Linking.{Given, Giving, Nothing, find, linked}
-use Rattle.comp_wraps.specs.Wrapping.{IsNamed, AreExports}
-use Rattle.wrap_rows.specs.Trees.{somewhere, constant, handed}
+use Rattle.comp_wraps.specs.Wrapping.{IsNamed, AreExports, handing}
+use Rattle.wrap_rows.specs.Trees.{somewhere, constant, handed, silent}
 use Rattle.wrap_rows.specs.Rows.{PremisesHold}
 
 -- one of four names
@@ -30,5 +31,13 @@ all_handed name item is =
 are_exports : AreExports (linked constant).exports handed
 are_exports = record { each = ((_, refl, refl), ((_, refl, refl), ((_, refl, refl), ((_, refl, refl), tt)))); all = all_handed }
 
+none_exported : AreExports (linked silent).exports []
+none_exported = record { each = tt; all = λ name item is. let q : None ≡ Some item = is in cc }
+
 pub premises_hold : PremisesHold
-premises_hold = record { wraps = (somewhere, handed, refl, are_exports); imports_none = refl }
+premises_hold = record {
+  wraps = (somewhere, handed, handing handed, refl, inl refl, are_exports);
+  imports_none = refl;
+  silent_wraps = (somewhere, [], End, refl, inr (refl, refl), none_exported);
+  empty_wraps = (somewhere, [], handing [], refl, inl refl, none_exported);
+}

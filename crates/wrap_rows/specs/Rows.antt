@@ -3,12 +3,18 @@ use Rattle.std.specs.Prelude.{ℕ, suc, ◌≡◌, List, [], ◌∷◌, pos, cod
 use Rattle.wit_types.specs.PlainValue.{IntValue, End as NoValues}
 use Rattle.host_port.specs.Calls.{PlainObservation, Called, Dropped, Returned, Spent, Trapped, Gives}
 use Rattle.host_port.specs.Hosts.{HostStep}
+use Rattle.wit_types.specs.Plain.{BoolType}
+use Rattle.comp_types.specs.Items.{InstanceItem, KindItem, ResourceKind, ValueKind, End, More}
 use Rattle.comp_grammar.specs.Trees.{Tree}
+use Rattle.comp_rules.specs.Added.{type_of}
+use Rattle.comp_link.specs.Linking.{GivenInstance, GivenType, Nothing, Giving, linked}
 use Rattle.comp_worlds.specs.Observed.{Call}
 use Rattle.comp_link.specs.Components.{component_obs}
 use Rattle.comp_wraps.specs.Wrapping.{Wraps}
 use Rattle.comp_wraps.specs.Laws.{ImportsNone}
-use Rattle.wrap_rows.specs.Trees.{constant, wrapped}
+use Rattle.comp_exports.specs.Sections.{DefinesTypes}
+use Rattle.comp_exports.specs.Exports.{IsOf, AreExportsOf}
+use Rattle.wrap_rows.specs.Trees.{constant, wrapped, silent, silent_wrapped, silent_handed}
 
 -- a host that would count its calls
 abbrev pub counting : HostStep ℕ
@@ -47,6 +53,27 @@ pub record WrappedExamples : Type 0 where
   pub no_function : runs wrapped (t ∷ []) 4 ≡ Trapped ∷ []
   pub no_step : runs wrapped (f ∷ []) 0 ≡ Spent ∷ []
 
+-- the module alone; in the wrapping component the instance before it
+pub record SilentExamples : Type 0 where
+  pub alone : runs silent [] 1 ≡ []
+  pub alone_fewer : runs silent [] 0 ≡ Spent ∷ []
+  pub no_function : runs silent (f ∷ []) 2 ≡ Trapped ∷ []
+  pub wrapped : runs silent_wrapped [] 2 ≡ []
+  pub wrapped_fewer : runs silent_wrapped [] 1 ≡ Spent ∷ []
+  pub wrapped_no_function : runs silent_wrapped (f ∷ []) 3 ≡ Trapped ∷ []
+  pub empty_sections : runs silent_handed (f ∷ []) 3 ≡ Trapped ∷ []
+
+-- a function where the type has one, an instance with the items of its type, a resource and another type
+pub record ExportsExamples : Type 0 where
+  pub item_by_item : AreExportsOf (type_of constant).exports (linked constant).exports
+  pub of_the_instance : IsOf (GivenInstance (Giving (codes "g") GivenType (Giving (codes "f") GivenType Nothing))) (InstanceItem (More (codes "g") (KindItem (ValueKind BoolType)) End))
+  pub no_instance : IsOf GivenType (InstanceItem End) → ⊥
+  pub no_resource : IsOf GivenType (KindItem (ResourceKind 0)) → ⊥
+  pub one_more : AreExportsOf End (Giving (codes "f") GivenType Nothing) → ⊥
+  pub defines : DefinesTypes constant
+
 pub record PremisesHold : Type 0 where
   pub wraps : Wraps wrapped constant
   pub imports_none : ImportsNone constant
+  pub silent_wraps : Wraps silent_wrapped silent
+  pub empty_wraps : Wraps silent_handed silent

@@ -19,7 +19,7 @@ use Rattle.wasm_ast.specs.declared.component.TypeItem.TheVariants as items
 use Rattle.wasm_ast.specs.declared.component.Canon.TheVariants as canons
 use Rattle.wasm_ast.specs.declared.component.ComponentExport.{ComponentExport}
 use Rattle.comp_grammar.specs.Trees.{Part, Tree, CoreModule, CoreInstances, Instances, Aliases, Types, Canons, Exports, End, More}
-use Rattle.comp_wraps.specs.Wrapping.{Handed, wrapping}
+use Rattle.comp_wraps.specs.Wrapping.{Handed, handing, wrapping}
 
 abbrev pub tree : List Part → Tree
 tree [] = End
@@ -64,4 +64,18 @@ abbrev pub handed : List Handed
 handed = record { name = codes "i"; sort = sorts.Instance } ∷ record { name = codes "f"; sort = sorts.Func } ∷ record { name = codes "r"; sort = sorts.Type } ∷ record { name = codes "t"; sort = sorts.Type } ∷ []
 
 abbrev pub wrapped : Tree
-wrapped = wrapping somewhere constant handed
+wrapped = wrapping somewhere constant (handing handed)
+
+-- It makes the same instances, and exports nothing.
+abbrev pub silent : Tree
+silent = tree (
+    CoreModule somewhere answering
+    ∷ CoreInstances (core_instances.Instantiate 0 [] ∷ [])
+    ∷ [])
+
+-- without sections of aliases and exports, and with empty ones
+abbrev pub silent_wrapped : Tree
+silent_wrapped = wrapping somewhere silent End
+
+abbrev pub silent_handed : Tree
+silent_handed = wrapping somewhere silent (handing [])

@@ -1,7 +1,13 @@
 //! What is seen of a small component that is wrapped, by examples that compute.
 #![tactic(auto)]
 
-ghost use Rattle.wrap_rows.specs.Rows.{AloneExamples, WrappedExamples, PremisesHold};
+ghost use Rattle.wrap_rows.specs.Rows.{
+  AloneExamples,
+  WrappedExamples,
+  SilentExamples,
+  ExportsExamples,
+  PremisesHold,
+};
 
 /// A component without imports is called, with its steps counted. It does nothing when it runs.
 #[tactic(auto, using(crate::proofs::Compute::alone_examples))]
@@ -15,7 +21,20 @@ pub fn wrapped_components_are_called()
     ensures { WrappedExamples }
 {}
 
-/// The premises of the law of wrapped components can be met: these two meet them. It does nothing when it runs.
+/// A component that exports nothing is made in one step more where it is wrapped, with empty sections and without. It does nothing
+/// when it runs.
+#[tactic(auto, using(crate::proofs::Compute::silent_examples))]
+pub fn silent_components_are_wrapped()
+    ensures { SilentExamples }
+{}
+
+/// What a component exports is of its type, item by item. It does nothing when it runs.
+#[tactic(auto, using(crate::proofs::Exported::exports_examples))]
+pub fn exports_are_of_their_types()
+    ensures { ExportsExamples }
+{}
+
+/// The premises of the law of wrapped components can be met: these meet them. It does nothing when it runs.
 #[tactic(auto, using(crate::proofs::Premises::premises_hold))]
 pub fn premises_are_met()
     ensures { PremisesHold }
