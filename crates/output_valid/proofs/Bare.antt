@@ -9,7 +9,7 @@ use Rattle.comp_rules.specs.Validity.{IsValidPart, IsValidTree, IsValidComponent
 mutual
   unfolding bare_part bare
 
-  part_adds : (around : List Space) (s : Space) (part : Part) → after_part around s (bare_part part) ≡ after_part around s part
+  pub part_adds : (around : List Space) (s : Space) (part : Part) → after_part around s (bare_part part) ≡ after_part around s part
   part_adds around s (CoreModule span m) = refl
   part_adds around s (Nested span tree) = ap (λ (x : Space). and_nested s x) (tree_adds (s ∷ around) (entered s) tree)
   part_adds around s (CoreInstances items) = refl
@@ -21,7 +21,7 @@ mutual
   part_adds around s (Exports items) = refl
   part_adds around s (Custom span) = refl
 
-  tree_adds : (around : List Space) (s : Space) (tree : Tree) → after_tree around s (bare tree) ≡ after_tree around s tree
+  pub tree_adds : (around : List Space) (s : Space) (tree : Tree) → after_tree around s (bare tree) ≡ after_tree around s tree
   tree_adds around s End = refl
   tree_adds around s (More part rest) = tree_adds around (after_part around s (bare_part part)) rest ∙ ap (λ (x : Space). after_tree around x rest) (part_adds around s part)
 
