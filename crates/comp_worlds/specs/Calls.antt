@@ -3,7 +3,7 @@
 -- call, the two flags and the tests of them are this project's own.
 use Rattle.std.specs.Prelude.{ℕ, zero, suc, ◌+◌, ◌-◌, ◌==◌, ◌++◌, List, [], ◌∷◌, length, map, slice_index, Option, Some, None, Bool, true, false}
 use Rattle.core_memory.specs.Number.{bytes_of}
-use Rattle.core_store.specs.State.{State, empty_with}
+use Rattle.core_store.specs.State.{State, empty as new_store}
 use Rattle.core_store.specs.declared.value.CoreValue.{CoreValue}
 use Rattle.core_store.specs.declared.value.CoreValue.TheVariants as values
 use Rattle.core_eval.specs.Words.{words, values_in}
@@ -312,6 +312,6 @@ module _ {S : Type 0} (G : Group) (p : Ports S) where
   abbrev pub is_made : Nesting → Act (World S) (Unit {0})
   is_made d = deep_enough (λ fuel. does_all (runs G p fuel) d G.stages)
 
--- an instance before anything is made in it
+-- an instance before anything is made in it; each run of core code sets the nesting and its limit in the store
 abbrev pub at_rest : {R : Type 0} → Config R
-at_rest = record { store = empty_with None; map = empty; entered = false; closed = false }
+at_rest = record { store = new_store; map = empty; entered = false; closed = false }
