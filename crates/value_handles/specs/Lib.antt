@@ -1,0 +1,3 @@
+pub mod Shown
+pub mod Whether
+pub mod Parts

@@ -1,0 +1,11 @@
+//! The handles that stand in a value, in order (Component Model, CanonicalABI.md, "Lifting and Lowering Values": what `lift_own`,
+//! `lift_borrow`, `lower_own` and `lower_borrow` are called for).
+#![tactic(auto)]
+
+mod collecting;
+mod handle;
+mod types;
+
+pub use collecting::collect_handles;
+pub use handle::{ValueHandle, ValueHandles};
+pub use types::has_handles;
