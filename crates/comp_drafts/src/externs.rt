@@ -1,0 +1,69 @@
+ghost use Rattle.std.specs.Prelude.{◌≡◌, List, IfOk, option_map};
+ghost use Rattle.wasm_ast.specs.Boxed.{Held};
+ghost use Rattle.wasm_ast.specs.declared.module.Module.{Module};
+ghost use Rattle.comp_link.specs.Plans.{Exports, Imports, just, named_by};
+ghost use Rattle.comp_plans.specs.Planned.{PlannedComponent, plan_item};
+ghost use Rattle.comp_rules.specs.Added.{described};
+ghost use Rattle.comp_rules.specs.Spaces.{Space};
+ghost use Rattle.comp_scopes.specs.Stands.{Stands};
+ghost use Rattle.comp_types.specs.Views.{item_of};
+
+use crate::arguments::item_at;
+use comp_describes::describe;
+use comp_plans::PlanItem;
+use comp_scopes::Scope;
+use comp_types::ItemType;
+use std::alloc::Global;
+use virt_base::NoMemory;
+use wasm_ast::{ComponentExport, ComponentImport, ExternDesc};
+
+fn described(alloc: Global, scope: &Scope, desc: ExternDesc) -> Result<ItemType, NoMemory>
+    ensures { IfOk result (λ item. (s : Space) → Stands s scope.now → item_of item ≡ described s desc) }
+{
+    let described = describe(alloc, scope, desc)?;
+    Ok(described.item)
+}
+
+/// What an import plans.
+pub fn import_item(
+    alloc: Global,
+    scope: &Scope,
+    import: &ComponentImport,
+) -> Result<PlanItem, NoMemory>
+    ensures { IfOk result (λ item. (ms : List (Held Module)) (cs : List PlannedComponent) (s : Space) → Stands s scope.now → plan_item ms cs item ≡ just (Imports import.now.name (described s import.now.desc))) }
+{
+    let name = import.name.copy(alloc)?;
+    let item = described(alloc, scope, import.desc)?;
+    Ok(PlanItem::Imports { name, item })
+}
+
+/// The type that an export states, if it states one.
+fn stated(
+    alloc: Global,
+    scope: &Scope,
+    desc: Option<ExternDesc>,
+) -> Result<Option<ItemType>, NoMemory>
+    ensures { IfOk result (λ item. (s : Space) → Stands s scope.now → option_map item_of item ≡ option_map (described s) desc) }
+{
+    match desc {
+        None => Ok(None),
+        Some(desc) => {
+            let item = described(alloc, scope, desc)?;
+            Ok(Some(item))
+        }
+    }
+}
+
+/// What an export plans.
+pub fn export_item(
+    alloc: Global,
+    scope: &Scope,
+    export: &ComponentExport,
+) -> Result<PlanItem, NoMemory>
+    ensures { IfOk result (λ item. (ms : List (Held Module)) (cs : List PlannedComponent) (s : Space) → Stands s scope.now → plan_item ms cs item ≡ just (Exports export.now.name (named_by s export.now.sort export.now.index) (option_map (described s) export.now.desc))) }
+{
+    let name = export.name.copy(alloc)?;
+    let item = item_at(scope, export.sort, export.index);
+    let stated = stated(alloc, scope, export.desc)?;
+    Ok(PlanItem::Exports { name, item, stated })
+}
