@@ -1,0 +1,4 @@
+pub mod Wrapping
+pub mod Places
+pub mod Strategies
+pub mod Same

@@ -1,0 +1,2 @@
+pub mod Strategies
+pub mod Laws
