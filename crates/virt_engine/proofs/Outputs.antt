@@ -9,6 +9,8 @@ use Rattle.output_form.specs.Output.{exporting, output_tree}
 use Rattle.output_valid.specs.Holding.{and_inner, components_in}
 use Rattle.output_valid.proofs.Bare.{same_valid, same_type}
 use Rattle.output_valid.proofs.Outputs.{output_stands, same_types}
+use Rattle.comp_exports.proofs.Spelled.{spelled_define}
+use Rattle.output_same.proofs.Same.{outputs_same}
 use Rattle.virt_output.specs.Bytes.{back_bytes}
 use Rattle.virt_app.specs.Apps.{IsApp}
 use Rattle.virt_engine.specs.Output.{IsOutputOf, output_bytes}
@@ -68,6 +70,7 @@ is_output app out tree ty a is written spelled =
       imports = ap (λ (s : Signature). s.imports) (sym same) ∙ stands.imports;
       exports = ap (λ (s : Signature). s.exports) (sym same) ∙ same_types tree a.application.valid a.imports a.exports;
       unchanged = record { inner = one.0; once = one.1; behind = back_bytes ty.exports; unchanged = written };
+      behaves = outputs_same tree found.0 (record { valid = a.application.valid; imports = a.imports }) (spelled_define tree app a.application.spelled.0.0) found.2;
     }
 
 -- the application's bytes spell it
