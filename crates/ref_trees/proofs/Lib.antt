@@ -1,0 +1,2 @@
+mod PickLemmas
+pub mod TreeLaws
