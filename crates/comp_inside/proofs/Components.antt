@@ -7,4 +7,4 @@ use Rattle.comp_inside.proofs.Planned.{planned_inside}
 use Rattle.comp_inside.proofs.Linked.{linked_inside}
 
 pub components_inside : ComponentsLinkInside
-components_inside around outside at c stays knows = ap (λ p. link p (making_in at (unmade c))) (planned_inside around outside at.later c stays) ∙ linked_inside at (plan_of c) (unmade c) knows
+components_inside around outside at c stays order knows = ap (λ p. link p (making_in at (unmade c))) (planned_inside around outside at.later c stays) ∙ linked_inside at (plan_of c) (unmade c) order knows

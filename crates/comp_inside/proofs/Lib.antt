@@ -1,3 +1,4 @@
+pub mod Made
 pub mod Numbers
 pub mod Items
 pub mod Spaces

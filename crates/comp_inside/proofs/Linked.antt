@@ -1,5 +1,5 @@
 -- What a plan makes inside another component.
-use Rattle.std.proofs.Common.{◌≡◌, ◌⊎◌, inl, inr, ℕ, ◌+◌, nat_eq, cond, List, [], ◌∷◌, ◌++◌, map, Option, Some, None, Bool, true, false, refl, sym, ◌∙◌, ap, arith, append_assoc}
+use Rattle.std.proofs.Common.{◌≡◌, ◌⊎◌, inl, inr, ℕ, ◌+◌, ◌≤◌, nat_eq, cond, List, [], ◌∷◌, ◌++◌, map, Option, Some, None, Bool, true, false, refl, sym, ◌∙◌, ap, arith, append_assoc}
 use Rattle.std.specs.Prelude.{slice_get}
 use Rattle.std.specs.List.{flat_map}
 use Rattle.std.specs.Option.{option_map, option_and_then}
@@ -31,7 +31,8 @@ use Rattle.comp_link.specs.Plans.{Named, AFunc, AnInstanceAt, AResource, AValueT
 use Rattle.comp_link.specs.Linking.{Given, Givens, GivenFunc, GivenInstance, GivenResource, GivenType, Nothing, Giving, find, and_given, bound, all_bound, Placed, Owned, Whole, Making, begun, and_stage, place_at, core_item, and_core_item, and_core_instance, core_find, arg_instance, extern_for, externs_for, with_module, named_core, given_at, and_some_given, givens_of, and_item, item_in, and_bound, bound_if, and_export, memory_in, realloc_in, post_in, options_in, with_canon, with_lowered, lifting_of, with_resource, own_bound, with_component, link_item, link}
 use Rattle.comp_renames.specs.Renaming.{lifting_with}
 use Rattle.comp_inside.specs.Later.{later, pair_later, named_later, arg_later, planned_later, plan_later}
-use Rattle.comp_inside.specs.Linked.{Standing, place, target_in, canon_in as canon_at, given_in, givens_in, placed_in, owned_in, pair_in, whole_in, making_in, IsBrought, AreBrought, NamesBrought, ArgsBrought, OwnBrought, ItemKnows, PlanKnows, LinkedInside}
+use Rattle.comp_inside.specs.Linked.{Standing, InOrder, target_in, canon_in as canon_at, given_in, givens_in, placed_in, owned_in, pair_in, whole_in, making_in, IsBrought, AreBrought, NamesBrought, ArgsBrought, OwnBrought, ItemKnows, PlanKnows, LinkedInside}
+use Rattle.comp_inside.proofs.Made.{more_made}
 use Rattle.comp_inside.proofs.Numbers.{test_later}
 use Rattle.comp_inside.proofs.Items.{func_twice}
 
@@ -111,17 +112,19 @@ module _ (at : Standing) where
 
   -- ---- the group so far
 
-  stage_in : (w : Whole) (stage : Stage) → and_stage (whole_in at w) (stage_to (place at) stage) ≡ whole_in at (and_stage w stage)
+  stage_in : (w : Whole) (stage : Stage) → and_stage (whole_in at w) (stage_to at.place stage) ≡ whole_in at (and_stage w stage)
   stage_in w stage =
       ap (λ z. record (whole_in at w) { stages = z })
-      (append_assoc at.before.stages (stages_to (place at) w.stages) (stage_to (place at) stage ∷ [])
-      ∙ ap (λ z. at.before.stages ++ z) (sym (stages_append (place at) w.stages (stage ∷ []))))
+      (append_assoc at.before.stages (stages_to at.place w.stages) (stage_to at.place stage ∷ [])
+      ∙ ap (λ z. at.before.stages ++ z) (sym (stages_append at.place w.stages (stage ∷ []))))
 
   appended_in : {A B : Type 0} → (before : List B) (f : A → B) (xs : List A) (x : A) → (before ++ map f xs) ++ f x ∷ [] ≡ before ++ map f (xs ++ x ∷ [])
   appended_in before f xs x = append_assoc before (map f xs) (f x ∷ []) ∙ ap (λ z. before ++ z) (sym (map-append f xs (x ∷ [])))
 
-  begun_in : (w : Whole) (given : Givens) → begun (whole_in at w) (givens_in at given) ≡ making_in at (begun w given)
-  begun_in w given = ap (λ z. record (making_in at (begun w given)) { whole = record (whole_in at w) { next_instance = z } }) (let q : at.instances + w.next_instance + 1 ≡ at.instances + (w.next_instance + 1) = omega arith in q)
+  begun_in : (w : Whole) (given : Givens) → at.place w.next_instance ≡ at.instances + w.next_instance → begun (whole_in at w) (givens_in at given) ≡ making_in at (begun w given)
+  begun_in w given is =
+      ap₂ (λ k n. record (making_in at (begun w given)) { instance = k; whole = record (whole_in at w) { next_instance = n } })
+      (sym is) (let q : at.instances + w.next_instance + 1 ≡ at.instances + (w.next_instance + 1) = omega arith in q)
 
   -- ---- core items
 
@@ -278,36 +281,39 @@ module _ (at : Standing) where
   -- ---- the plan
 
   mutual
-    item_linked : (item : Planned) (m : Making) → ItemKnows at.to item m → link_item (planned_later at.later item) (making_in at m) ≡ making_in at (link_item item m)
-    item_linked (OfModule module' args) m h = ap (with_module (making_in at m) module') (externs_in m module' args) ∙ module_in m module' (externs_for m module' args)
-    item_linked (OfCoreItems exports) m h = ap (and_core_instance (making_in at m)) (named_core_in m exports)
-    item_linked (CoreItemOf sort instance name) m h = and_core_item_in m (option_and_then (core_find name) (slice_get m.core_instances instance))
-    item_linked (OfComponent component own args) m h =
+    item_linked : (item : Planned) (m : Making) → InOrder at (link_item item m).whole.next_instance → ItemKnows at.to item m → link_item (planned_later at.later item) (making_in at m) ≡ making_in at (link_item item m)
+    item_linked (OfModule module' args) m order h = ap (with_module (making_in at m) module') (externs_in m module' args) ∙ module_in m module' (externs_for m module' args)
+    item_linked (OfCoreItems exports) m order h = ap (and_core_instance (making_in at m)) (named_core_in m exports)
+    item_linked (CoreItemOf sort instance name) m order h = and_core_item_in m (option_and_then (core_find name) (slice_get m.core_instances instance))
+    item_linked (OfComponent component own args) m order h =
         ap₂ (λ w gs. with_component (making_in at m) (map (pair_later at.later) own) (link (plan_later at.later component) (begun w gs))) (stage_in m.whole Begins) (givens_of_in m args h.0)
-        ∙ ap (λ z. with_component (making_in at m) (map (pair_later at.later) own) (link (plan_later at.later component) z)) (begun_in (and_stage m.whole Begins) (givens_of m args))
-        ∙ ap (with_component (making_in at m) (map (pair_later at.later) own)) (plan_linked component (begun (and_stage m.whole Begins) (givens_of m args)) h.1)
+        ∙ ap (λ z. with_component (making_in at m) (map (pair_later at.later) own) (link (plan_later at.later component) z))
+        (begun_in (and_stage m.whole Begins) (givens_of m args) (order m.whole.next_instance (let more : m.whole.next_instance + 1 ≤ (link component (begun (and_stage m.whole Begins) (givens_of m args))).whole.next_instance = more_made component (begun (and_stage m.whole Begins) (givens_of m args)) in omega (arith, more))))
+        ∙ ap (with_component (making_in at m) (map (pair_later at.later) own)) (plan_linked component (begun (and_stage m.whole Begins) (givens_of m args)) order h.1)
         ∙ component_in m own (link component (begun (and_stage m.whole Begins) (givens_of m args))) h.2
-    item_linked (OfItems exports) m h =
+    item_linked (OfItems exports) m order h =
         ap (λ z. record (making_in at m) { instances = map (givens_in at) m.instances ++ z ∷ [] }) (givens_of_in m exports h)
         ∙ ap (λ z. record (making_in at m) { instances = z }) (sym (map-append (givens_in at) m.instances (givens_of m exports ∷ [])))
-    item_linked (ItemOf sort instance name) m h = ap (and_item (making_in at m)) (item_in_in m instance name) ∙ and_item_in m (item_in (slice_get m.instances instance) name)
-    item_linked (NewResource resource destructor) m h = resource_in m resource destructor h
-    item_linked (Lifts func os ty) m h =
-        ap (λ z. record (making_in at m) { functions = map (option_map (target_in at)) m.functions ++ Some (Mine (place at m.instance) z) ∷ [] }) (lifting_same m func os ty h)
+    item_linked (ItemOf sort instance name) m order h = ap (and_item (making_in at m)) (item_in_in m instance name) ∙ and_item_in m (item_in (slice_get m.instances instance) name)
+    item_linked (NewResource resource destructor) m order h = resource_in m resource destructor h
+    item_linked (Lifts func os ty) m order h =
+        ap (λ z. record (making_in at m) { functions = map (option_map (target_in at)) m.functions ++ Some (Mine (at.place m.instance) z) ∷ [] }) (lifting_same m func os ty h)
         ∙ ap (λ z. record (making_in at m) { functions = z }) (sym (map-append (option_map (target_in at)) m.functions (Some (Mine m.instance (lifting_of m func os ty)) ∷ [])))
-    item_linked (Lowers func os ty) m h = ap (with_lowered (making_in at m) ty os) (function_in m func) ∙ lowered_in m ty os (option_and_then (λ o. o) (slice_get m.functions func))
-    item_linked (MakesResource resource) m h = ap (λ r. with_canon (making_in at m) takes_and_gives (ResourceNew r)) (partner_brought m.resources resource h) ∙ canon_in m takes_and_gives (ResourceNew (partner_in m.resources resource))
-    item_linked (DropsResource resource) m h = ap (λ r. with_canon (making_in at m) takes_one (ResourceDrop r)) (partner_brought m.resources resource h) ∙ canon_in m takes_one (ResourceDrop (partner_in m.resources resource))
-    item_linked (ReadsResource resource) m h = ap (λ r. with_canon (making_in at m) takes_and_gives (ResourceRep r)) (partner_brought m.resources resource h) ∙ canon_in m takes_and_gives (ResourceRep (partner_in m.resources resource))
-    item_linked (Imports name item) m h =
+    item_linked (Lowers func os ty) m order h = ap (with_lowered (making_in at m) ty os) (function_in m func) ∙ lowered_in m ty os (option_and_then (λ o. o) (slice_get m.functions func))
+    item_linked (MakesResource resource) m order h = ap (λ r. with_canon (making_in at m) takes_and_gives (ResourceNew r)) (partner_brought m.resources resource h) ∙ canon_in m takes_and_gives (ResourceNew (partner_in m.resources resource))
+    item_linked (DropsResource resource) m order h = ap (λ r. with_canon (making_in at m) takes_one (ResourceDrop r)) (partner_brought m.resources resource h) ∙ canon_in m takes_one (ResourceDrop (partner_in m.resources resource))
+    item_linked (ReadsResource resource) m order h = ap (λ r. with_canon (making_in at m) takes_and_gives (ResourceRep r)) (partner_brought m.resources resource h) ∙ canon_in m takes_and_gives (ResourceRep (partner_in m.resources resource))
+    item_linked (Imports name item) m order h =
         ap (λ z. and_bound (and_item (making_in at m) z) (bound z (item_later item))) (find_in name m.given)
         ∙ ap₂ and_bound (and_item_in m (find name m.given)) (bound_in (find name m.given) item)
         ∙ and_bound_in (and_item m (find name m.given)) (bound (find name m.given) item)
-    item_linked (Exports name item stated) m h = ap (λ z. and_export (making_in at m) name z (option_map (item_with (later at.later)) stated)) (given_at_in m item h) ∙ and_export_in m name (given_at m item) stated
+    item_linked (Exports name item stated) m order h = ap (λ z. and_export (making_in at m) name z (option_map (item_with (later at.later)) stated)) (given_at_in m item h) ∙ and_export_in m name (given_at m item) stated
 
-    plan_linked : (plan : Plan) (m : Making) → PlanKnows at.to plan m → link (plan_later at.later plan) (making_in at m) ≡ making_in at (link plan m)
-    plan_linked End m h = refl
-    plan_linked (Then item rest) m h = ap (link (plan_later at.later rest)) (item_linked item m h.0) ∙ plan_linked rest (link_item item m) h.1
+    plan_linked : (plan : Plan) (m : Making) → InOrder at (link plan m).whole.next_instance → PlanKnows at.to plan m → link (plan_later at.later plan) (making_in at m) ≡ making_in at (link plan m)
+    plan_linked End m order h = refl
+    plan_linked (Then item rest) m order h =
+        ap (link (plan_later at.later rest)) (item_linked item m (λ k less. order k (let later' : (link_item item m).whole.next_instance ≤ (link rest (link_item item m)).whole.next_instance = more_made rest (link_item item m) in omega (arith, less, later'))) h.0)
+        ∙ plan_linked rest (link_item item m) order h.1
 
 pub linked_inside : LinkedInside
-linked_inside at plan m h = plan_linked at plan m h
+linked_inside at plan m order h = plan_linked at plan m order h

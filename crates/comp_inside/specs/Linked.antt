@@ -1,5 +1,5 @@
 -- What a plan makes inside another component: what it makes alone, at other numbers of instances and resources. (This project's own.)
-use Rattle.std.specs.Prelude.{◌≡◌, ◌⊎◌, ℕ, ◌+◌, List, [], ◌∷◌, ◌++◌, map, true}
+use Rattle.std.specs.Prelude.{◌≡◌, ◌⊎◌, ℕ, ◌+◌, ◌<◌, List, [], ◌∷◌, ◌++◌, map, true}
 use Rattle.std.specs.Option.{option_map}
 use Rattle.comp_worlds.specs.Groups.{Import, Target, Mine, Theirs, Func, LoweredFunc, ResourceNew, ResourceDrop, ResourceRep, Begins}
 use Rattle.comp_parts.specs.Parts.{owner_to, stages_to}
@@ -12,20 +12,22 @@ use Rattle.comp_link.specs.Linking.{Given, Givens, GivenFunc, GivenInstance, Giv
 use Rattle.comp_renames.specs.Renaming.{lifting_with}
 use Rattle.comp_inside.specs.Later.{plan_later, StaysWhole}
 
--- Where a plan is carried out: behind so many instances; what was made before; where its imports lead; how much later the numbers of
--- its index spaces are; and what the numbers of the group's resources become.
+-- Where a plan is carried out: behind so many instances, and at which number each of its own stands; what was made before; where its
+-- imports lead; how much later the numbers of its index spaces are; and what the numbers of the group's resources become.
 pub record Standing : Type 0 where
   pub instances : ℕ
+  pub place : ℕ → ℕ
   pub before : Whole
   pub import : Import → Target
   pub later : ℕ
   pub to : ℕ → ℕ
 
-abbrev pub place : Standing → ℕ → ℕ
-place at k = at.instances + k
+-- so many instances stand one behind the other; numbers behind these may be any
+abbrev pub InOrder : Standing → ℕ → Type 0
+InOrder at n = (k : ℕ) → k < n → at.place k ≡ at.instances + k
 
 abbrev pub target_in : Standing → Target → Target
-target_in at (Mine k lifting) = Mine (place at k) (lifting_with at.to lifting)
+target_in at (Mine k lifting) = Mine (at.place k) (lifting_with at.to lifting)
 target_in at (Theirs f) = at.import f
 
 abbrev pub canon_in : Standing → Func → Func
@@ -46,10 +48,10 @@ abbrev mutual
   givens_in at (Giving name item rest) = Giving name (given_in at item) (givens_in at rest)
 
 abbrev pub placed_in : Standing → Placed → Placed
-placed_in at p = record { instance = place at p.instance; number = p.number; canon = canon_in at p.canon }
+placed_in at p = record { instance = at.place p.instance; number = p.number; canon = canon_in at p.canon }
 
 abbrev pub owned_in : Standing → Owned → Owned
-owned_in at o = record { resource = at.to o.resource; owner = owner_to (place at) o.owner }
+owned_in at o = record { resource = at.to o.resource; owner = owner_to at.place o.owner }
 
 -- the number of a resource in the component, and in the group
 abbrev pub pair_in : Standing → ℕ × ℕ → ℕ × ℕ
@@ -58,9 +60,9 @@ pair_in at pair = (at.later + pair.0, at.to pair.1)
 -- behind what was made before
 abbrev pub whole_in : Standing → Whole → Whole
 whole_in at w = record {
-  next_instance = place at w.next_instance;
+  next_instance = at.instances + w.next_instance;
   next_resource = at.to w.next_resource;
-  stages = at.before.stages ++ stages_to (place at) w.stages;
+  stages = at.before.stages ++ stages_to at.place w.stages;
   canons = at.before.canons ++ map (placed_in at) w.canons;
   owners = at.before.owners ++ map (owned_in at) w.owners;
 }
@@ -68,7 +70,7 @@ whole_in at w = record {
 abbrev pub making_in : Standing → Making → Making
 making_in at m = record {
   whole = whole_in at m.whole;
-  instance = place at m.instance;
+  instance = at.place m.instance;
   given = givens_in at m.given;
   shadow = m.shadow;
   canons = m.canons;
@@ -131,7 +133,7 @@ abbrev mutual
 
 -- A plan, at later numbers, makes there what it makes alone; its imports are what it is given.
 abbrev pub LinkedInside : Type 0
-LinkedInside = (at : Standing) (plan : Plan) (m : Making) → PlanKnows at.to plan m → link (plan_later at.later plan) (making_in at m) ≡ making_in at (link plan m)
+LinkedInside = (at : Standing) (plan : Plan) (m : Making) → InOrder at (link plan m).whole.next_instance → PlanKnows at.to plan m → link (plan_later at.later plan) (making_in at m) ≡ making_in at (link plan m)
 
 -- ---- components
 
@@ -145,5 +147,5 @@ unmade c =
 -- one what it makes alone.
 abbrev pub ComponentsLinkInside : Type 0
 ComponentsLinkInside =
-    (around : List Space) (outside : List Scope) (at : Standing) (c : Tree) → StaysWhole 1 c → PlanKnows at.to (plan_of c) (unmade c) →
+    (around : List Space) (outside : List Scope) (at : Standing) (c : Tree) → StaysWhole 1 c → InOrder at (linked c).whole.next_instance → PlanKnows at.to (plan_of c) (unmade c) →
     link (plan_tree around outside (empty_space true at.later) no_scope c) (making_in at (unmade c)) ≡ making_in at (linked c)
