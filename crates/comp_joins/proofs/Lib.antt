@@ -1,0 +1,12 @@
+pub mod Places
+pub mod Front
+pub mod Lists
+pub mod Finding
+pub mod Regiven
+pub mod Numbers
+pub mod Renamed
+pub mod Made
+pub mod Joined
+pub mod InStep
+pub mod Gains
+pub mod Same
