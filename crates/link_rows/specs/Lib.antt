@@ -1,3 +1,4 @@
 pub mod Trees
 pub mod Guards
 pub mod Rows
+pub mod Plugged

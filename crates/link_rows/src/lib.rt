@@ -2,6 +2,7 @@
 #![tactic(auto)]
 
 ghost use Rattle.link_rows.specs.Rows.{ReaderExamples, NestedExamples, ResourceExamples, StartExamples, EnteredExamples, BorrowExamples, InsideExamples};
+ghost use Rattle.link_rows.specs.Plugged.{PluggedExamples, PluggedPremises};
 
 /// A component reads a clock, with its steps counted. It does nothing when it runs.
 #[tactic(auto, using(crate::proofs::Compute::reader_examples))]
@@ -43,4 +44,17 @@ pub fn borrows_end()
 #[tactic(auto, using(crate::proofs::Compute::inside_examples))]
 pub fn premises_are_met()
     ensures { InsideExamples }
+{}
+
+/// A clock reader that is plugged to a component with a clock of its own reads that one, as it does over it. It does nothing when it
+/// runs.
+#[tactic(auto, using(crate::proofs::Plugged::plugged_examples))]
+pub fn plugged_components_run()
+    ensures { PluggedExamples }
+{}
+
+/// The premises of the law of joined components can be met: these two meet them. It does nothing when it runs.
+#[tactic(auto, using(crate::proofs::Plugged::premises_hold))]
+pub fn joining_premises_are_met()
+    ensures { PluggedPremises }
 {}
