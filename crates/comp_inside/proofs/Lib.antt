@@ -5,3 +5,4 @@ pub mod Spaces
 pub mod Planned
 pub mod Linked
 pub mod Components
+pub mod Whole

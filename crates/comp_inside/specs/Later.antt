@@ -9,6 +9,7 @@ use Rattle.comp_rules.specs.Declarations.{Declaration, Declarations, ATypeDef, A
 use Rattle.comp_rules.specs.Definitions.{Definition, AnAlias, AType, definitions}
 use Rattle.comp_rules.specs.Spaces.{Space, TypeEntry, NestedComponent, empty_space}
 use Rattle.comp_rules.specs.Added.{after_tree, root}
+use Rattle.comp_rules.specs.Validity.{IsValidComponent}
 use Rattle.comp_link.specs.Plans.{Named, AFunc, AnInstanceAt, AResource, AValueType, NamedArg, Plan, Planned, End, Then, OfModule, OfCoreItems, CoreItemOf, OfComponent, OfItems, ItemOf, NewResource, Lifts, Lowers, MakesResource, DropsResource, ReadsResource, Imports, Exports, Scope, no_scope, plan_tree, plan_of}
 
 abbrev pub later : ℕ → ℕ → ℕ
@@ -117,3 +118,7 @@ SpacesInside = (around : List Space) (k : ℕ) (c : Tree) → StaysWhole 1 c →
 
 abbrev pub PlannedInside : Type 0
 PlannedInside = (around : List Space) (outside : List Scope) (k : ℕ) (c : Tree) → StaysWhole 1 c → plan_tree around outside (empty_space true k) no_scope c ≡ plan_later k (plan_of c)
+
+-- as of each valid component
+abbrev pub ValidStay : Type 0
+ValidStay = (c : Tree) → IsValidComponent c → StaysWhole 1 c

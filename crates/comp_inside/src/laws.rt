@@ -1,4 +1,4 @@
-ghost use Rattle.comp_inside.specs.Later.{SpacesInside, PlannedInside};
+ghost use Rattle.comp_inside.specs.Later.{SpacesInside, PlannedInside, ValidStay};
 ghost use Rattle.comp_inside.specs.Linked.{LinkedInside, ComponentsLinkInside};
 
 /// A component of which no outer alias leads out has inside another one the index spaces and the plan that it has alone, at later
@@ -6,6 +6,11 @@ ghost use Rattle.comp_inside.specs.Linked.{LinkedInside, ComponentsLinkInside};
 pub fn components_are_planned_inside_as_alone()
     ensures spaces { SpacesInside }
     ensures plans { PlannedInside }
+{}
+
+/// No outer alias leads out of a valid component.
+pub fn valid_components_stay_whole()
+    ensures { ValidStay }
 {}
 
 /// What a plan makes inside another component, at later numbers, is what it makes alone, at other numbers of instances and resources;

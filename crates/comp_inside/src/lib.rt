@@ -5,5 +5,5 @@ mod laws;
 
 pub use laws::{
     components_are_planned_inside_as_alone, components_link_inside_as_alone,
-    later_plans_link_inside_as_alone,
+    later_plans_link_inside_as_alone, valid_components_stay_whole,
 };
