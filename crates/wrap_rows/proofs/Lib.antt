@@ -1,3 +1,4 @@
 pub mod Compute
 pub mod Exported
+pub mod Outputs
 pub mod Premises

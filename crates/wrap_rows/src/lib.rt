@@ -8,6 +8,7 @@ ghost use Rattle.wrap_rows.specs.Rows.{
   ExportsExamples,
   PremisesHold,
 };
+ghost use Rattle.wrap_rows.specs.Outputs.{OutputExamples, StrategyExamples};
 
 /// A component without imports is called, with its steps counted. It does nothing when it runs.
 #[tactic(auto, using(crate::proofs::Compute::alone_examples))]
@@ -38,4 +39,16 @@ pub fn exports_are_of_their_types()
 #[tactic(auto, using(crate::proofs::Premises::premises_hold))]
 pub fn premises_are_met()
     ensures { PremisesHold }
+{}
+
+/// The output of a component does in one step more what the component does. It does nothing when it runs.
+#[tactic(auto, using(crate::proofs::Outputs::output_examples))]
+pub fn outputs_are_called()
+    ensures { OutputExamples }
+{}
+
+/// A host that counts its calls is one by what it was asked. It does nothing when it runs.
+#[tactic(auto, using(crate::proofs::Outputs::strategy_examples))]
+pub fn hosts_are_asked()
+    ensures { StrategyExamples }
 {}
