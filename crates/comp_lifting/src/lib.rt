@@ -9,3 +9,4 @@ mod lowers;
 mod resources;
 
 pub use canons::define_canon;
+pub use lowers::lowered_at;

@@ -37,7 +37,7 @@ fn lower_fault(scope: &Scope, func: u32, options: &[CanonOption]) -> Option<u32>
 }
 
 /// The core type of a function at an index; that of one without parameters and results where there is none.
-fn lowered_at(alloc: Global, scope: &Scope, func: u32) -> Result<CoreFunc, NoMemory>
+pub fn lowered_at(alloc: Global, scope: &Scope, func: u32) -> Result<CoreFunc, NoMemory>
     ensures { IfOk result (λ f. (s : Space) → Stands s scope.now → f ≡ lowered_at (slice_get s.functions func)) }
 {
     match scope.func_at(func) {
