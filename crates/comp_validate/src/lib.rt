@@ -9,4 +9,5 @@ mod sections;
 mod whole;
 
 pub use fault::CompFault;
+pub use sections::{close_nested, define_module};
 pub use whole::validate;
