@@ -15,9 +15,10 @@ use Rattle.comp_joins.specs.Laws.{in_a_step}
 use Rattle.comp_joins.proofs.Places.{left_once, right_once, apart}
 use Rattle.comp_joins.proofs.Lists.{or_else, or_none, cond_some, canon_append, owner_append, unlike, alike, canons_mapped, canons_elsewhere, targets_in}
 use Rattle.comp_joins.proofs.Finding.{targets_alike}
+use Rattle.comp_joins.proofs.Held.{dropped_below, dropped_known}
 use Rattle.comp_joins.proofs.Numbers.{owned_below, owned_behind}
 use Rattle.comp_joins.proofs.Renamed.{owned_with, renamed, owned_was, import_was, drop_was, owner_of_renamed, imported_of_renamed}
-use Rattle.comp_joins.proofs.Made.{lifting_itself, count, lefts, rights, first_at, second_at, meets, there, second_is, whole_is}
+use Rattle.comp_joins.proofs.Made.{itself, lifting_itself, count, lefts, rights, first_at, second_at, meets, there, second_is, whole_is}
 
 module _ (j : Joint) (first second : Tree) (to : ℕ → ℕ) (fits : Fits j first second to) (agree : Agree first second to) where
   abbrev A : Group
@@ -155,7 +156,7 @@ module _ (j : Joint) (first second : Tree) (to : ℕ → ℕ) (fits : Fits j fir
       let was = drop_was to agree.once second r drops in
       subst (λ z. A.given (B.imported z) ≡ Some z) was.1
       (ap A.given (imported_of_renamed to agree.once second was.0)
-      ∙ agree.resources was.0 was.2 (sym (owner_of_renamed to agree.once second was.0) ∙ ap B.owner was.1 ∙ none))
+      ∙ agree.resources was.0 (dropped_known to second agree.second_knows was.0 was.2 (sym (owner_of_renamed to agree.once second was.0) ∙ ap B.owner was.1 ∙ none)))
 
   -- ---- the imports and exports
 
@@ -193,7 +194,7 @@ module _ (j : Joint) (first second : Tree) (to : ℕ → ℕ) (fits : Fits j fir
     right_once = two;
     apart = never;
     below = below;
-    drops = λ r drops. not_second r (agree.drops r drops);
+    drops = λ r drops. not_second r (dropped_below itself first agree.first_knows r drops);
     names = λ r none none'. ap (λ i. known_in (all_known [] i) r) fits.imports;
     resources = resources;
   }

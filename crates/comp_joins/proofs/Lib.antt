@@ -4,6 +4,7 @@ pub mod Lists
 pub mod Finding
 pub mod Regiven
 pub mod Numbers
+pub mod Held
 pub mod Renamed
 pub mod Made
 pub mod Joined

@@ -1,6 +1,6 @@
 -- A component that joins two others: it holds both, makes an instance of the first and then one of the second, and hands on what the
 -- second exports. Its own instance makes nothing. (This project's own: the form of a component that is plugged to another one.)
-use Rattle.std.specs.Prelude.{◌≡◌, ℕ, ◌≤◌, ◌<◌, List, [], ◌∷◌, Option, Some, None, slice_get}
+use Rattle.std.specs.Prelude.{◌≡◌, ◌⊎◌, ℕ, ◌≤◌, List, [], ◌∷◌, Option, Some, None, slice_get}
 use Rattle.wasm_ast.specs.declared.component.Span.{Span}
 use Rattle.wasm_ast.specs.declared.component.NamedItem.{NamedItem}
 use Rattle.wasm_ast.specs.declared.component.Instance.TheVariants as instances
@@ -11,9 +11,9 @@ use Rattle.comp_rules.specs.Spaces.{Space}
 use Rattle.comp_rules.specs.Added.{entered, after_part, after_tree, root}
 use Rattle.comp_types.specs.Substitution.{func_with}
 use Rattle.comp_worlds.specs.Groups.{Import, Target, Theirs, type_of, Begins}
-use Rattle.comp_parts.specs.Parts.{IsImportOf, DropsSome}
+use Rattle.comp_parts.specs.Parts.{IsImportOf}
 use Rattle.comp_link.specs.Plans.{Plan, Planned, End, Then, OfItems, ItemOf, Imports, Exports, OfModule, OfCoreItems, CoreItemOf, OfComponent, NewResource, Lifts, Lowers, MakesResource, DropsResource, ReadsResource, Scope, no_scope, and_plan, named_args, own_numbers, plan_part, plan_tree, plan_of}
-use Rattle.comp_link.specs.Linking.{Given, Givens, GivenFunc, GivenInstance, GivenResource, GivenType, Nothing, Giving, Making, begun, and_stage, givens_of, with_component, link, all_outside, all_known, behind_known, target_in, exported, linked, group_of}
+use Rattle.comp_link.specs.Linking.{Given, Givens, GivenFunc, GivenInstance, GivenResource, GivenType, Nothing, Giving, Known, Making, begun, and_stage, givens_of, with_component, link, all_outside, all_known, behind_known, target_in, exported, linked, group_of}
 use Rattle.comp_inside.specs.Later.{StaysWhole}
 use Rattle.comp_inside.specs.Linked.{PlanKnows, unmade}
 use Rattle.comp_joins.specs.Alike.{Alike}
@@ -181,6 +181,14 @@ first_own tree = behind_known (all_known [] (imports_of tree))
 abbrev pub behind_own : Tree → ℕ
 behind_own tree = (linked tree).whole.next_resource
 
+abbrev pub IsKnown : List Known → ℕ → Type 0
+IsKnown [] r = ⊥
+IsKnown (k ∷ ks) r = (k.number ≡ r) ⊎ IsKnown ks r
+
+-- the resources of the component's imports
+abbrev pub known_by : Tree → List Known
+known_by tree = all_known [] (imports_of tree)
+
 -- Resources that the second imports have the numbers of those that the first exports for them, and what it defines has numbers behind
 -- those of the first.
 pub record Agree (first second : Tree) (to : ℕ → ℕ) : Type 0 where
@@ -192,5 +200,4 @@ pub record Agree (first second : Tree) (to : ℕ → ℕ) : Type 0 where
   pub begins : to (first_own second) ≡ behind_own first
   pub behind : (r : ℕ) → first_own second ≤ r → behind_own first ≤ to r
   pub types : (f : Import) → IsImportOf (group_of second) f → Meets first to f
-  pub drops : (r : ℕ) → DropsSome (group_of first) r → r < behind_own first
-  pub resources : (r : ℕ) → DropsSome (group_of second) r → (group_of second).owner r ≡ None → (group_of first).given ((group_of second).imported r) ≡ Some (to r)
+  pub resources : (r : ℕ) → IsKnown (known_by second) r → (group_of first).given ((group_of second).imported r) ≡ Some (to r)

@@ -1,12 +1,12 @@
 -- The plugged component computes, and meets the premises of the law.
-use Rattle.std.proofs.Common.{◌≡◌, inl, inr, ℕ, ◌&&◌, nat_eq, cond, [], ◌∷◌, Option, Some, None, Bool, true, false, refl, ap, subst, arith}
+use Rattle.std.proofs.Common.{◌≡◌, inl, inr, ◌&&◌, nat_eq, cond, [], ◌∷◌, Option, Some, None, Bool, true, false, refl, ap, subst, arith}
 use Rattle.std.specs.Prelude.{codes}
 use Rattle.comp_worlds.specs.Acts.{◌>>◌, gives, traps, spent, takes_step, with_more, shows}
 use Rattle.comp_worlds.specs.Calls.{on, below, core, store_of, finds_room, deep_enough}
-use Rattle.comp_worlds.specs.Groups.{Import, Theirs, Func, LoweredFunc, ResourceDrop}
+use Rattle.comp_worlds.specs.Groups.{Import, Theirs, Func, LoweredFunc}
 use Rattle.comp_worlds.specs.Hosts.{reacts, loses, stays}
 use Rattle.comp_worlds.specs.Observed.{runs_calls}
-use Rattle.comp_parts.specs.Parts.{IsImportOf, DropsSome}
+use Rattle.comp_parts.specs.Parts.{IsImportOf}
 use Rattle.comp_types.specs.Items.{same_name}
 use Rattle.comp_link.specs.Linking.{find, all_outside, target_in, instance_in, linked, group_of}
 use Rattle.comp_joins.specs.Joining.{imports_of, made_first, all_met, Meets, Fits, Agree}
@@ -51,13 +51,6 @@ types_agree f (inr (c ∷ cs, name, is)) = go (same_name (codes "f") (c ∷ cs))
     go true is' = absurd (let q : None ≡ Some (Theirs f) = is' in cc)
     go false is' = absurd (let q : None ≡ Some (Theirs f) = is' in cc)
 
-no_drop : (r : ℕ) → DropsSome (group_of reader) r → ⊥
-no_drop r (k, n, is) = go (nat_eq 0 k && nat_eq 0 n) is
-  where
-    go : (b : Bool) → cond b ((group_of reader).canons 0 0) None ≡ Some (ResourceDrop r) → ⊥
-    go true is' = let q : (group_of reader).canons 0 0 ≡ Some (ResourceDrop r) = is' in cc
-    go false is' = let q : None ≡ Some (ResourceDrop r) = is' in cc
-
 agree : Agree adapter reader itself
 agree = record {
   first_stays = (((tt, (tt, tt)), tt), ((tt, tt), (tt, ((tt, tt), ((tt, tt), ((tt, tt), ((tt, tt), ((tt, tt), ((tt, tt), tt)))))))));
@@ -68,8 +61,7 @@ agree = record {
   begins = refl;
   behind = λ r le. omega arith;
   types = types_agree;
-  drops = λ r drops. absurd (let q : None ≡ Some (ResourceDrop r) = drops.2 in cc);
-  resources = λ r drops none. absurd (no_drop r drops);
+  resources = λ r known. absurd known;
 }
 
 pub premises_hold : PluggedPremises
