@@ -1,0 +1,4 @@
+mod AlikeLemmas
+mod AtomLemmas
+mod HandleLemmas
+mod RoomLemmas

@@ -1,0 +1,20 @@
+//! What must hold of a call before the reference host answers it.
+//!
+//! Its arguments have the listed types, and its result type is the listed one but for the numbers of handles. What it gives is
+//! noted once, as texts, lists and handles in the order of its arguments; of these are its weight, and whether each handle is
+//! live and of its kind. Then there must be room for the handles of its result.
+#![tactic(auto)]
+
+mod alike;
+mod arguments;
+mod atoms;
+mod handles;
+mod room;
+mod weight;
+
+pub use alike::alike_results;
+pub use arguments::are_arguments;
+pub use atoms::{Atom, note_arguments, note_atoms, note_result};
+pub use handles::{are_host, are_live, is_host};
+pub use room::{has_places, owned_kinds};
+pub use weight::{left_behind, left_behind_elements};
