@@ -9,3 +9,4 @@ pub mod LayLemmas
 pub mod LinkLemmas
 pub mod BuildLemmas
 pub mod SlotLemmas
+pub mod StoredLemmas

@@ -4,6 +4,7 @@ pub mod Folders
 pub mod Turns
 pub mod Forests
 pub mod Trees
+pub mod Stored
 pub mod Tables
 pub mod Slots
 pub mod Orders

@@ -1,5 +1,5 @@
 -- A scratch folder: a flat map from numbers to files, with a quota in blocks of 4,096 bytes.
-use Rattle.std.specs.Prelude.{◌≡◌, ℕ, ◌+◌, ◌-◌, ◌*◌, ◌/◌, ◌≤◌, ◌==◌, nat_le, Bool, false, List, [], ◌∷◌, ◌++◌, length, take, drop, replicate, max, position, slice_get, slice_set, slice_index_or, Option, Some, None, is_none, option_map, if◌then◌else◌}
+use Rattle.std.specs.Prelude.{◌≡◌, ℕ, ◌+◌, ◌-◌, ◌/◌, ◌≤◌, ◌==◌, nat_le, Bool, false, List, [], ◌∷◌, ◌++◌, length, take, drop, replicate, max, position, slice_get, slice_set, slice_index_or, Option, Some, None, is_none, option_map, if◌then◌else◌}
 use Rattle.std.specs.Option.{option_map_or}
 use Rattle.std.specs.List.{splice}
 use Rattle.std.specs.Str.{bytes_eq}

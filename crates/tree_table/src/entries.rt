@@ -1,3 +1,4 @@
+use crate::ordered::Entries;
 use virt_base::{Bytes, Items, Text};
 
 /// What a path of a tree leads to.
@@ -19,10 +20,6 @@ pub struct Entry {
     pub path: Names,
     pub node: Node,
 }
-
-/// The paths of a tree, each with what it leads to, in the tree's order: part by part in byte order, a folder before
-/// what is in it. The first is the root.
-pub type Entries = Items<Entry>;
 
 /// A tree under its name.
 #[derive(Debug, Drop)]

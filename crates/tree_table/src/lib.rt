@@ -4,14 +4,18 @@
 mod entries;
 mod links;
 mod names;
+mod nodes;
 mod order;
+mod ordered;
 mod parts;
 mod slot;
 mod table;
 mod walking;
 
-pub use entries::{Entries, Entry, NamedTree, Names, Node, Trees};
+pub use entries::{Entry, NamedTree, Names, Node, Trees};
 pub use names::NameRead;
+pub use nodes::Nodes;
+pub use ordered::Entries;
 pub use slot::NodeKind;
 pub use table::{Table, child, content, kind, name, place, root, target};
 pub use walking::{WalkFault, walk, walk_by};

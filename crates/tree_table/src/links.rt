@@ -1,12 +1,12 @@
-ghost use Rattle.std.specs.Prelude.{◌≡◌, ◌↔◌, Some, IsTrue, IsSome, IfOk};
+ghost use Rattle.std.specs.Prelude.{◌≡◌, ◌↔◌, IsTrue, IsSome, IfOk};
 ghost use Rattle.tree_table.specs.Trees.{AreTrees};
 ghost use Rattle.tree_table.specs.Orders.{IsOrder};
-ghost use Rattle.tree_table.specs.Linked.{entry_of, IsLonger, IsFolderOf, AreLinks};
+ghost use Rattle.tree_table.specs.Linked.{entry_of, IsFolderOf, AreLinks};
 
-use crate::entries::{Entry, NamedTree};
+use crate::entries::NamedTree;
 use crate::order::Key;
 use std::alloc::Global;
-use virt_base::{NoMemory, Text};
+use virt_base::NoMemory;
 
 /// How the nodes hang together, by their numbers: the folder of each, and the first of its children, which end where
 /// those of the next node begin.
@@ -16,50 +16,14 @@ pub struct Links {
     pub first: Vec<u32>,
 }
 
-/// Whether two lists have the same names.
-fn same_names(a: &[Text], b: &[Text]) -> bool
-    ensures { IsTrue result ↔ (a.now ≡ b.now) }
-{
-    if a.len() != b.len() {
-        return false;
-    }
-    for i in 0..a.len() {
-        if !a[i].is_same(&b[i]) {
-            return false;
-        }
-    }
-    true
-}
-
-/// Whether one path is the other with one name more.
-pub fn is_longer(upper: &[Text], lower: &[Text]) -> bool
-    ensures { IsTrue result ↔ IsLonger upper.now lower.now }
-{
-    match lower {
-        [] => false,
-        [above @ .., _] => same_names(upper, above),
-    }
-}
-
-/// The entry at a place.
-pub fn entry_at<'a>(trees: &'a [NamedTree], key: &Key) -> &'a Entry
-    requires { IsSome (entry_of trees.now key.now) }
-    ensures { entry_of trees.now key.now ≡ Some result.now }
-{
-    let tree = &trees[key.tree];
-    let entries = tree.entries.as_slice();
-    &entries[key.place]
-}
-
 /// Whether the one node is the folder in which the other is.
 fn is_folder_of(trees: &[NamedTree], upper: &Key, lower: &Key) -> bool
+    requires trees { AreTrees trees.now }
     requires upper { IsSome (entry_of trees.now upper.now) }
     requires lower { IsSome (entry_of trees.now lower.now) }
     ensures { IsTrue result ↔ IsFolderOf trees.now upper.now lower.now }
 {
-    let above = entry_at(trees, upper);
-    let below = entry_at(trees, lower);
-    upper.tree == lower.tree && is_longer(above.path.as_slice(), below.path.as_slice())
+    upper.tree == lower.tree && trees[lower.tree].entries.is_in(upper.place, lower.place)
 }
 
 /// Finds each node's folder in one pass, since the folders of nodes in order are in order too.

@@ -1,6 +1,7 @@
 ghost use Rattle.std.specs.Prelude.{◌≡◌, ◌++◌, IfOk, OnOk, drop};
 
-use crate::entries::{Entry, NamedTree};
+use crate::entries::NamedTree;
+use crate::ordered::Entries;
 use std::alloc::Global;
 use virt_base::NoMemory;
 
@@ -31,12 +32,12 @@ fn root_keys(alloc: Global, trees: usize) -> Result<Vec<Key>, NoMemory>
 }
 
 /// Adds what is in a tree below its root, in the tree's order.
-fn push_inner(keys: &mut Vec<Key>, tree: usize, entries: &[Entry]) -> Result<(), NoMemory>
+fn push_inner(keys: &mut Vec<Key>, tree: usize, entries: &Entries) -> Result<(), NoMemory>
     ensures { OnOk result (keys.new.items ≡ keys.old.items ++ keys_from tree 1 (drop 1 entries.now)) }
 {
     for place in 1..entries.len() {
         keys.push(Key {
-            depth: entries[place].path.len(),
+            depth: entries.depth(place),
             tree,
             place,
         })?;
@@ -50,7 +51,7 @@ fn inner_keys(alloc: Global, trees: &[NamedTree]) -> Result<Vec<Key>, NoMemory>
 {
     let mut keys = Vec::new(alloc);
     for tree in 0..trees.len() {
-        push_inner(&mut keys, tree, trees[tree].entries.as_slice())?;
+        push_inner(&mut keys, tree, &trees[tree].entries)?;
     }
     Ok(keys)
 }

@@ -1,4 +1,5 @@
 ghost use Rattle.std.specs.Prelude.{◌≡◌, ◌≢◌, ℕ, ◌+◌, ◌-◌, ◌<◌, ◌≤◌, [], ◌++◌, List, Some, None, OnOk, IfOk, IfSome, IfNone, IsUtf8, length, nat_lt, if◌then◌else◌};
+ghost use Rattle.tree_table.specs.declared.entries.Node.{Node};
 ghost use Rattle.tree_table.specs.Tables.{count_of, tree_count, tree_of, place_of, path_of, node_of, map_of, longest_of, last_name, content_of, HasChildren, Holds};
 ghost use Rattle.tree_table.specs.Slots.{kind_of, row_of, IsWithin};
 ghost use Rattle.tree_table.specs.Trees.{AreTrees};
@@ -6,8 +7,8 @@ ghost use Rattle.tree_table.specs.Orders.{IsOrder};
 ghost use Rattle.tree_table.specs.Linked.{AreLinks, end_name, row_for};
 ghost use Rattle.tree_table.specs.Paths.{parts_of};
 
-use crate::entries::{Entry, NamedTree, Node, Trees};
-use crate::links::{Links, entry_at, link};
+use crate::entries::{NamedTree, Trees};
+use crate::links::{Links, link};
 use crate::names::NameRead;
 use crate::order::{Key, node_order};
 use crate::slot::{NodeKind, Slot, Span, append, within};
@@ -15,7 +16,7 @@ use std::alloc::Global;
 use std::cmp::Ordering;
 use std::marker::Model;
 use std::sync::ledger::Ledger;
-use virt_base::{NoMemory, Steps, Text};
+use virt_base::{NoMemory, Steps};
 
 /// The nodes of trees.
 #[derive(Debug, Drop)]
@@ -23,37 +24,6 @@ pub struct Table {
     roots: u32,
     slots: Vec<Slot>,
     bytes: Vec<u8>,
-}
-
-/// The last name of a path; empty where it has none.
-fn last_name(path: &[Text]) -> &[u8]
-    ensures value { result.now ≡ end_name path.now }
-    ensures utf8 { IsUtf8 result.now }
-{
-    match path {
-        [] => &[],
-        [.., name] => name.bytes(),
-    }
-}
-
-fn kind_of(node: &Node) -> NodeKind
-    ensures { result ≡ kind_of node.now }
-{
-    match node {
-        Node::Folder => NodeKind::Folder,
-        Node::File(_) => NodeKind::File,
-        Node::Link(_) => NodeKind::Link,
-    }
-}
-
-fn content_of(node: &Node) -> &[u8]
-    ensures { result.now ≡ content_of node.now }
-{
-    match node {
-        Node::Folder => &[],
-        Node::File(content) => content.as_slice(),
-        Node::Link(target) => target.as_slice(),
-    }
 }
 
 /// What is kept of the node of a number, whose name and content are put behind the bytes.
@@ -73,9 +43,9 @@ fn slot_for(
     ensures within { IfOk result (λ slot. IsWithin bytes.new.items slot) }
 {
     let key = &order[node];
-    let entry = entry_at(trees, key);
-    let name = append(bytes, last_name(entry.path.as_slice()))?;
-    let content = append(bytes, content_of(&entry.node))?;
+    let entries = &trees[key.tree].entries;
+    let name = append(bytes, entries.name(key.place))?;
+    let content = append(bytes, entries.content(key.place))?;
     Ok(Slot {
         tree: key.tree as u32,
         place: key.place as u32,
@@ -83,7 +53,7 @@ fn slot_for(
         from: links.first[node],
         to: links.first[node + 1],
         name,
-        kind: kind_of(&entry.node),
+        kind: entries.kind(key.place),
         content,
     })
 }
