@@ -57,8 +57,8 @@ fn shown(alloc: Global, trees: &Trees) -> Result<String, Fail> {
         line.push('[')?;
         line.push_str(tree.name.as_str())?;
         line.push(']')?;
-        for entry in tree.entries.as_slice() {
-            add_path(&mut line, entry)?;
+        for place in 0..tree.entries.len() {
+            add_path(&mut line, &tree.entries.entry(alloc, place)?)?;
         }
     }
     Ok(line)

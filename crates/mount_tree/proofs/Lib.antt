@@ -4,3 +4,5 @@ pub mod OrderedLemmas
 pub mod PathLemmas
 pub mod ReadLemmas
 pub mod StepLemmas
+pub mod GrowLemmas
+pub mod SpotLemmas

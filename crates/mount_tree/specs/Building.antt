@@ -5,6 +5,7 @@ use Rattle.outside.specs.declared.files.Entry.{Entry}
 use Rattle.outside.specs.declared.files.EntryKind.{EntryKind}
 use Rattle.outside.specs.declared.files.EntryKind.TheVariants as kinds
 use Rattle.tree_table.specs.declared.entries.Node.TheVariants.{Folder, Link as LinkTo}
+use Rattle.tree_table.specs.Stored.{root_entry}
 use Rattle.path_names.specs.Paths.{is_name}
 use Rattle.policy_data.specs.declared.data.Content.{Content}
 use Rattle.policy_data.specs.declared.data.Content.TheVariants.{Bytes, File}
@@ -97,14 +98,14 @@ content_of held sofar (Written embedded) = embedded_due held sofar embedded
 
 abbrev pub with_tree : Forest → List ℕ → Sofar → Forest
 with_tree forest name made = record {
-  nodes = made.before + (length made.there + 1);
+  nodes = made.before + length made.there;
   bytes = made.bytes;
-  trees = forest.trees ++ record { name = name; made = made.there } ∷ [];
+  trees = forest.trees ++ record { name = name; nodes = made.there } ∷ [];
 }
 
 -- the root is a node
 abbrev pub root_due : Forest → Run Sofar
-root_due forest = record { asks = []; answer = few_nodes (forest.nodes + 1) (record { before = forest.nodes; bytes = forest.bytes; there = [] }) }
+root_due forest = record { asks = []; answer = few_nodes (forest.nodes + 1) (record { before = forest.nodes; bytes = forest.bytes; there = root_entry ∷ [] }) }
 
 abbrev pub tree_step : Held → Forest → TreeSource → Run Forest
 tree_step held forest source =

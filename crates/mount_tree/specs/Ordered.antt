@@ -1,32 +1,21 @@
 -- The trees that were made, with the paths of each in its order.
-use Rattle.std.specs.Prelude.{◌≡◌, List, [], ◌∷◌, map, Result, Ok, Err, IfOk, IfErr, true}
+use Rattle.std.specs.Prelude.{◌≡◌, List, [], ◌∷◌, Result, Ok, Err, IfOk, IfErr, true}
 use Rattle.std.specs.List.Sorted.{IsPermutation, IsSortedBy}
 use Rattle.std.specs.Ordering.{is_lt}
-use Rattle.tree_table.specs.declared.entries.Entry.{Entry}
 use Rattle.tree_table.specs.declared.entries.NamedTree.{NamedTree}
-use Rattle.tree_table.specs.declared.entries.Node.TheVariants.{Folder}
 use Rattle.tree_table.specs.Trees.{path_cmp}
-use Rattle.path_names.specs.Paths.{names_of}
 use Rattle.outside.specs.Files.{FilesState, Goes}
 use Rattle.policy_data.specs.declared.policy.Policy.{Policy}
 use Rattle.mount_tree.specs.declared.fault.TreeFault.{TreeFault}
-use Rattle.mount_tree.specs.declared.paths.Made.{Made}
 use Rattle.mount_tree.specs.declared.policy_trees.MadeTree.{MadeTree}
 use Rattle.mount_tree.specs.Runs.{Answers, IsFileFault}
 use Rattle.mount_tree.specs.declared.policy_trees.Forest.{Forest}
 use Rattle.mount_tree.specs.Building.{trees_due}
 
-abbrev pub entry_of : Made → Entry
-entry_of made = record { path = names_of made.path; node = made.node }
-
--- the root, and what was made below it
-abbrev pub entries_made : List Made → List Entry
-entries_made made = record { path = []; node = Folder } ∷ map entry_of made
-
 -- the paths of a tree, which stand in order: what was made, and nothing else
 pub record IsOrdered (made : MadeTree) (tree : NamedTree) : Type 0 where
   pub name : tree.name ≡ made.name
-  pub same : IsPermutation (entries_made made.made) tree.entries
+  pub same : IsPermutation made.nodes tree.entries
   pub ordered : IsSortedBy (λ a b. is_lt (path_cmp a.path b.path)) tree.entries
 
 abbrev pub AreOrdered : List MadeTree → List NamedTree → Type 0

@@ -1,14 +1,18 @@
-ghost use Rattle.std.specs.Prelude.{◌≡◌, ◌≤◌, ◌+◌, IfOk, [], codes, length};
+ghost use Rattle.std.specs.Prelude.{◌≡◌, ◌≤◌, ◌+◌, ◌∷◌, IfOk, [], codes, length};
 ghost use Rattle.mount_tree.specs.Runs.{IsFault, Says};
 ghost use Rattle.mount_tree.specs.declared.fault.TreeFault.TheVariants.{OverLimit};
 ghost use Rattle.mount_tree.specs.Making.{count_with, few_nodes, fitting, reached, with_file, with_other};
+ghost use Rattle.tree_table.specs.Stored.{root_entry};
+ghost use Rattle.mount_tree.specs.Growing.{IsGrown};
+ghost use Rattle.mount_tree.specs.Spots.{IsSpot};
+ghost use Rattle.mount_tree.specs.Reaching.{Reaches};
 
 use crate::fault::{TreeFault, over_limit};
-use crate::paths::{Made, Paths, depth_of};
+use crate::paths::{Above, Paths, Spot, depth_of};
 use std::alloc::Global;
 use std::marker::Model;
-use tree_table::Node;
-use virt_base::{Bytes, Items, NoMemory};
+use tree_table::{Node, Nodes};
+use virt_base::{Bytes, NoMemory};
 
 /// A path has at most so many names, all trees together so many nodes, and their files so many bytes.
 const MOST_NAMES: usize = 64;
@@ -33,7 +37,7 @@ impl Model for Making {
 
     ghost view = { λ m. record { before = m.before; bytes = m.bytes; there = m.paths } };
 
-    ghost invariant = { λ m. (m.before + (length m.paths + 1) ≤ 65536) × (m.bytes ≤ 67108864) };
+    ghost invariant = { λ m. (m.before + length m.paths ≤ 65536) × (m.bytes ≤ 67108864) };
 }
 
 /// The fault of so many nodes.
@@ -48,7 +52,7 @@ impl Making {
     pub fn root(alloc: Global, nodes: usize, bytes: u64) -> Result<Making, TreeFault>
         requires nodes { nodes ≤ 65536 }
         requires bytes { bytes ≤ 67108864 }
-        ensures { Says (few_nodes (nodes + 1) (record { before = nodes; bytes = bytes; there = [] })) result }
+        ensures { Says (few_nodes (nodes + 1) (record { before = nodes; bytes = bytes; there = root_entry ∷ [] })) result }
     {
         if nodes + 1 > MOST_NODES {
             return Err(too_many(alloc, nodes + 1));
@@ -56,7 +60,7 @@ impl Making {
         Ok(Making {
             before: nodes,
             bytes,
-            paths: Paths::empty(alloc),
+            paths: Paths::root(alloc)?,
         })
     }
 
@@ -70,16 +74,15 @@ impl Making {
 
     /// How many nodes there are, the root and those of the trees before among them.
     pub fn nodes(&self) -> usize
-        ensures value { result ≡ self.now.before + (length self.now.there + 1) }
+        ensures value { result ≡ self.now.before + length self.now.there }
         ensures few { result ≤ 65536 }
     {
-        self.before + (self.paths.len() + 1)
+        self.before + self.paths.len()
     }
 
     /// Makes the folders above a path. Refuses too many names first, and then too many nodes with the path.
-    pub fn reach(self, alloc: Global, path: &str) -> Result<Making, TreeFault>
-        ensures says { Says (reached self path.now) result }
-        ensures few { IfOk result (λ m. count_with m path.now ≤ 65536) }
+    pub fn reach(self, alloc: Global, path: &str) -> Result<Reached<'_>, TreeFault>
+        ensures { Reaches self path.now result }
     {
         let depth = depth_of(path);
         if depth > MOST_NAMES {
@@ -90,32 +93,47 @@ impl Making {
             bytes,
             paths,
         } = self;
-        let paths = paths.with_above(alloc, path)?;
-        let more = if paths.holds(path) { 0 } else { 1 };
-        let nodes = before + (paths.len() + 1) + more;
+        let Above { paths, spot } = paths.with_above(alloc, path)?;
+        let more = if paths.is_free(spot.folder, spot.name) {
+            1
+        } else {
+            0
+        };
+        let nodes = before + paths.len() + more;
         if nodes > MOST_NODES {
             return Err(too_many(alloc, nodes));
         }
-        Ok(Making {
-            before,
-            bytes,
-            paths,
+        Ok(Reached {
+            making: Making {
+                before,
+                bytes,
+                paths,
+            },
+            spot,
         })
     }
 
     /// Adds a file of bytes that fit, at a path that was reached.
-    pub fn with_file(self, alloc: Global, path: &str, bytes: Bytes) -> Result<Making, NoMemory>
+    pub fn with_file(
+        self,
+        alloc: Global,
+        path: &str,
+        spot: Spot<'_>,
+        bytes: Bytes,
+    ) -> Result<Making, NoMemory>
+        requires spot { IsSpot self.there path.now spot.folder spot.name.now }
         requires few { count_with self path.now ≤ 65536 }
         requires fits { self.bytes + length bytes ≤ 67108864 }
         ensures { IfOk result (λ m. m ≡ with_file self path.now bytes) }
     {
+        let _ = path;
         let more = bytes.len() as u64;
         let Making {
             before,
             bytes: used,
             paths,
         } = self;
-        let paths = paths.with_node(alloc, path, Node::File(bytes))?;
+        let paths = paths.with_node(alloc, spot.folder, spot.name, Node::File(bytes))?;
         Ok(Making {
             before,
             bytes: used + more,
@@ -124,16 +142,24 @@ impl Making {
     }
 
     /// Adds a folder or a link, at a path that was reached.
-    pub fn with_other(self, alloc: Global, path: &str, node: Node) -> Result<Making, NoMemory>
-        requires { count_with self path.now ≤ 65536 }
+    pub fn with_other(
+        self,
+        alloc: Global,
+        path: &str,
+        spot: Spot<'_>,
+        node: Node,
+    ) -> Result<Making, NoMemory>
+        requires spot { IsSpot self.there path.now spot.folder spot.name.now }
+        requires few { count_with self path.now ≤ 65536 }
         ensures { IfOk result (λ m. m ≡ with_other self path.now node) }
     {
+        let _ = path;
         let Making {
             before,
             bytes,
             paths,
         } = self;
-        let paths = paths.with_node(alloc, path, node)?;
+        let paths = paths.with_node(alloc, spot.folder, spot.name, node)?;
         Ok(Making {
             before,
             bytes,
@@ -141,12 +167,20 @@ impl Making {
         })
     }
 
-    /// What was made below the root.
-    pub fn into_made(self) -> Items<Made>
-        ensures { result ≡ self.there }
+    /// What was made, the root first.
+    pub fn into_nodes(self) -> Nodes
+        ensures value { result ≡ self.there }
+        ensures grown { IsGrown result }
     {
-        self.paths.into_made()
+        self.paths.into_nodes()
     }
+}
+
+/// A tree in the making with the folders above a path, and where that goes.
+#[derive(Drop)]
+pub struct Reached<'a> {
+    pub making: Making,
+    pub spot: Spot<'a>,
 }
 
 /// The bytes of one more file, behind so many bytes of others.

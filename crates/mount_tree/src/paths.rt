@@ -1,110 +1,191 @@
-ghost use Rattle.std.specs.Prelude.{◌≡◌, ℕ, List, IfOk, OnOk, [], true, length, is_some, string_bytes, if◌then◌else◌};
+ghost use Rattle.std.specs.Prelude.{◌≡◌, ◌<◌, ◌+◌, ℕ, List, IfOk, OnOk, IfSome, [], ◌∷◌, ◌++◌, Some, length, nat_eq, string_bytes, ◌&&◌, if◌then◌else◌};
 ghost use Rattle.std.specs.Str.{bytes_eq};
-ghost use Rattle.std.specs.BTreeMap.{get_by_text};
 ghost use Rattle.path_names.specs.Paths.{names_of};
-ghost use Rattle.mount_tree.specs.Making.{folders_above, holds, with_folders, with_node};
+ghost use Rattle.tree_table.specs.declared.entries.Node.{Node};
+ghost use Rattle.tree_table.specs.Stored.{node_at, root_entry};
+ghost use Rattle.mount_tree.specs.Growing.{IsAt, IsGrown, child_in, is_free, with_folders, with_node};
+ghost use Rattle.mount_tree.specs.Spots.{IsSpot};
 
 use std::alloc::Global;
 use std::collections::BTreeMap;
 use std::marker::Model;
-use tree_table::Node;
-use virt_base::{Items, NoMemory, Text};
+use tree_table::{Node, NodeKind, Nodes};
+use virt_base::{NoMemory, Text};
 
-/// A path below the root of a tree, and what it leads to.
-#[derive(Debug, Drop)]
-pub struct Made {
-    pub path: Text,
-    pub node: Node,
-}
-
-/// What was made of a tree below its root, in order. The index holds the paths, so that no list is searched.
+/// What was made of a tree, in order. The children of each folder are found by their names, so that no list is searched.
 #[derive(Drop)]
 pub struct Paths {
-    made: Items<Made>,
-    index: BTreeMap<String, ()>,
+    nodes: Nodes,
+    inside: Vec<BTreeMap<String, usize>>,
 }
 
 impl Model for Paths {
-    ghost use Rattle.std.specs.Prelude.{◌≡◌, ℕ, List, is_some};
-    ghost use Rattle.std.specs.BTreeMap.{get_by_text};
-    ghost use Rattle.mount_tree.specs.Making.{holds};
-    ghost use Rattle.mount_tree.specs.declared.paths.Made.{Made};
+    ghost use Rattle.std.specs.Prelude.{List};
+    ghost use Rattle.tree_table.specs.declared.entries.Entry.{Entry};
+    ghost use Rattle.mount_tree.specs.Growing.{IsIndex};
 
-    ghost Value = { List Made };
+    ghost Value = { List Entry };
 
-    ghost view = { λ p. p.made };
+    ghost view = { λ p. p.nodes };
 
-    ghost invariant = { λ p. (path : List ℕ) → is_some (get_by_text p.index path) ≡ holds p.made path };
+    ghost invariant = { λ p. IsIndex p.nodes p.inside.items };
 }
 
-/// Puts a path into an index.
-fn put(index: &mut BTreeMap<String, ()>, path: String) -> Result<(), NoMemory>
-    ensures { OnOk result ((other : List ℕ) → is_some (get_by_text index.new other) ≡ (if bytes_eq (string_bytes path) other then true else is_some (get_by_text index.old other))) }
+/// Where a path goes: the number of its folder, none where no folder is there, and its last name.
+#[derive(Clone, Copy)]
+pub struct Spot<'a> {
+    pub folder: Option<usize>,
+    pub name: &'a str,
+}
+
+/// The paths with the folders above one more, and where that goes.
+#[derive(Drop)]
+pub struct Above<'a> {
+    pub paths: Paths,
+    pub spot: Spot<'a>,
+}
+
+/// The number of a name in a folder.
+fn child_in(inside: &[BTreeMap<String, usize>], folder: usize, name: &str) -> Option<usize>
+    ensures { result ≡ child_in inside.now folder name.now }
 {
-    index.insert(path, ())?;
+    if folder < inside.len() {
+        inside[folder].get(name).copied()
+    } else {
+        None
+    }
+}
+
+/// Puts a number under a name in a folder, and a map without names behind the others.
+fn put_child(
+    inside: &mut Vec<BTreeMap<String, usize>>,
+    alloc: Global,
+    folder: usize,
+    name: String,
+    number: usize,
+) -> Result<(), NoMemory>
+    requires { folder < length inside.old.items }
+    ensures size { OnOk result (length inside.new.items ≡ length inside.old.items + 1) }
+    ensures put { OnOk result ((f : ℕ) → (n : List ℕ) → child_in inside.new.items f n ≡ (if nat_eq f folder && bytes_eq (string_bytes name) n then Some number else child_in inside.old.items f n)) }
+{
+    inside[folder].insert(name, number)?;
+    inside.push(BTreeMap::new(alloc))?;
     Ok(())
 }
 
 impl Paths {
-    pub fn empty(alloc: Global) -> Paths
-        ensures { result ≡ [] }
+    /// A root without anything in it.
+    pub fn root(alloc: Global) -> Result<Paths, NoMemory>
+        ensures { IfOk result (λ paths. paths ≡ root_entry ∷ []) }
     {
-        Paths {
-            made: Items::empty(alloc),
-            index: BTreeMap::new(alloc),
-        }
+        let mut inside = Vec::new(alloc);
+        inside.push(BTreeMap::new(alloc))?;
+        Ok(Paths {
+            nodes: Nodes::root(alloc),
+            inside,
+        })
     }
 
     pub fn len(&self) -> usize
-        ensures { result ≡ length self.now }
+        ensures value { result ≡ length self.now }
+        ensures some { 0 < result }
     {
-        self.made.len()
+        self.nodes.len()
     }
 
-    pub fn holds(&self, path: &str) -> bool
-        ensures { result ≡ holds self.now path.now }
+    /// Whether a name is free in a folder.
+    pub fn is_free(&self, folder: Option<usize>, name: &str) -> bool
+        ensures { (above : List (List ℕ)) → IsAt self.now above folder → result ≡ is_free self.now above name.now }
     {
-        self.index.contains_key(path)
+        match folder {
+            None => false,
+            Some(folder) => child_in(self.inside.as_slice(), folder, name).is_none(),
+        }
     }
 
-    /// Adds a path, unless it is there.
-    pub fn with_node(self, alloc: Global, path: &str, node: Node) -> Result<Paths, NoMemory>
-        ensures { IfOk result (λ paths. paths ≡ with_node self path.now node) }
+    /// The folder of a name in a folder.
+    fn folder_in(&self, folder: Option<usize>, name: &str) -> Option<usize>
+        ensures { (above : List (List ℕ)) → IsAt self.now above folder → IsAt self.now (above ++ name.now ∷ []) result }
     {
-        if self.holds(path) {
+        match folder {
+            None => None,
+            Some(folder) => match child_in(self.inside.as_slice(), folder, name) {
+                None => None,
+                Some(number) => match self.nodes.kind(number) {
+                    NodeKind::Folder => Some(number),
+                    NodeKind::File => None,
+                    NodeKind::Link => None,
+                },
+            },
+        }
+    }
+
+    /// The root, which is a folder.
+    fn root_folder(&self) -> Option<usize>
+        ensures { IsAt self.now [] result }
+    {
+        let _ = &self.nodes;
+        Some(0)
+    }
+
+    /// Adds a node of a name to a folder, unless the name is not free there.
+    pub fn with_node(
+        self,
+        alloc: Global,
+        folder: Option<usize>,
+        name: &str,
+        node: Node,
+    ) -> Result<Paths, NoMemory>
+        requires { IfSome folder (λ f. (f < length self) × (node_at self f ≡ Node.Folder)) }
+        ensures { IfOk result (λ paths. (above : List (List ℕ)) → IsAt self above folder → paths ≡ with_node self above name.now node) }
+    {
+        let Some(folder) = folder else {
+            return Ok(self);
+        };
+        if child_in(self.inside.as_slice(), folder, name).is_some() {
             return Ok(self);
         }
         let Paths {
-            mut made,
-            mut index,
+            mut nodes,
+            mut inside,
         } = self;
-        put(&mut index, String::from_str(alloc, path)?)?;
-        made.push(Made {
-            path: Text::from_str(alloc, path)?,
-            node,
-        })?;
-        Ok(Paths { made, index })
+        let number = nodes.len();
+        put_child(
+            &mut inside,
+            alloc,
+            folder,
+            String::from_str(alloc, name)?,
+            number,
+        )?;
+        nodes.push(folder, Text::from_str(alloc, name)?, node)?;
+        Ok(Paths { nodes, inside })
     }
 
-    /// Adds the folders in which a path is.
-    pub fn with_above(self, alloc: Global, path: &str) -> Result<Paths, NoMemory>
-        ensures { IfOk result (λ paths. paths ≡ with_folders self (folders_above path.now)) }
+    /// Adds the folders in which a path is, and says where it goes.
+    pub fn with_above(self, alloc: Global, path: &str) -> Result<Above<'_>, NoMemory>
+        ensures paths { IfOk result (λ above. above.paths ≡ with_folders self [] (names_of path.now)) }
+        ensures spot { IfOk result (λ above. IsSpot above.paths path.now above.spot.folder above.spot.name.now) }
     {
         let mut paths = self;
-        let bytes = path.as_bytes();
-        for at in 0..bytes.len() {
-            if bytes[at] == b'/' {
-                paths = paths.with_node(alloc, &path[..at], Node::Folder)?;
-            }
+        let mut folder = paths.root_folder();
+        let mut rest = path;
+        while let Some((name, more)) = rest.split_once('/') {
+            paths = paths.with_node(alloc, folder, name, Node::Folder)?;
+            folder = paths.folder_in(folder, name);
+            rest = more;
         }
-        Ok(paths)
+        Ok(Above {
+            paths,
+            spot: Spot { folder, name: rest },
+        })
     }
 
     /// What was made, in order.
-    pub fn into_made(self) -> Items<Made>
-        ensures { result ≡ self }
+    pub fn into_nodes(self) -> Nodes
+        ensures value { result ≡ self }
+        ensures grown { IsGrown result }
     {
-        self.made
+        self.nodes
     }
 }
 

@@ -7,19 +7,18 @@ use crate::fault::TreeFault;
 use crate::making::Making;
 use crate::mount::add_contents;
 use crate::ordered::ordered_trees;
-use crate::paths::Made;
 use crate::steps::add_embedded;
 use outside::Files;
 use policy_data::{Policy, TreeContent, TreeSource};
 use std::alloc::Global;
-use tree_table::Trees;
+use tree_table::{Nodes, Trees};
 use virt_base::{Items, Text};
 
-/// The name of a tree, and what was made below its root.
+/// The name of a tree, and what was made of it.
 #[derive(Debug, Drop)]
 pub struct MadeTree {
     pub name: Text,
-    pub made: Items<Made>,
+    pub nodes: Nodes,
 }
 
 /// Trees in order.
@@ -71,7 +70,7 @@ fn add_tree<F: Files>(
     let mut trees = forest.trees;
     trees.push(MadeTree {
         name,
-        made: making.into_made(),
+        nodes: making.into_nodes(),
     })?;
     Ok(Forest {
         nodes,

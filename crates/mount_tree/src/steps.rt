@@ -5,7 +5,7 @@ ghost use Rattle.policy_data.specs.declared.data.EmbeddedFile.{EmbeddedFile};
 ghost use Rattle.policy_data.specs.declared.data.Link.{Link};
 
 use crate::fault::TreeFault;
-use crate::making::Making;
+use crate::making::{Making, Reached};
 use crate::reading::content_bytes;
 use outside::Files;
 use policy_data::{Content, Embedded, EmbeddedFile, Link};
@@ -24,9 +24,9 @@ pub fn add_file<F: Files>(
 ) -> Result<Making, TreeFault>
     ensures { Gives (file_step (F.state files.old).held making path.now content.now) (F.state files.old) (F.state files.new) result }
 {
-    let reached = making.reach(alloc, path)?;
-    let bytes = content_bytes(alloc, files, content, reached.bytes())?;
-    let making = reached.with_file(alloc, path, bytes)?;
+    let Reached { making, spot } = making.reach(alloc, path)?;
+    let bytes = content_bytes(alloc, files, content, making.bytes())?;
+    let making = making.with_file(alloc, path, spot, bytes)?;
     Ok(making)
 }
 
@@ -35,8 +35,8 @@ pub fn add_file<F: Files>(
 pub fn add_folder(alloc: Global, making: Making, path: &str) -> Result<Making, TreeFault>
     ensures { Says (folder_step making path.now).answer result }
 {
-    let making = making.reach(alloc, path)?;
-    let making = making.with_other(alloc, path, Node::Folder)?;
+    let Reached { making, spot } = making.reach(alloc, path)?;
+    let making = making.with_other(alloc, path, spot, Node::Folder)?;
     Ok(making)
 }
 
@@ -45,9 +45,10 @@ pub fn add_folder(alloc: Global, making: Making, path: &str) -> Result<Making, T
 fn add_link(alloc: Global, making: Making, link: &Link) -> Result<Making, TreeFault>
     ensures { Says (link_step making link.now.path link.now.target).answer result }
 {
-    let making = making.reach(alloc, link.path.as_str())?;
+    let path = link.path.as_str();
+    let Reached { making, spot } = making.reach(alloc, path)?;
     let target = copy_bytes(alloc, link.target.bytes())?;
-    let making = making.with_other(alloc, link.path.as_str(), Node::Link(target))?;
+    let making = making.with_other(alloc, path, spot, Node::Link(target))?;
     Ok(making)
 }
 

@@ -1,6 +1,12 @@
-use Rattle.std.proofs.Common.{◌≡◌, take, drop}
-use Rattle.mount_tree.specs.Making.{folders_above, folders_behind, with_folders}
+use Rattle.std.proofs.Common.{◌≡◌, ◌++◌, List, ℕ, [], length}
+use denote.Text.{Utf8}
+use denote.Shadow.{shadow}
+use Rattle.path_names.specs.Paths.{names_of}
+use Rattle.mount_tree.specs.Growing.{IsAt, with_folders}
 use Rattle.mount_tree.proofs.paths.Paths.with_above.Given as goal
 
-abbrev pub invariant-loop-at : goal.invariant-loop-at
-invariant-loop-at l = with_folders l.fn.self (folders_above l.path) ≡ with_folders l.paths (folders_behind (take l.at l.path) (drop l.at l.path))
+abbrev pub invariant-loop-name : goal.invariant-loop-name
+invariant-loop-name l = shadow (Utf8 l.rest) × ((above : List (List ℕ)) × (names_of l.path ≡ above ++ names_of l.rest) × IsAt l.paths above l.folder × (with_folders l.fn.self [] (names_of l.path) ≡ with_folders l.paths above (names_of l.rest)))
+
+abbrev pub decreases-loop-name : goal.decreases-loop-name
+decreases-loop-name l = length l.rest
