@@ -1,2 +1,3 @@
 pub mod Compute
 pub mod Plugged
+pub mod Taking

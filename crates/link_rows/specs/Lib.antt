@@ -2,3 +2,4 @@ pub mod Trees
 pub mod Guards
 pub mod Rows
 pub mod Plugged
+pub mod Taking

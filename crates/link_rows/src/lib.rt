@@ -3,6 +3,7 @@
 
 ghost use Rattle.link_rows.specs.Rows.{ReaderExamples, NestedExamples, ResourceExamples, StartExamples, EnteredExamples, BorrowExamples, InsideExamples};
 ghost use Rattle.link_rows.specs.Plugged.{PluggedExamples, PluggedPremises};
+ghost use Rattle.link_rows.specs.Taking.{TakingExamples, TakingPremises};
 
 /// A component reads a clock, with its steps counted. It does nothing when it runs.
 #[tactic(auto, using(crate::proofs::Compute::reader_examples))]
@@ -57,4 +58,17 @@ pub fn plugged_components_run()
 #[tactic(auto, using(crate::proofs::Plugged::premises_hold))]
 pub fn joining_premises_are_met()
     ensures { PluggedPremises }
+{}
+
+/// A component takes a handle from the one to which it is plugged, and drops it. It does nothing when it runs.
+#[tactic(auto, using(crate::proofs::Taking::taking_examples))]
+pub fn handles_are_taken()
+    ensures { TakingExamples }
+{}
+
+/// The premises of the law of joined components can be met where a resource has another number in the whole. It does nothing when it
+/// runs.
+#[tactic(auto, using(crate::proofs::Taking::premises_hold))]
+pub fn taking_premises_are_met()
+    ensures { TakingPremises }
 {}
