@@ -1,0 +1,11 @@
+//! The lines of what is seen of a component that runs: values of the interface language (WIT) as JSON (RFC 8259), by their type,
+//! and observations.
+#![tactic(auto)]
+
+mod lines;
+mod showing;
+mod texts;
+mod values;
+
+pub use lines::print_observation;
+pub use showing::{show_args, show_value};
