@@ -10,21 +10,10 @@ use std::process::Abort;
 use std::sync::ledger::{Blank, Ledger};
 use std::test::Fail;
 use tree_table::{
-    Entry, NamedTree, Names, Node, NodeKind, Table, Trees, child, content, kind, name, place, root,
+    NamedTree, Node, NodeKind, Nodes, Table, Trees, child, content, kind, name, place, root,
     target, walk,
 };
 use virt_base::{Items, Steps, Text, copy_bytes};
-
-/// The names of a path as it is written; none for the empty text.
-fn names_of(alloc: Global, path: &str) -> Result<Names, Fail> {
-    let mut names = Items::empty(alloc);
-    if !path.is_empty() {
-        for part in path.split('/') {
-            names.push(Text::from_str(alloc, part)?)?;
-        }
-    }
-    Ok(names)
-}
 
 /// What stands at a path of a fixture.
 #[derive(Clone, Copy)]
@@ -34,31 +23,35 @@ enum What<'a> {
     Link(&'a str),
 }
 
-fn entry_of(alloc: Global, path: &str, what: What<'_>) -> Result<Entry, Fail> {
-    let node = match what {
+/// A node of a fixture: the number of its folder, its name, and what it is. The root has the number 0, and the others
+/// theirs in order.
+type Item<'a> = (usize, &'a str, What<'a>);
+
+fn node_of(alloc: Global, what: What<'_>) -> Result<Node, Fail> {
+    Ok(match what {
         What::Folder => Node::Folder,
         What::File(content) => Node::File(copy_bytes(alloc, content.as_bytes())?),
         What::Link(target) => Node::Link(copy_bytes(alloc, target.as_bytes())?),
-    };
-    Ok(Entry {
-        path: names_of(alloc, path)?,
-        node,
     })
 }
 
-fn add_tree(
-    alloc: Global,
-    trees: &mut Trees,
-    name: &str,
-    items: &[(&str, What<'_>)],
-) -> Result<(), Fail> {
-    let mut entries = Items::empty(alloc);
-    for (path, what) in items {
-        entries.push(entry_of(alloc, path, *what)?)?;
+fn add_node(alloc: Global, nodes: &mut Nodes, item: Item<'_>) -> Result<(), Fail> {
+    let (folder, name, what) = item;
+    if folder >= nodes.len() {
+        return Err(Fail::from("no folder has this number"));
+    }
+    nodes.push(folder, Text::from_str(alloc, name)?, node_of(alloc, what)?)?;
+    Ok(())
+}
+
+fn add_tree(alloc: Global, trees: &mut Trees, name: &str, items: &[Item<'_>]) -> Result<(), Fail> {
+    let mut nodes = Nodes::root(alloc);
+    for item in items {
+        add_node(alloc, &mut nodes, *item)?;
     }
     trees.push(NamedTree {
         name: Text::from_str(alloc, name)?,
-        entries,
+        entries: nodes.in_order(alloc)?,
     })?;
     Ok(())
 }
@@ -67,24 +60,22 @@ fn add_tree(
 fn two_trees(alloc: Global) -> Result<Trees, Fail> {
     let mut trees = Items::empty(alloc);
     let first = [
-        ("", What::Folder),
-        ("a", What::Folder),
-        ("a/f", What::File("abc")),
-        ("l", What::Link("a/f")),
-        ("r", What::Link("/a")),
-        ("s", What::Link("s")),
-        ("u", What::Link("../x")),
+        (0, "l", What::Link("a/f")),
+        (0, "a", What::Folder),
+        (2, "f", What::File("abc")),
+        (0, "u", What::Link("../x")),
+        (0, "s", What::Link("s")),
+        (0, "r", What::Link("/a")),
     ];
     add_tree(alloc, &mut trees, "/t", first.as_slice())?;
     let second = [
-        ("", What::Folder),
-        ("a", What::Folder),
-        ("a/f", What::Folder),
-        ("a/f/g", What::File("")),
-        ("a/h", What::Link("../a-b/.")),
-        ("a-b", What::Folder),
-        ("a-b/k", What::File("k")),
-        ("b", What::File("bb")),
+        (0, "a", What::Folder),
+        (0, "a-b", What::Folder),
+        (1, "h", What::Link("../a-b/.")),
+        (1, "f", What::Folder),
+        (4, "g", What::File("")),
+        (2, "k", What::File("k")),
+        (0, "b", What::File("bb")),
     ];
     add_tree(alloc, &mut trees, "/u", second.as_slice())?;
     Ok(trees)
@@ -92,19 +83,18 @@ fn two_trees(alloc: Global) -> Result<Trees, Fail> {
 
 /// A tree with a chain of 41 links to a file, `c00` to `c40`.
 fn chain(alloc: Global) -> Result<Trees, Fail> {
-    let mut entries = Items::empty(alloc);
-    entries.push(entry_of(alloc, "", What::Folder)?)?;
+    let mut nodes = Nodes::root(alloc);
     for i in 0..41u8 {
-        let path = format!(in alloc; "c{i:02}")?;
+        let name = format!(in alloc; "c{i:02}")?;
         let next = format!(in alloc; "c{:02}", i + 1)?;
         let target = if i == 40 { "f" } else { next.as_str() };
-        entries.push(entry_of(alloc, path.as_str(), What::Link(target))?)?;
+        add_node(alloc, &mut nodes, (0, name.as_str(), What::Link(target)))?;
     }
-    entries.push(entry_of(alloc, "f", What::File("end"))?)?;
+    add_node(alloc, &mut nodes, (0, "f", What::File("end")))?;
     let mut trees = Items::empty(alloc);
     trees.push(NamedTree {
         name: Text::from_str(alloc, "/c")?,
-        entries,
+        entries: nodes.in_order(alloc)?,
     })?;
     Ok(trees)
 }
@@ -157,7 +147,7 @@ fn walks<L: Ledger, R: Abort>(rt: &R, alloc: Global, blank: Blank) -> Result<(),
 {
     let mut steps = Steps::<L>::start(blank);
     let trees = two_trees(alloc)?;
-    assert!(rt; are_trees(trees.as_slice()));
+    assert!(rt; are_trees(alloc, trees.as_slice())?);
     assert_eq!(rt; trees.len(), 2);
     let table = Table::build(alloc, &trees)?;
     let rows = [
@@ -190,7 +180,7 @@ fn walks<L: Ledger, R: Abort>(rt: &R, alloc: Global, blank: Blank) -> Result<(),
     ];
     walk_all(rt, &table, 1, rows.as_slice(), &mut steps);
     let trees = chain(alloc)?;
-    assert!(rt; are_trees(trees.as_slice()));
+    assert!(rt; are_trees(alloc, trees.as_slice())?);
     assert_eq!(rt; trees.len(), 1);
     let table = Table::build(alloc, &trees)?;
     let rows = [("c01", Ok(42), Ok(2)), ("c00", LOOP, Ok(1))];
@@ -208,10 +198,11 @@ type Asked<'a> = (NodeKind, &'a str, (u32, u32), Option<&'a str>);
 
 #[test]
 fn nodes_read_their_trees(rt: HostRuntime) -> Result<(), Fail> {
-    let trees = two_trees(rt.alloc())?;
-    assert!(rt; are_trees(trees.as_slice()));
+    let alloc = rt.alloc();
+    let trees = two_trees(alloc)?;
+    assert!(rt; are_trees(alloc, trees.as_slice())?);
     assert_eq!(rt; trees.len(), 2);
-    let table = Table::build(rt.alloc(), &trees)?;
+    let table = Table::build(alloc, &trees)?;
     let rows: [Asked<'_>; 5] = [
         (NodeKind::Folder, "a", (0, 1), None),
         (NodeKind::Link, "l", (0, 3), Some("a/f")),

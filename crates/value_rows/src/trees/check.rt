@@ -1,12 +1,13 @@
-ghost use Rattle.std.specs.Prelude.{◌≡◌, [], IsTrue, Some, All, slice_get};
+ghost use Rattle.std.specs.Prelude.{◌≡◌, [], IfOk, IsTrue, Some, All, slice_get};
 ghost use Rattle.std.specs.declared.cmp.Ordering.TheVariants.{Less};
 ghost use Rattle.tree_table.specs.Trees.{AreTrees, IsTree, IsShort, path_cmp};
 ghost use Rattle.tree_table.specs.Linked.{IsLonger};
 ghost use Rattle.value_rows.specs.Checks.{HasFolder, Fits};
 
+use std::alloc::Global;
 use std::cmp::Ordering;
-use tree_table::{Entry, NamedTree, Node};
-use virt_base::Text;
+use tree_table::{Entries, Entry, NamedTree, Node};
+use virt_base::{NoMemory, Text};
 
 /// How two paths stand in the tree's order.
 fn path_order(a: &[Text], b: &[Text]) -> Ordering
@@ -117,7 +118,7 @@ fn begins_with_root(entries: &[Entry]) -> bool
     }
 }
 
-fn is_tree(entries: &[Entry]) -> bool
+fn are_a_tree(entries: &[Entry]) -> bool
     ensures { IsTrue result → IsTree entries.now }
 {
     if !begins_with_root(entries) {
@@ -131,17 +132,39 @@ fn is_tree(entries: &[Entry]) -> bool
     true
 }
 
+/// The entries of a tree, each with its path in full.
+fn listed(alloc: Global, entries: &Entries) -> Result<Vec<Entry>, NoMemory>
+    ensures { IfOk result (λ list. list.items ≡ entries.now) }
+{
+    let mut list = Vec::new(alloc);
+    for place in 0..entries.len() {
+        list.push(entries.entry(alloc, place)?)?;
+    }
+    Ok(list)
+}
+
+fn is_tree(alloc: Global, entries: &Entries) -> Result<bool, NoMemory>
+    ensures { IfOk result (λ is. IsTrue is → IsTree entries.now) }
+{
+    let list = listed(alloc, entries)?;
+    Ok(are_a_tree(list.as_slice()))
+}
+
 /// Whether trees are as a table asks.
-pub fn are_trees(trees: &[NamedTree]) -> bool
-    ensures { IsTrue result → AreTrees trees.now }
+pub fn are_trees(alloc: Global, trees: &[NamedTree]) -> Result<bool, NoMemory>
+    ensures { IfOk result (λ are. IsTrue are → AreTrees trees.now) }
 {
     let mut left: usize = 65536;
     for tree in trees {
-        let entries = tree.entries.as_slice();
-        if entries.len() > left || !is_tree(entries) {
-            return false;
+        let count = tree.entries.len();
+        if count > left {
+            return Ok(false);
         }
-        left -= entries.len();
+        let good = is_tree(alloc, &tree.entries)?;
+        if !good {
+            return Ok(false);
+        }
+        left -= count;
     }
-    true
+    Ok(true)
 }

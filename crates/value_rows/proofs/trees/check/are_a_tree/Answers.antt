@@ -1,6 +1,6 @@
 use Rattle.std.proofs.Common.{arith}
 use Rattle.value_rows.proofs.CheckLemmas.{tree_from}
-use Rattle.value_rows.proofs.trees.check.is_tree.Goals as goal
+use Rattle.value_rows.proofs.trees.check.are_a_tree.Goals as goal
 
 pub returns : goal.returns
 returns c = λ yes.

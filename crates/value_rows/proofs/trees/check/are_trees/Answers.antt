@@ -1,7 +1,6 @@
 use Rattle.std.proofs.Common.{◌≡◌, ◌+◌, ◌-◌, ◌<◌, ◌≤◌, List, length, drop, get_or, ap, subst, ◌∙◌, inl, inr, arith}
 use Rattle.std.proofs.lemmas.Bool.{cases_lt}
 use Rattle.std.proofs.lemmas.List.{get_or_read}
-use Rattle.tree_table.specs.declared.entries.Entry.{Entry}
 use Rattle.tree_table.specs.declared.entries.NamedTree.{NamedTree}
 use Rattle.tree_table.specs.Trees.{IsTree, node_count}
 use Rattle.value_rows.proofs.CheckLemmas.{counted, trees_from}
@@ -14,12 +13,12 @@ loop-tree-preserved c =
     let tree = c.tree-item.result in
     let inv = c.loop-tree.invariant in
     let within : i < length ts = c.loop-tree-test.true in
-    let same : c.as_slice-entries.result.now ≡ tree.entries = c.as_slice-entries.ensures in
-    let room : length tree.entries ≤ c.loop-tree.left = omega (arith, c.if-entries-left.false, ap length same) in
-    let good : IsTree tree.entries = subst IsTree same (c.is_tree.ensures c.if-not-is_tree.false) in
+    let size : c.len-count.result ≡ length tree.entries = c.len-count.ensures in
+    let room : length tree.entries ≤ c.loop-tree.left = omega (arith, c.if-count-left.false, size) in
+    let good : IsTree tree.entries = c.in_ok-good.ensures c.if-not-good.false in
     let more = counted ts i c.loop-tree.left tree within c.tree-item.is room inv.counted in
     record {
-      counted = ap (λ (es : List Entry). node_count ts + (c.loop-tree.left - length es)) same ∙ more;
+      counted = ap (λ n. node_count ts + (c.loop-tree.left - n)) size ∙ more;
       each = λ t d less.
           elim (cases_lt t i) [
             | inl before ↦ inv.each t d before
