@@ -51,31 +51,35 @@ use Rattle.comp_exports.proofs.Items.{Both, both_and, both_get, both_none, get_t
 
 -- ---- plans
 
-link_followed : (p q : Plan) (m : Making) → link (followed p q) m ≡ link q (link p m)
+pub link_followed : (p q : Plan) (m : Making) → link (followed p q) m ≡ link q (link p m)
 link_followed End q m = refl
 link_followed (Then item p) q m = link_followed p q (link_item item m)
 
 -- whatever was made before, what it makes of these imports has these exports
-abbrev IsPlanOf : Plan → NestedComponent → Type 0
+abbrev pub IsPlanOf : Plan → NestedComponent → Type 0
 IsPlanOf plan c = (whole : Whole) (given : Givens) → Has given c.signature.imports → AreExportsOf c.signature.exports (link plan (begun whole given)).exports
 
+-- each plan is of its component
+abbrev pub ScopeIs : (Plan → NestedComponent → Type 0) → Scope → Space → Type 0
+ScopeIs R scope s = Both R scope.components s.components
+
 abbrev ScopeFits : Scope → Space → Type 0
-ScopeFits scope s = Both IsPlanOf scope.components s.components
+ScopeFits scope s = ScopeIs IsPlanOf scope s
 
 -- no export is declared outside an instance type
-abbrev Defines : Definition → Type 0
+abbrev pub Defines : Definition → Type 0
 Defines (AType d) = IsDefined d
 Defines _ = Unit {0}
 
-abbrev DefineAll : List Definition → Type 0
+abbrev pub DefineAll : List Definition → Type 0
 DefineAll [] = Unit {0}
 DefineAll (d ∷ ds) = Defines d × DefineAll ds
 
-define_map : {A : Type 0} → (f : A → Definition) → ((a : A) → Defines (f a)) → (items : List A) → DefineAll (map f items)
+pub define_map : {A : Type 0} → (f : A → Definition) → ((a : A) → Defines (f a)) → (items : List A) → DefineAll (map f items)
 define_map f each [] = tt
 define_map f each (a ∷ items) = (each a, define_map f each items)
 
-define_types : (ds : Declarations) → AreDefined ds → DefineAll (types_in ds)
+pub define_types : (ds : Declarations) → AreDefined ds → DefineAll (types_in ds)
 define_types Done h = tt
 define_types (ThenDeclared d ds) h = (h.0, define_types ds h.1)
 
@@ -279,7 +283,7 @@ module _ (imports : Entries) where
 
   -- ---- each definition
 
-  defined_fits : (around : List Space) (scope : Scope) (d : Definition) (m : Making) (s : Space) → ScopeFits scope s → IsValidDefinition around s d → Defines d → Within (after around s d).imports imports → Fits imports m s
+  pub defined_fits : (around : List Space) (scope : Scope) (d : Definition) (m : Making) (s : Space) → ScopeFits scope s → IsValidDefinition around s d → Defines d → Within (after around s d).imports imports → Fits imports m s
       → Fits imports (link (planned_by scope s d) m) (after around s d)
   defined_fits around scope (ACoreInstance i) m s plans v defines within h = core_instance_fits scope i m s h
   defined_fits around scope (AnInstance i) m s plans v defines within h = instance_fits around scope i m s plans v h
@@ -291,48 +295,49 @@ module _ (imports : Entries) where
 
 -- ---- the scope behind a definition
 
-module_scope : (scope : Scope) (o : Option Module) → (and_module scope o).components ≡ scope.components
+pub module_scope : (scope : Scope) (o : Option Module) → (and_module scope o).components ≡ scope.components
 module_scope scope None = refl
 module_scope scope (Some k) = refl
 
-abbrev OuterFits : Option Scope → Option Space → Type 0
-OuterFits None None = Unit {0}
-OuterFits (Some scope) (Some s) = ScopeFits scope s
-OuterFits _ _ = ⊥
+module _ (R : Plan → NestedComponent → Type 0) where
+  abbrev OuterIs : Option Scope → Option Space → Type 0
+  OuterIs None None = Unit {0}
+  OuterIs (Some scope) (Some s) = ScopeIs R scope s
+  OuterIs _ _ = ⊥
 
-outer_there : (scopes : List Scope) (spaces : List Space) (i : ℕ) → Both ScopeFits scopes spaces → OuterFits (slice_get scopes i) (slice_get spaces i)
-outer_there [] [] i h = tt
-outer_there (o ∷ scopes) (s ∷ spaces) zero h = h.0
-outer_there (o ∷ scopes) (s ∷ spaces) (suc i) h = outer_there scopes spaces i h.1
-outer_there [] (s ∷ spaces) i h = absurd h
-outer_there (o ∷ scopes) [] i h = absurd h
+  outer_there : (scopes : List Scope) (spaces : List Space) (i : ℕ) → Both (ScopeIs R) scopes spaces → OuterIs (slice_get scopes i) (slice_get spaces i)
+  outer_there [] [] i h = tt
+  outer_there (o ∷ scopes) (s ∷ spaces) zero h = h.0
+  outer_there (o ∷ scopes) (s ∷ spaces) (suc i) h = outer_there scopes spaces i h.1
+  outer_there [] (s ∷ spaces) i h = absurd h
+  outer_there (o ∷ scopes) [] i h = absurd h
 
-outer_scope : (scope : Scope) (s : Space) (sort : OuterSort) (index : ℕ) (o : Option Scope) (t : Option Space) → ScopeFits scope s → OuterFits o t → ScopeFits (scope_and_outer scope sort o index) (and_outer s sort t index)
-outer_scope scope s outer_sorts.CoreModule index None None h f = h
-outer_scope scope s outer_sorts.Component index None None h f = h
-outer_scope scope s outer_sorts.Type index o t h f = subst (Both IsPlanOf scope.components) (sym (with_outer_type s t index).1) h
-outer_scope scope s outer_sorts.CoreModule index (Some o) (Some t) h f =
-    subst (Both IsPlanOf (and_module scope (slice_get o.modules index)).components) (sym (with_outer_module s (Some t) index).1) (subst (λ z. Both IsPlanOf z s.components) (sym (module_scope scope (slice_get o.modules index))) h)
-outer_scope scope s outer_sorts.Component index (Some o) (Some t) h f = go (slice_get t.components index) refl
-  where
-    go : (c : Option NestedComponent) → slice_get t.components index ≡ c → ScopeFits (and_plan scope (slice_get o.components index)) (and_some_component s c)
-    go None e = subst (λ z. ScopeFits (and_plan scope z) s) (sym (both_none IsPlanOf o.components t.components index f e)) h
-    go (Some c) e =
-        let plan = both_get IsPlanOf o.components t.components index c f e in
-        subst (λ z. ScopeFits (and_plan scope z) (and_some_component s (Some c))) (sym plan.1) (both_and IsPlanOf scope.components s.components plan.0 c h plan.2)
-outer_scope scope s sort index None (Some t) h f = absurd f
-outer_scope scope s sort index (Some o) None h f = absurd f
+  outer_scope : (scope : Scope) (s : Space) (sort : OuterSort) (index : ℕ) (o : Option Scope) (t : Option Space) → ScopeIs R scope s → OuterIs o t → ScopeIs R (scope_and_outer scope sort o index) (and_outer s sort t index)
+  outer_scope scope s outer_sorts.CoreModule index None None h f = h
+  outer_scope scope s outer_sorts.Component index None None h f = h
+  outer_scope scope s outer_sorts.Type index o t h f = subst (Both R scope.components) (sym (with_outer_type s t index).1) h
+  outer_scope scope s outer_sorts.CoreModule index (Some o) (Some t) h f =
+      subst (Both R (and_module scope (slice_get o.modules index)).components) (sym (with_outer_module s (Some t) index).1) (subst (λ z. Both R z s.components) (sym (module_scope scope (slice_get o.modules index))) h)
+  outer_scope scope s outer_sorts.Component index (Some o) (Some t) h f = go (slice_get t.components index) refl
+    where
+      go : (c : Option NestedComponent) → slice_get t.components index ≡ c → ScopeIs R (and_plan scope (slice_get o.components index)) (and_some_component s c)
+      go None e = subst (λ z. ScopeIs R (and_plan scope z) s) (sym (both_none R o.components t.components index f e)) h
+      go (Some c) e =
+          let plan = both_get R o.components t.components index c f e in
+          subst (λ z. ScopeIs R (and_plan scope z) (and_some_component s (Some c))) (sym plan.1) (both_and R scope.components s.components plan.0 c h plan.2)
+  outer_scope scope s sort index None (Some t) h f = absurd f
+  outer_scope scope s sort index (Some o) None h f = absurd f
 
-scope_fits : (around : List Space) (outside' : List Scope) (scope : Scope) (s : Space) (d : Definition) → Both ScopeFits outside' around → ScopeFits scope s → ScopeFits (scope_after outside' scope d) (after around s d)
-scope_fits around outside' scope s (AnAlias (aliases.Outer sort count index)) scopes h = outer_scope scope s sort index (slice_get (scope ∷ outside') count) (slice_get (s ∷ around) count) h (outer_there (scope ∷ outside') (s ∷ around) count (h, scopes))
-scope_fits around outside' scope s (AnAlias (aliases.Export sort i name)) scopes h = subst (Both IsPlanOf scope.components) (sym (with_alias around s sort i name).1) h
-scope_fits around outside' scope s (AnAlias (aliases.CoreExport sort i name)) scopes h = subst (Both IsPlanOf scope.components) (sym (with_core_alias around s sort i name).1) h
-scope_fits around outside' scope s (ACoreInstance i) scopes h = h
-scope_fits around outside' scope s (AnInstance i) scopes h = subst (Both IsPlanOf scope.components) (sym (with_instance around s i).1) h
-scope_fits around outside' scope s (AType d) scopes h = subst (Both IsPlanOf scope.components) (sym (with_declaration around s d).1) h
-scope_fits around outside' scope s (ACanon c) scopes h = subst (Both IsPlanOf scope.components) (sym (with_canon around s c).1) h
-scope_fits around outside' scope s (AnImport i) scopes h = subst (Both IsPlanOf scope.components) (sym (with_index s i.desc).1) h
-scope_fits around outside' scope s (AnExport e) scopes h = subst (Both IsPlanOf scope.components) (sym (with_export s e e.desc).1) h
+  pub scope_stays : (around : List Space) (outside' : List Scope) (scope : Scope) (s : Space) (d : Definition) → Both (ScopeIs R) outside' around → ScopeIs R scope s → ScopeIs R (scope_after outside' scope d) (after around s d)
+  scope_stays around outside' scope s (AnAlias (aliases.Outer sort count index)) scopes h = outer_scope scope s sort index (slice_get (scope ∷ outside') count) (slice_get (s ∷ around) count) h (outer_there (scope ∷ outside') (s ∷ around) count (h, scopes))
+  scope_stays around outside' scope s (AnAlias (aliases.Export sort i name)) scopes h = subst (Both R scope.components) (sym (with_alias around s sort i name).1) h
+  scope_stays around outside' scope s (AnAlias (aliases.CoreExport sort i name)) scopes h = subst (Both R scope.components) (sym (with_core_alias around s sort i name).1) h
+  scope_stays around outside' scope s (ACoreInstance i) scopes h = h
+  scope_stays around outside' scope s (AnInstance i) scopes h = subst (Both R scope.components) (sym (with_instance around s i).1) h
+  scope_stays around outside' scope s (AType d) scopes h = subst (Both R scope.components) (sym (with_declaration around s d).1) h
+  scope_stays around outside' scope s (ACanon c) scopes h = subst (Both R scope.components) (sym (with_canon around s c).1) h
+  scope_stays around outside' scope s (AnImport i) scopes h = subst (Both R scope.components) (sym (with_index s i.desc).1) h
+  scope_stays around outside' scope s (AnExport e) scopes h = subst (Both R scope.components) (sym (with_export s e e.desc).1) h
 
 -- ---- whole components
 
@@ -348,7 +353,7 @@ module _ (around : List Space) (outside' : List Scope) (scopes : Both ScopeFits 
   all_made (d ∷ ds) scope m s v defines within f h =
       let before : Within (after around s d).imports imports = then_within (after around s d).imports (after_all around (after around s d) ds).imports imports (all_within around (after around s d) ds) within in
       let one = defined_fits imports around scope d m s f v.0 defines.0 before h in
-      let rest = all_made ds (scope_after outside' scope d) (link (planned_by scope s d) m) (after around s d) v.1 defines.1 within (scope_fits around outside' scope s d scopes f) one in
+      let rest = all_made ds (scope_after outside' scope d) (link (planned_by scope s d) m) (after around s d) v.1 defines.1 within (scope_stays IsPlanOf around outside' scope s d scopes f) one in
       record { made = subst (λ z. Fits imports z (after_all around s (d ∷ ds))) (sym (link_followed (planned_by scope s d) (plan_all around outside' (after around s d) (scope_after outside' scope d) ds).plan m)) rest.made; scope = rest.scope }
 
 mutual
@@ -397,7 +402,7 @@ mutual
   outside_is interface name (KindItem (FuncKind ty)) = refl
   outside_is interface name (KindItem (InstanceKind own entries)) = refl
 
-  outside_has : (interface : Name) (entries : Entries) → Has (all_outside interface entries) entries
+  pub outside_has : (interface : Name) (entries : Entries) → Has (all_outside interface entries) entries
   outside_has interface NoEntries name item is = absurd (let q : None ≡ Some item = is in cc)
   outside_has interface (Entry n i rest) name item is = at_outside (same_name n name) interface n i rest name item (outside_is interface n i) (outside_has interface rest name item) is
 

@@ -52,7 +52,7 @@ partner_apart (x ∷ xs) ys r none same = go (nat_eq x.0 r) refl (partner_apart 
 
 -- ---- what arguments give
 
-found_names : (P : ℕ → Type 0) (n : ℕ) (args : Entries) (name : Name) → AllName P n args → IfSome (ItemNames P n) (look_up name args)
+pub found_names : (P : ℕ → Type 0) (n : ℕ) (args : Entries) (name : Name) → AllName P n args → IfSome (ItemNames P n) (look_up name args)
 found_names P n End name h = tt
 found_names P n (More m i rest) name h = go (same_name m name) (found_names P n rest name h.1)
   where

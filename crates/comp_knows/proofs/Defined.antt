@@ -61,7 +61,7 @@ case_known : (P : ℕ → Type 0) (label : List ℕ) (o : Option Plain) (rest : 
 case_known P label None rest h k = k
 case_known P label (Some ty) rest h k = each_both P (named_in_value ty) (named_in_parts rest) h k
 
-module _ (P : ℕ → Type 0) (s : Space) (h : Knows P s) where
+module _ (b : Bool) (base : ℕ) (P : ℕ → Type 0) (s : Space) (h : Knows b base P s) where
   value_known : (v : ValType) → Each P (named_in_value (value_of s v))
   value_known (values.Primitive p) = primitive_known P p
   value_known (values.Index i) = value_in_known P s.next (kind_at s i) (kind_known P s i h)

@@ -1,5 +1,5 @@
 -- What index spaces name is known, and so is what a description says, once its new resources are.
-use Rattle.std.proofs.Common.{◌≡◌, inl, inr, ℕ, zero, suc, ◌+◌, ◌≤◌, ◌||◌, nat_eq, cond, List, [], ◌∷◌, ◌++◌, map, Bool, true, false, Option, Some, None, refl, sym, ap, subst}
+use Rattle.std.proofs.Common.{◌≡◌, ◌⊎◌, inl, inr, ℕ, zero, suc, ◌+◌, ◌≤◌, ◌<◌, ◌||◌, nat_eq, cond, List, [], ◌∷◌, ◌++◌, map, Bool, true, false, Option, Some, None, refl, sym, ap, subst}
 use Rattle.std.specs.Prelude.{slice_get}
 use Rattle.std.specs.Option.{option_map}
 use Rattle.std.proofs.Math.Path.{ap₂}
@@ -10,7 +10,7 @@ use Rattle.wit_types.specs.Plain.{Plain, Parts, PlainFunc, BoolType, SignedType,
 use Rattle.comp_types.specs.Items.{Item, Kind, Entries, FuncItem, InstanceItem, KindItem, ResourceKind, ValueKind, FuncKind, InstanceKind, End, More}
 use Rattle.comp_types.specs.Substitution.{partner_in, value_with, parts_with, answer_with, func_with, item_with, kind_with, entries_with}
 use Rattle.comp_rules.specs.Resources.{is_among, named_in_func, named_in_item, named_in, numbered}
-use Rattle.comp_rules.specs.Spaces.{Space, TypeEntry, kind_at}
+use Rattle.comp_rules.specs.Spaces.{Space, TypeEntry, NestedComponent, kind_at}
 use Rattle.comp_rules.specs.Types.{func_in, instance_in}
 use Rattle.comp_rules.specs.Added.{brought, described, kind_item, new_numbers}
 use Rattle.comp_inside.specs.Linked.{Each}
@@ -102,17 +102,51 @@ every_get P [] i h = tt
 every_get P (x ∷ xs) zero h = h.0
 every_get P (x ∷ xs) (suc i) h = every_get P xs i h.1
 
--- what stands at each index names what is known
-pub record Knowing (P : ℕ → Type 0) (n : ℕ) (types : List TypeEntry) (functions : List PlainFunc) (instances : List Entries) (exports : Entries) : Type 0 where
+-- ---- components
+
+-- what a component's exports name: its own resources, and those that stand in its imports
+abbrev pub Brings : NestedComponent → ℕ → Type 0
+Brings c r = (is_among c.own r ≡ true) ⊎ Shown (InstanceItem c.signature.imports) r
+
+abbrev pub IsOwn : NestedComponent → ℕ → Type 0
+IsOwn c r = (is_among c.own r ≡ true) ⊎ (is_among (named_in c.signature.imports) r ≡ true)
+
+-- Instance types in its exports declare other resources, which are known nowhere.
+abbrev pub ComponentNames : (ℕ → Type 0) → ℕ → NestedComponent → Type 0
+ComponentNames P n c = AllName (λ r. IsOwn c r ⊎ P r) n c.signature.exports × Each (Brings c) (named_in c.signature.exports)
+
+pub component_wider : (P Q : ℕ → Type 0) (n n' : ℕ) → Wider P Q n n' → (c : NestedComponent) → ComponentNames P n c → ComponentNames Q n' c
+component_wider P Q n n' w c h = (item_wider (λ r. IsOwn c r ⊎ P r) (λ r. IsOwn c r ⊎ Q r) n n' (record { behind = w.behind; known = known'; new = new' }) (InstanceItem c.signature.exports) h.0, h.1)
+  where
+    known' : (r : ℕ) → IsOwn c r ⊎ P r → IsOwn c r ⊎ Q r
+    known' r (inl own) = inl own
+    known' r (inr p) = inr (w.known r p)
+
+    new' : (r : ℕ) → Apart (λ x. IsOwn c x ⊎ P x) n r → IsOwn c r ⊎ Q r → ⊥
+    new' r a (inl own) = a.1 (inl own)
+    new' r a (inr q) = w.new r (a.0, λ p. a.1 (inr p)) q
+
+-- ---- what stands at each index names what is known; known are numbers in front of n, and n is not in front of base
+
+pub record Knowing (b : Bool) (base : ℕ) (P : ℕ → Type 0) (n : ℕ) (is : Bool) (types : List TypeEntry) (functions : List PlainFunc) (instances : List Entries) (exports imports : Entries) (imported : List ℕ) (components : List NestedComponent) : Type 0 where
+  pub form : is ≡ b
+  pub start : base ≤ n
+  pub below : (r : ℕ) → P r → r < n
   pub kinds : Every (λ (e : TypeEntry). KindNames P n e.kind) types
   pub funcs : Every (λ ty. Each P (named_in_func ty)) functions
   pub items : Every (AllName P n) instances
   pub out : AllName P n exports
+  pub ins : AllName P n imports
+  pub shown : Each (Shown (InstanceItem imports)) imported
+  pub nested : Every (ComponentNames P n) components
 
-abbrev pub Knows : (ℕ → Type 0) → Space → Type 0
-Knows P s = Knowing P s.next s.types s.functions s.instances s.exports
+abbrev pub KnowsAt : Bool → ℕ → (ℕ → Type 0) → ℕ → Space → Type 0
+KnowsAt b base P n s = Knowing b base P n s.is_component s.types s.functions s.instances s.exports s.imports s.imported s.components
 
-pub kind_known : (P : ℕ → Type 0) (s : Space) (i : ℕ) → Knows P s → IfSome (KindNames P s.next) (kind_at s i)
+abbrev pub Knows : Bool → ℕ → (ℕ → Type 0) → Space → Type 0
+Knows b base P s = KnowsAt b base P s.next s
+
+pub kind_known : {b : Bool} {base : ℕ} → (P : ℕ → Type 0) (s : Space) (i : ℕ) → Knows b base P s → IfSome (KindNames P s.next) (kind_at s i)
 kind_known P s i h = go (slice_get s.types i) (every_get (λ (e : TypeEntry). KindNames P s.next e.kind) s.types i h.kinds)
   where
     go : (o : Option TypeEntry) → IfSome (λ (e : TypeEntry). KindNames P s.next e.kind) o → IfSome (KindNames P s.next) (option_map (λ (e : TypeEntry). e.kind) o)
@@ -172,7 +206,7 @@ instance_in_known P Q n n' w (Some (FuncKind ty)) h new = tt
 instance_in_known P Q n n' w (Some (InstanceKind own entries)) h new = instance_known P Q n n' w own entries h new
 
 -- What is described names what is known, once the resources that it brings are known.
-pub described_known : (P Q : ℕ → Type 0) (s : Space) (n' : ℕ) (desc : ExternDesc) → Wider P Q s.next n' → Knows P s → Each Q (new_numbers (brought s desc)) → ItemNames Q n' (described s desc)
+pub described_known : {b : Bool} {base : ℕ} → (P Q : ℕ → Type 0) (s : Space) (n' : ℕ) (desc : ExternDesc) → Wider P Q s.next n' → Knows b base P s → Each Q (new_numbers (brought s desc)) → ItemNames Q n' (described s desc)
 described_known P Q s n' (descs.Func i) w h new = each_then P Q w.known (named_in_func (func_in (kind_at s i))) (func_known P s.next (kind_at s i) (kind_known P s i h))
 described_known P Q s n' (descs.TypeEq i) w h new = item_wider P Q s.next n' w (kind_item (kind_at s i)) (kind_item_known P s.next (kind_at s i) (kind_known P s i h))
 described_known P Q s n' descs.Resource w h new = new.0
@@ -190,7 +224,7 @@ instance_shown P n (Some (InstanceKind own entries)) h =
     let item : Item = InstanceItem (entries_with f entries) in
     numbered_each (Shown item) own n h.1 (each_then (Shown (InstanceItem entries)) (λ r. Shown item (f r)) (λ r is. shown_with f (InstanceItem entries) r is) own h.2)
 
-pub described_shown : (P : ℕ → Type 0) (s : Space) (desc : ExternDesc) → Knows P s → Each (Shown (described s desc)) (new_numbers (brought s desc))
+pub described_shown : {b : Bool} {base : ℕ} → (P : ℕ → Type 0) (s : Space) (desc : ExternDesc) → Knows b base P s → Each (Shown (described s desc)) (new_numbers (brought s desc))
 described_shown P s (descs.Func i) h = tt
 described_shown P s (descs.TypeEq i) h = tt
 described_shown P s descs.Resource h = (([], refl), tt)

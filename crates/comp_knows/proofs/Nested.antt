@@ -2,15 +2,17 @@
 use Rattle.std.proofs.Common.{◌≡◌, ◌⊎◌, inl, inr, ℕ, ◌||◌, not, nat_eq, cond, List, [], ◌∷◌, ◌++◌, Bool, true, false, Option, Some, None, refl, sym, ◌∙◌, subst}
 use Rattle.std.specs.List.{filter}
 use Rattle.std.proofs.lemmas.Bool.{false≢true, eqb-true, eqb-false}
-use Rattle.comp_types.specs.Items.{Item, Entries, FuncItem, InstanceItem, KindItem, ResourceKind, ValueKind, FuncKind, InstanceKind, End, More, look_up}
+use Rattle.wit_types.specs.Plain.{Name}
+use Rattle.comp_types.specs.Items.{Item, Entries, FuncItem, InstanceItem, KindItem, ResourceKind, ValueKind, FuncKind, InstanceKind, End, More, same_name, look_up}
 use Rattle.comp_rules.specs.Resources.{is_among, distinct, named_in, named_in_item, given_by, given_for}
-use Rattle.comp_rules.specs.Spaces.{Space}
+use Rattle.comp_rules.specs.Spaces.{Space, NestedComponent}
 use Rattle.comp_rules.specs.Added.{nested_of}
 use Rattle.comp_inside.specs.Linked.{Each, IsBrought}
-use Rattle.comp_knows.proofs.Shown.{Shown}
+use Rattle.comp_exports.proofs.Shapes.{some_same}
+use Rattle.comp_knows.proofs.Shown.{found_at, Shown, none_found}
 use Rattle.comp_knows.proofs.Names.{each_first, each_second, each_then, each_among, among_each}
 use Rattle.comp_knows.proofs.Arguments.{EachGives, func_gives, value_gives, func_kind_gives, instance_kind_gives, nothing_gives}
-use Rattle.comp_knows.proofs.Spaces.{Brings}
+use Rattle.comp_knows.proofs.Described.{Brings, IsOwn}
 
 -- ---- what is left of a list
 
@@ -57,6 +59,30 @@ nested_brings inner shown = each_then (λ r. is_among (named_in inner.exports) r
     at r is true e = inr (among_each (Shown (InstanceItem inner.imports)) inner.imported r e shown)
     at r is false e = inl (among_filter (λ z. not (is_among inner.imported z)) (distinct (named_in inner.exports)) r (kept (is_among inner.imported r) e) (among_distinct (named_in inner.exports) r is))
 
+-- ---- what stands in a type it names
+
+entry_named : (P : ℕ → Type 0) (entries : Entries) (n : Name) (i : Item) → look_up n entries ≡ Some i → Each P (named_in entries) → Each P (named_in_item i)
+entry_named P End n i is h = absurd (let q : None ≡ Some i = is in cc)
+entry_named P (More m j rest) n i is h = go (same_name m n) is (λ later. entry_named P rest n i later (each_second P (named_in_item j) (named_in rest) h))
+  where
+    go : (b : Bool) → cond b (Some j) (look_up n rest) ≡ Some i → (look_up n rest ≡ Some i → Each P (named_in_item i)) → Each P (named_in_item i)
+    go true is' later = subst (λ z. Each P (named_in_item z)) (some_same j i is') (each_first P (named_in_item j) (named_in rest) h)
+    go false is' later = later is'
+
+path_named : (P : ℕ → Type 0) (path : List Name) (item : Item) (r : ℕ) → found_at path (Some item) ≡ Some (KindItem (ResourceKind r)) → Each P (named_in_item item) → P r
+path_named P [] item r is h = let e : Each P (named_in_item (KindItem (ResourceKind r))) = subst (λ z. Each P (named_in_item z)) (some_same item (KindItem (ResourceKind r)) is) h in e.0
+path_named P (n ∷ path) (FuncItem ty) r is h = absurd (none_found path (KindItem (ResourceKind r)) is)
+path_named P (n ∷ path) (KindItem kind) r is h = absurd (none_found path (KindItem (ResourceKind r)) is)
+path_named P (n ∷ path) (InstanceItem entries) r is h = go (look_up n entries) refl is (λ i. path_named P path i r)
+  where
+    go : (o : Option Item) → look_up n entries ≡ o → found_at path o ≡ Some (KindItem (ResourceKind r)) → ((i : Item) → found_at path (Some i) ≡ Some (KindItem (ResourceKind r)) → Each P (named_in_item i) → P r) → P r
+    go None e is' later = absurd (none_found path (KindItem (ResourceKind r)) is')
+    go (Some i) e is' later = later i is' (entry_named P entries n i e h)
+
+pub brings_own : (c : NestedComponent) (r : ℕ) → Brings c r → IsOwn c r
+brings_own c r (inl own) = inl own
+brings_own c r (inr shown) = inr (path_named (λ x. is_among (named_in c.signature.imports) x ≡ true) shown.0 (InstanceItem c.signature.imports) r shown.1 (each_among (named_in c.signature.imports)))
+
 each_filter : (P : ℕ → Type 0) (p : ℕ → Bool) (rs : List ℕ) → Each P rs → Each P (filter p rs)
 each_filter P p [] h = tt
 each_filter P p (x ∷ rs) h = go (p x) (each_filter P p rs h.1)
@@ -88,7 +114,7 @@ resource_key P x (KindItem (ValueKind ty)) r h b = absurd b
 resource_key P x (KindItem (FuncKind ty)) r h b = absurd b
 resource_key P x (KindItem (InstanceKind own entries)) r h b = absurd b
 
-brought_either : (xs ys : List (ℕ × ℕ)) (r : ℕ) → IsBrought (xs ++ ys) r → IsBrought xs r ⊎ IsBrought ys r
+pub brought_either : (xs ys : List (ℕ × ℕ)) (r : ℕ) → IsBrought (xs ++ ys) r → IsBrought xs r ⊎ IsBrought ys r
 brought_either [] ys r h = inr h
 brought_either (x ∷ xs) ys r (inl same) = inl (inl same)
 brought_either (x ∷ xs) ys r (inr rest) = go (brought_either xs ys r rest)
@@ -97,7 +123,7 @@ brought_either (x ∷ xs) ys r (inr rest) = go (brought_either xs ys r rest)
     go (inl a) = inl (inr a)
     go (inr b) = inr b
 
-either_way : (A B C : Type 0) → (A → C) → (B → C) → A ⊎ B → C
+pub either_way : (A B C : Type 0) → (A → C) → (B → C) → A ⊎ B → C
 either_way A B C f g (inl a) = f a
 either_way A B C f g (inr b) = g b
 

@@ -11,6 +11,7 @@ use Rattle.comp_inside.specs.Linked.{ItemKnows, PlanKnows, unmade}
 use Rattle.comp_inside.proofs.Made.{core_item_whole, item_whole, export_whole}
 use Rattle.comp_inside.proofs.Whole.{valid_stay}
 use Rattle.comp_inside.proofs.Components.{components_inside}
+use Rattle.comp_knows.proofs.Known.{names_known}
 use Rattle.comp_knows.specs.Known.{StayInOrder, KnownInOrder, ValidLinkInside}
 
 -- ---- how many numbers are given out
@@ -86,5 +87,5 @@ pub known_in_order : KnownInOrder
 known_in_order to plan m h order = plan_ordered to plan m h order
 
 pub valid_inside : ValidLinkInside
-valid_inside around outside at c valid known instances order =
-    components_inside around outside at c (valid_stay c valid) instances (plan_ordered at.to (plan_of c) (unmade c) known order)
+valid_inside around outside at c valid defines instances order =
+    components_inside around outside at c (valid_stay c valid) instances (plan_ordered at.to (plan_of c) (unmade c) (names_known c valid defines) order)

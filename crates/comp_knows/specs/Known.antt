@@ -5,6 +5,7 @@ use Rattle.comp_rules.specs.Spaces.{Space, empty_space}
 use Rattle.comp_rules.specs.Validity.{IsValidComponent}
 use Rattle.comp_link.specs.Plans.{Plan, Scope, no_scope, plan_tree, plan_of}
 use Rattle.comp_link.specs.Linking.{Making, link, linked}
+use Rattle.comp_exports.specs.Sections.{DefinesTypes}
 use Rattle.comp_inside.specs.Linked.{Standing, InOrder, making_in, PlanKnows, unmade}
 
 -- numbers one behind the other, from the first on and in front of the last, become such numbers
@@ -18,9 +19,13 @@ PlanNamesKnown plan m = PlanKnows (λ r. r) plan m
 abbrev pub KnownInOrder : Type 0
 KnownInOrder = (to : ℕ → ℕ) (plan : Plan) (m : Making) → PlanNamesKnown plan m → StayInOrder to m.whole.next_resource (link plan m).whole.next_resource → PlanKnows to plan m
 
--- of each valid component
+-- ---- components; that sections of types only define types is so of each component that bytes spell
+
+abbrev pub ValidNamesKnown : Type 0
+ValidNamesKnown = (c : Tree) → IsValidComponent c → DefinesTypes c → PlanNamesKnown (plan_of c) (unmade c)
+
 abbrev pub ValidLinkInside : Type 0
 ValidLinkInside =
-    (around : List Space) (outside : List Scope) (at : Standing) (c : Tree) → IsValidComponent c → PlanNamesKnown (plan_of c) (unmade c) →
+    (around : List Space) (outside : List Scope) (at : Standing) (c : Tree) → IsValidComponent c → DefinesTypes c →
     InOrder at (linked c).whole.next_instance → StayInOrder at.to (unmade c).whole.next_resource (linked c).whole.next_resource →
     link (plan_tree around outside (empty_space true at.later) no_scope c) (making_in at (unmade c)) ≡ making_in at (linked c)

@@ -3,4 +3,7 @@
 
 mod laws;
 
-pub use laws::{plans_know_in_order, valid_components_link_inside_as_alone};
+pub use laws::{
+    plans_know_in_order, valid_components_know_what_they_name,
+    valid_components_link_inside_as_alone,
+};
