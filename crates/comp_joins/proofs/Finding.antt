@@ -7,7 +7,8 @@ use Rattle.wit_types.specs.Plain.{Name}
 use Rattle.comp_types.specs.Items.{Item, Entries, FuncItem, InstanceItem, KindItem, End as NoEntries, More as Entry, same_name}
 use Rattle.comp_link.specs.Linking.{Given, Givens, GivenFunc, GivenInstance, GivenResource, GivenType, Nothing, Giving, find, and_given, and_some_given, bound, all_bound, bound_if, item_in, instance_in, target_in, exported}
 use Rattle.comp_joins.specs.Alike.{AlikeTo, AlikeItem, Alike, AllAlike}
-use Rattle.comp_joins.proofs.Lists.{or_else, cond_else}
+use Rattle.comp_joins.specs.Joining.{or_else}
+use Rattle.comp_joins.proofs.Lists.{cond_else}
 
 pub itself_to : (d : ℕ) (o : Option Given) → AlikeTo d o o
 itself_to zero o = tt

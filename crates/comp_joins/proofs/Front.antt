@@ -47,7 +47,7 @@ parts_linked scope s (part ∷ parts) rest m h =
     ∙ link_followed (plan_part [] [] s scope part).plan (plan_tree [] [] (after_part [] s part) scope (in_front parts rest)) m
     ∙ parts_linked scope (after_part [] s part) parts rest (link (plan_part [] [] s scope part).plan m) h.2
 
-module _ (j : Joint) (first second : Tree) (to : ℕ → ℕ) (fits : Fits j first second to) where
+module _ (j : Joint) (first second : Tree) (from to : ℕ → ℕ) (fits : Fits j first second from to) where
   abbrev behind_tree : Tree
   behind_tree = in_front j.behind NoParts
 

@@ -14,11 +14,11 @@ use Rattle.comp_grammar.specs.Trees.{Tree}
 use Rattle.comp_worlds.specs.Groups.{Target, Func as Canon, LoweredFunc, ResourceNew, ResourceDrop, ResourceRep, Owner, Begins}
 use Rattle.comp_parts.specs.Parts.{DropsSome}
 use Rattle.comp_link.specs.Plans.{Named, AFunc, AnInstanceAt, AResource, AValueType, NamedArg, Plan, Planned, End, Then, OfModule, OfCoreItems, CoreItemOf, OfComponent, OfItems, ItemOf, NewResource, Lifts, Lowers, MakesResource, DropsResource, ReadsResource, Imports, Exports, plan_of}
-use Rattle.comp_link.specs.Linking.{Given, Givens, GivenFunc, GivenInstance, GivenResource, GivenType, Nothing, Giving, find, and_given, bound, all_bound, bound_if, Placed, Owned, Whole, Making, begun, and_stage, core_find, and_core_item, given_at, and_some_given, givens_of, and_item, item_in, and_export, with_lowered, own_bound, link_item, link, outside, all_outside, Known, known, all_known, behind_known, canon_in, owner_in, linked, group_of}
+use Rattle.comp_link.specs.Linking.{Given, Givens, GivenFunc, GivenInstance, GivenResource, GivenType, Nothing, Giving, find, and_given, bound, all_bound, bound_if, Placed, Owned, Whole, Making, begun, and_stage, core_find, and_core_item, given_at, and_some_given, givens_of, and_item, item_in, and_export, with_lowered, own_bound, link_item, link, outside, all_outside, Known, known, all_known, canon_in, owner_in, linked, group_of}
 use Rattle.comp_inside.specs.Linked.{IsBrought, NamesBrought, ArgsBrought, OwnBrought, ItemKnows, PlanKnows, unmade}
 use Rattle.comp_inside.proofs.Made.{core_item_whole, item_whole, export_whole}
-use Rattle.comp_joins.specs.Joining.{imports_of, first_own, behind_own, IsKnown, known_by}
-use Rattle.comp_joins.proofs.Lists.{or_else, owner_append}
+use Rattle.comp_joins.specs.Joining.{or_else, imports_of, first_own, behind_own, IsKnown, known_by}
+use Rattle.comp_joins.proofs.Lists.{owner_append}
 
 -- ---- how many numbers are given out
 
@@ -309,18 +309,6 @@ module _ (P : ℕ → Type 0) where
   drop_held to tree know old new r (k, n, is) =
       let all : Holds (linked tree) = plan_held to (first_own tree) (behind_own tree) new (plan_of tree) (unmade tree) know (omega arith) (omega arith) (all_outside_held [] (imports_of tree) (each_known (known_by tree) old), tt, tt, tt, tt) in
       canon_held (linked tree).whole.canons k n (ResourceDrop r) all.4 is
-
-known_below : (ks : List Known) (r : ℕ) → IsKnown ks r → r < behind_known ks
-known_below [] r is = absurd is
-known_below (k ∷ ks) r (inl same) = omega (arith, same)
-known_below (k ∷ ks) r (inr rest) = let less : r < behind_known ks = known_below ks r rest in omega (arith, less)
-
--- what a component drops has a number in front of the next one
-pub dropped_below : (to : ℕ → ℕ) (tree : Tree) → PlanKnows to (plan_of tree) (unmade tree) → (r : ℕ) → DropsSome (group_of tree) r → r < behind_own tree
-dropped_below to tree know =
-    drop_held (λ r. r < behind_own tree) to tree know
-    (λ r is. let less : r < first_own tree = known_below (known_by tree) r is in let more : first_own tree ≤ behind_own tree = plan_new (plan_of tree) (unmade tree) in omega (arith, less, more))
-    (λ r lo hi. hi)
 
 -- ---- what is defined is owned
 

@@ -3,38 +3,39 @@ use Rattle.std.proofs.Common.{◌≡◌, ℕ, ◌≤◌, ◌<◌, ◌==◌, List
 use Rattle.std.specs.Option.{option_map}
 use Rattle.std.proofs.Math.Path.{ap₂}
 use Rattle.wit_types.specs.Plain.{Name}
+use Rattle.host_port.specs.declared.call.Resource.{Resource}
 use Rattle.comp_grammar.specs.Trees.{Tree}
 use Rattle.comp_worlds.specs.Groups.{Import, Target, Mine, Theirs, type_of, Func, LoweredFunc, ResourceNew, ResourceDrop, ResourceRep, Owner, Begins, Group}
 use Rattle.comp_worlds.specs.Calls.{owned_by, owns}
 use Rattle.comp_parts.specs.Parts.{target_to, func_to, owner_to, stages_to, IsImportOf, DropsSome, Joins}
-use Rattle.comp_link.specs.Linking.{Placed, Owned, canon_in, owner_in, all_known, known_in, linked, group_of}
+use Rattle.comp_link.specs.Linking.{Placed, Owned, canon_in, owner_in, linked, group_of}
 use Rattle.comp_renames.specs.Renaming.{target_with, canon_with}
 use Rattle.comp_inside.specs.Linked.{target_in, canon_in as canon_at, givens_in, placed_in, owned_in}
-use Rattle.comp_joins.specs.Joining.{Joint, joining, or_nowhere, Meets, behind_own, made_second, Fits, Agree}
+use Rattle.comp_joins.specs.Joining.{Joint, joining, or_else, or_nowhere, Meets, IsKnown, known_by, behind_own, made_second, Fits, owned_with, over_host, Agree}
 use Rattle.comp_joins.specs.Laws.{in_a_step}
 use Rattle.comp_joins.proofs.Places.{left_once, right_once, apart}
-use Rattle.comp_joins.proofs.Lists.{or_else, or_none, cond_some, canon_append, owner_append, unlike, alike, canons_mapped, canons_elsewhere, targets_in}
+use Rattle.comp_joins.proofs.Lists.{or_none, cond_some, canon_append, owner_append, unlike, alike, canons_mapped, canons_elsewhere, targets_in}
 use Rattle.comp_joins.proofs.Finding.{targets_alike}
-use Rattle.comp_joins.proofs.Held.{dropped_below, dropped_known}
+use Rattle.comp_joins.proofs.Held.{dropped_known}
 use Rattle.comp_joins.proofs.Numbers.{owned_below, owned_behind}
-use Rattle.comp_joins.proofs.Renamed.{owned_with, renamed, owned_was, import_was, drop_was, owner_of_renamed, imported_of_renamed}
-use Rattle.comp_joins.proofs.Made.{itself, lifting_itself, count, lefts, rights, first_at, second_at, meets, there, second_is, whole_is}
+use Rattle.comp_joins.proofs.Renamed.{renamed, owned_was, import_was, drop_was, owner_of_renamed, imported_of_renamed}
+use Rattle.comp_joins.proofs.Made.{count, lefts, rights, first_at, second_at, meets, there, second_is, whole_is}
 
-module _ (j : Joint) (first second : Tree) (to : ℕ → ℕ) (fits : Fits j first second to) (agree : Agree first second to) where
-  abbrev A : Group
-  A = group_of first
-
-  abbrev B : Group
-  B = renamed to agree.once second
-
-  abbrev W : Group
+module _ (j : Joint) (first second : Tree) (from to : ℕ → ℕ) (fits : Fits j first second from to) (agree : Agree (joining j first second) first second from to) where
+  abbrev pub W : Group
   W = group_of (joining j first second)
 
-  abbrev left : ℕ → ℕ
-  left = lefts j first second to
+  abbrev pub A : Group
+  A = over_host (joining j first second) first from
 
-  abbrev right : ℕ → ℕ
-  right = rights j first second to
+  abbrev pub B : Group
+  B = renamed to agree.second_once second
+
+  abbrev pub left : ℕ → ℕ
+  left = lefts j first second from to
+
+  abbrev pub right : ℕ → ℕ
+  right = rights j first second from to
 
   abbrev one : (j' k : ℕ) → left j' ≡ left k → j' ≡ k
   one = left_once (count first) (count second)
@@ -46,28 +47,28 @@ module _ (j : Joint) (first second : Tree) (to : ℕ → ℕ) (fits : Fits j fir
   never = apart (count first) (count second)
 
   abbrev import : Import → Target
-  import = there j first second to
+  import = there j first second from to
 
   -- ---- the canonical functions
 
   abbrev firsts : List Placed
-  firsts = map (placed_in (first_at j first second to)) (linked first).whole.canons
+  firsts = map (placed_in (first_at j first second from to)) (linked first).whole.canons
 
   abbrev seconds : List Placed
-  seconds = map (placed_in (second_at j first second to)) (linked second).whole.canons
+  seconds = map (placed_in (second_at j first second from to)) (linked second).whole.canons
 
   canons_are : (k n : ℕ) → W.canons k n ≡ or_else (canon_in firsts k n) (canon_in seconds k n)
-  canons_are k n = ap (λ w. canon_in w.canons k n) (whole_is j first second to fits agree) ∙ canon_append firsts seconds k n
+  canons_are k n = ap (λ w. canon_in w.canons k n) (whole_is j first second from to fits agree) ∙ canon_append firsts seconds k n
 
-  first_canon : (f : Option Func) → option_map (canon_at (first_at j first second to)) f ≡ option_map (func_to left Theirs) f
+  first_canon : (f : Option Func) → option_map (canon_at (first_at j first second from to)) f ≡ option_map (func_to left Theirs) (option_map (canon_with from) f)
   first_canon None = refl
-  first_canon (Some (LoweredFunc (Mine k l) options)) = ap (λ z. Some (LoweredFunc (Mine (left k) z) options)) (lifting_itself l)
+  first_canon (Some (LoweredFunc (Mine k l) options)) = refl
   first_canon (Some (LoweredFunc (Theirs f) options)) = refl
   first_canon (Some (ResourceNew r)) = refl
   first_canon (Some (ResourceDrop r)) = refl
   first_canon (Some (ResourceRep r)) = refl
 
-  second_canon : (f : Option Func) → option_map (canon_at (second_at j first second to)) f ≡ option_map (func_to right import) (option_map (canon_with to) f)
+  second_canon : (f : Option Func) → option_map (canon_at (second_at j first second from to)) f ≡ option_map (func_to right import) (option_map (canon_with to) f)
   second_canon None = refl
   second_canon (Some (LoweredFunc (Mine k l) options)) = refl
   second_canon (Some (LoweredFunc (Theirs f) options)) = refl
@@ -78,51 +79,70 @@ module _ (j : Joint) (first second : Tree) (to : ℕ → ℕ) (fits : Fits j fir
   canons_left : (k n : ℕ) → W.canons (left k) n ≡ option_map (func_to left Theirs) (A.canons k n)
   canons_left k n =
       canons_are (left k) n
-      ∙ ap₂ or_else (canons_mapped (first_at j first second to) one (linked first).whole.canons k n) (canons_elsewhere (second_at j first second to) (left k) (λ i same. never k i (sym same)) (linked second).whole.canons n)
-      ∙ or_none (option_map (canon_at (first_at j first second to)) (A.canons k n))
-      ∙ first_canon (A.canons k n)
+      ∙ ap₂ or_else (canons_mapped (first_at j first second from to) one (linked first).whole.canons k n) (canons_elsewhere (second_at j first second from to) (left k) (λ i same. never k i (sym same)) (linked second).whole.canons n)
+      ∙ or_none (option_map (canon_at (first_at j first second from to)) ((group_of first).canons k n))
+      ∙ first_canon ((group_of first).canons k n)
 
   canons_right : (k n : ℕ) → W.canons (right k) n ≡ option_map (func_to right import) (B.canons k n)
   canons_right k n =
       canons_are (right k) n
-      ∙ ap₂ or_else (canons_elsewhere (first_at j first second to) (right k) (λ i same. never i k same) (linked first).whole.canons n) (canons_mapped (second_at j first second to) two (linked second).whole.canons k n)
+      ∙ ap₂ or_else (canons_elsewhere (first_at j first second from to) (right k) (λ i same. never i k same) (linked first).whole.canons n) (canons_mapped (second_at j first second from to) two (linked second).whole.canons k n)
       ∙ second_canon ((group_of second).canons k n)
 
   -- ---- the resources
 
-  first_owners : (os : List Owned) (r : ℕ) → owner_in (map (owned_in (first_at j first second to)) os) r ≡ option_map (owner_to left) (owner_in os r)
+  first_owners : (os : List Owned) (r : ℕ) → owner_in (map (owned_in (first_at j first second from to)) os) r ≡ option_map (owner_to left) (owner_in (map (owned_with from) os) r)
   first_owners [] r = refl
-  first_owners (o ∷ os) r = cond_some (owner_to left) (o.resource == r) o.owner (owner_in (map (owned_in (first_at j first second to)) os) r) (owner_in os r) (first_owners os r)
+  first_owners (o ∷ os) r =
+      cond_some (owner_to left) (from o.resource == r) o.owner (owner_in (map (owned_in (first_at j first second from to)) os) r) (owner_in (map (owned_with from) os) r) (first_owners os r)
 
-  second_owners : (os : List Owned) (r : ℕ) → owner_in (map (owned_in (second_at j first second to)) os) r ≡ option_map (owner_to right) (owner_in (map (owned_with to agree.once) os) r)
+  second_owners : (os : List Owned) (r : ℕ) → owner_in (map (owned_in (second_at j first second from to)) os) r ≡ option_map (owner_to right) (owner_in (map (owned_with to) os) r)
   second_owners [] r = refl
   second_owners (o ∷ os) r =
-      cond_some (owner_to right) (to o.resource == r) o.owner (owner_in (map (owned_in (second_at j first second to)) os) r) (owner_in (map (owned_with to agree.once) os) r) (second_owners os r)
+      cond_some (owner_to right) (to o.resource == r) o.owner (owner_in (map (owned_in (second_at j first second from to)) os) r) (owner_in (map (owned_with to) os) r) (second_owners os r)
 
   owner_is : (r : ℕ) → W.owner r ≡ or_else (option_map (owner_to left) (A.owner r)) (option_map (owner_to right) (B.owner r))
   owner_is r =
-      ap (λ w. owner_in w.owners r) (whole_is j first second to fits agree)
-      ∙ owner_append (map (owned_in (first_at j first second to)) (linked first).whole.owners) (map (owned_in (second_at j first second to)) (linked second).whole.owners) r
+      ap (λ w. owner_in w.owners r) (whole_is j first second from to fits agree)
+      ∙ owner_append (map (owned_in (first_at j first second from to)) (linked first).whole.owners) (map (owned_in (second_at j first second from to)) (linked second).whole.owners) r
       ∙ ap₂ or_else (first_owners (linked first).whole.owners r) (second_owners (linked second).whole.owners r)
 
-  -- what the second defines has numbers behind those of the first
-  second_behind : (r : ℕ) (o : Owner) → B.owner r ≡ Some o → behind_own first ≤ r
+  -- what the first defines has numbers in front of these, and what the second defines has not
+  first_before : (r : ℕ) (o : Owner) → A.owner r ≡ Some o → r < from (behind_own first)
+  first_before r o is =
+      let was = owned_was from agree.first_once first r o is in
+      subst (λ z. z < from (behind_own first)) was.1 (agree.own_before was.0 (owned_behind first was.0 o was.2) (owned_below first was.0 o was.2))
+
+  second_behind : (r : ℕ) (o : Owner) → B.owner r ≡ Some o → from (behind_own first) ≤ r
   second_behind r o is =
-      let was = owned_was to agree.once second r o is in
-      subst (λ z. behind_own first ≤ z) was.1 (agree.behind was.0 (owned_behind second was.0 o was.2))
+      let was = owned_was to agree.second_once second r o is in
+      subst (λ z. from (behind_own first) ≤ z) was.1 (agree.behind was.0 (owned_behind second was.0 o was.2))
 
   not_both : (r : ℕ) (o o' : Owner) → A.owner r ≡ Some o → B.owner r ≡ Some o' → ⊥
   not_both r o o' is is' =
-      let less : r < behind_own first = owned_below first r o is in
-      let more : behind_own first ≤ r = second_behind r o' is' in
+      let less : r < from (behind_own first) = first_before r o is in
+      let more : from (behind_own first) ≤ r = second_behind r o' is' in
       omega (arith, less, more)
 
-  not_second : (r : ℕ) → r < behind_own first → B.owner r ≡ None
+  not_second : (r : ℕ) → r < from (behind_own first) → B.owner r ≡ None
   not_second r less = go (B.owner r) refl
     where
       go : (o : Option Owner) → B.owner r ≡ o → o ≡ None
       go None is = refl
-      go (Some o) is = absurd (let more : behind_own first ≤ r = second_behind r o is in omega (arith, less, more))
+      go (Some o) is = absurd (let more : from (behind_own first) ≤ r = second_behind r o is in omega (arith, less, more))
+
+  -- what the first drops is none of the second's
+  dropped_before : (r : ℕ) → DropsSome (group_of first) r → from r < from (behind_own first)
+  dropped_before r drops = go ((group_of first).owner r) refl
+    where
+      go : (o : Option Owner) → (group_of first).owner r ≡ o → from r < from (behind_own first)
+      go None none = agree.known_before r (dropped_known from first agree.first_knows r drops none)
+      go (Some o) is = agree.own_before r (owned_behind first r o is) (owned_below first r o is)
+
+  first_drops : (r : ℕ) → DropsSome A r → B.owner r ≡ None
+  first_drops r drops =
+      let was = drop_was from agree.first_once first r drops in
+      not_second r (subst (λ z. z < from (behind_own first)) was.1 (dropped_before was.0 was.2))
 
   owner_right : (r : ℕ) (o : Owner) → B.owner r ≡ Some o → W.owner r ≡ Some (owner_to right o)
   owner_right r o is = owner_is r ∙ go (A.owner r) refl
@@ -151,23 +171,24 @@ module _ (j : Joint) (first second : Tree) (to : ℕ → ℕ) (fits : Fits j fir
   below : (r : ℕ) → B.owner r ≡ None → W.owner r ≡ option_map (owner_to left) (A.owner r)
   below r none = owner_is r ∙ ap (λ y. or_else (option_map (owner_to left) (A.owner r)) (option_map (owner_to right) y)) none ∙ or_none (option_map (owner_to left) (A.owner r))
 
-  resources : (r : ℕ) → DropsSome B r → B.owner r ≡ None → A.given (B.imported r) ≡ Some r
-  resources r drops none =
-      let was = drop_was to agree.once second r drops in
-      subst (λ z. A.given (B.imported z) ≡ Some z) was.1
-      (ap A.given (imported_of_renamed to agree.once second was.0)
-      ∙ agree.resources was.0 (dropped_known to second agree.second_knows was.0 was.2 (sym (owner_of_renamed to agree.once second was.0) ∙ ap B.owner was.1 ∙ none)))
+  -- what the second drops and does not define is given for what it imports
+  pub resources_by : (given : Resource → Option ℕ) → ((r : ℕ) → IsKnown (known_by second) r → given ((group_of second).imported r) ≡ Some (to r)) → (r : ℕ) → DropsSome B r → B.owner r ≡ None → given (B.imported r) ≡ Some r
+  resources_by given known r drops none =
+      let was = drop_was to agree.second_once second r drops in
+      subst (λ z. given (B.imported z) ≡ Some z) was.1
+      (ap given (imported_of_renamed to agree.second_once second was.0)
+      ∙ known was.0 (dropped_known to second agree.second_knows was.0 was.2 (sym (owner_of_renamed to agree.second_once second was.0) ∙ ap B.owner was.1 ∙ none)))
 
   -- ---- the imports and exports
 
-  meets_them : (f : Import) → IsImportOf B f → (A.exports f.interface f.function ≡ Some (meets j first second to f)) × (type_of (meets j first second to f) ≡ f.ty)
+  pub meets_them : (f : Import) → IsImportOf B f → (A.exports f.interface f.function ≡ Some (meets j first second from to f)) × (type_of (meets j first second from to f) ≡ f.ty)
   meets_them f is =
-      let was = import_was to agree.once second f is in
-      let m : Meets first to was.0 = agree.types was.0 was.1 in
-      subst (λ z. (A.exports z.interface z.function ≡ Some (meets j first second to z)) × (type_of (meets j first second to z) ≡ z.ty)) was.2
+      let was = import_was to agree.second_once second f is in
+      let m : Meets A to was.0 = agree.types was.0 was.1 in
+      subst (λ z. (A.exports z.interface z.function ≡ Some (meets j first second from to z)) × (type_of (meets j first second from to z) ≡ z.ty)) was.2
       (m.1 ∙ ap (λ z. Some (or_nowhere z)) (sym m.1), ap (λ z. type_of (or_nowhere z)) m.1 ∙ m.2)
 
-  target_there : (o : Option Target) → option_map (target_in (second_at j first second to)) o ≡ option_map (target_to right import) (option_map (target_with to) o)
+  target_there : (o : Option Target) → option_map (target_in (second_at j first second from to)) o ≡ option_map (target_to right import) (option_map (target_with to) o)
   target_there None = refl
   target_there (Some (Mine k l)) = refl
   target_there (Some (Theirs f)) = refl
@@ -175,14 +196,14 @@ module _ (j : Joint) (first second : Tree) (to : ℕ → ℕ) (fits : Fits j fir
   exports_are : (interface name : Name) → W.exports interface name ≡ option_map (target_to right import) (B.exports interface name)
   exports_are interface name =
       fits.exports interface name
-      ∙ targets_alike (givens_in (second_at j first second to) (linked second).exports) (made_second j first second).exports (second_is j first second to fits agree).exports interface name
-      ∙ targets_in (second_at j first second to) (linked second).exports interface name
+      ∙ targets_alike (givens_in (second_at j first second from to) (linked second).exports) (made_second j first second).exports (second_is j first second from to fits agree).exports interface name
+      ∙ targets_in (second_at j first second from to) (linked second).exports interface name
       ∙ target_there ((group_of second).exports interface name)
 
   stages_are : W.stages ≡ stages_to left (Begins ∷ A.stages) ++ stages_to right (Begins ∷ B.stages)
-  stages_are = ap (λ w. w.stages) (whole_is j first second to fits agree) ∙ append_assoc (Begins ∷ stages_to left A.stages) (Begins ∷ []) (stages_to right B.stages)
+  stages_are = ap (λ w. w.stages) (whole_is j first second from to fits agree) ∙ append_assoc (Begins ∷ stages_to left A.stages) (Begins ∷ []) (stages_to right B.stages)
 
-  pub joins : Joins (in_a_step A) (in_a_step B) W left right (meets j first second to)
+  pub joins : Joins (in_a_step A) (in_a_step B) W left right (meets j first second from to)
   joins = record {
     lefts = record { canons = canons_left; owner = λ r o is. owner_is r ∙ ap (λ x. or_else (option_map (owner_to left) x) (option_map (owner_to right) (B.owner r))) is; owns_no_more = owns_left };
     rights = record { canons = canons_right; owner = owner_right; owns_no_more = owns_right };
@@ -194,7 +215,7 @@ module _ (j : Joint) (first second : Tree) (to : ℕ → ℕ) (fits : Fits j fir
     right_once = two;
     apart = never;
     below = below;
-    drops = λ r drops. not_second r (dropped_below itself first agree.first_knows r drops);
-    names = λ r none none'. ap (λ i. known_in (all_known [] i) r) fits.imports;
-    resources = resources;
+    drops = first_drops;
+    names = λ r none none'. refl;
+    resources = resources_by A.given agree.resources;
   }

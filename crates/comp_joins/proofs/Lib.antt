@@ -8,6 +8,7 @@ pub mod Held
 pub mod Renamed
 pub mod Made
 pub mod Joined
+pub mod Closed
 pub mod InStep
 pub mod Gains
 pub mod Same

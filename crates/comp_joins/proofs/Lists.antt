@@ -5,12 +5,8 @@ use Rattle.std.proofs.lemmas.Bool.{eqb-true, eqb-false}
 use Rattle.wit_types.specs.Plain.{Name}
 use Rattle.comp_link.specs.Linking.{Given, Givens, GivenFunc, GivenInstance, GivenResource, GivenType, Nothing, Giving, find, Placed, Owned, canon_in, owner_in, target_in as target_of, instance_in, exported}
 use Rattle.comp_types.specs.Items.{same_name}
+use Rattle.comp_joins.specs.Joining.{or_else}
 use Rattle.comp_inside.specs.Linked.{Standing, target_in, canon_in as canon_at, given_in, givens_in, placed_in}
-
--- the first, or else the second
-abbrev pub or_else : {A : Type 0} → Option A → Option A → Option A
-or_else None y = y
-or_else (Some x) y = Some x
 
 pub or_none : {A : Type 0} → (x : Option A) → or_else x None ≡ x
 or_none None = refl

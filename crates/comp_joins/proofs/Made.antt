@@ -4,17 +4,17 @@ use Rattle.std.specs.Option.{option_map}
 use Rattle.std.proofs.Math.Path.{ap₂}
 use Rattle.wit_types.specs.Plain.{Name, Plain, Parts, PlainFunc, BoolType, SignedType, UnsignedType, CharType, StringType, ListType, RecordType, VariantType, FlagsType, OwnType, BorrowType, End as NoParts, More as Part, Bare}
 use Rattle.comp_types.specs.Items.{Item, Entries, FuncItem, InstanceItem, KindItem, ResourceKind, ValueKind, FuncKind, InstanceKind, End as NoEntries, More as Entry}
-use Rattle.comp_types.specs.Substitution.{value_with, parts_with, answer_with, func_with}
+use Rattle.comp_types.specs.Substitution.{value_with, parts_with, answer_with, func_with, item_with, entries_with}
 use Rattle.comp_grammar.specs.Trees.{Tree}
 use Rattle.comp_worlds.specs.Groups.{Import, Lifting, Target, Mine, Theirs, Stage, Begins}
 use Rattle.comp_parts.specs.Parts.{target_to}
 use Rattle.comp_link.specs.Plans.{no_scope, plan_of}
-use Rattle.comp_link.specs.Linking.{Givens, GivenFunc, GivenInstance, Nothing, Giving, Placed, Owned, Whole, Making, begun, and_stage, link, all_outside, outside, all_known, behind_known, target_in as target_of, exported, linked, group_of}
-use Rattle.comp_renames.specs.Renaming.{lifting_with}
+use Rattle.comp_link.specs.Linking.{Givens, GivenFunc, GivenInstance, Nothing, Giving, Placed, Owned, Whole, Making, begun, and_stage, link, all_outside, outside, target_in as target_of, exported, linked, group_of}
+use Rattle.comp_renames.specs.Renaming.{lifting_with, import_with, target_with}
 use Rattle.comp_inside.specs.Linked.{Standing, target_in, given_in, givens_in, whole_in, making_in, unmade}
 use Rattle.comp_inside.proofs.Made.{more_made}
 use Rattle.comp_inside.proofs.Components.{components_inside}
-use Rattle.comp_joins.specs.Joining.{Joint, joining, before_first, before_second, one_scope, first_plan, second_plan, made_front, given_first, made_first, made_between, given_second, made_second, or_nowhere, met, all_met, imports_of, first_own, behind_own, Fits, Agree}
+use Rattle.comp_joins.specs.Joining.{Joint, joining, before_first, before_second, one_scope, first_plan, second_plan, made_front, given_first, made_first, made_between, given_second, made_second, or_else, or_nowhere, met, all_met, imports_of, hosted, first_own, behind_own, Fits, over_host, Agree, itself}
 use Rattle.comp_joins.specs.Alike.{Alike, MadeAlike}
 use Rattle.comp_joins.proofs.Places.{left, right, left_here, right_here}
 use Rattle.comp_joins.proofs.Front.{front_whole, between_whole, joined_whole}
@@ -23,9 +23,6 @@ use Rattle.comp_joins.proofs.Finding.{alike_itself, targets_alike}
 use Rattle.comp_joins.proofs.Regiven.{plan_linked}
 
 -- ---- resources of the same numbers
-
-abbrev pub itself : ℕ → ℕ
-itself r = r
 
 mutual
   value_itself : (ty : Plain) → value_with itself ty ≡ ty
@@ -56,6 +53,10 @@ func_itself ty = ap₂ (λ ps a. record { params = ps; answer = a }) (parts_itse
 pub lifting_itself : (l : Lifting) → lifting_with itself l ≡ l
 lifting_itself l = ap (λ ty. record { code = l.code; ty = ty; options = l.options; post = l.post }) (func_itself l.ty)
 
+pub target_itself : (t : Target) → target_with itself t ≡ t
+target_itself (Mine k l) = ap (Mine k) (lifting_itself l)
+target_itself (Theirs f) = ap (λ ty. Theirs (record { interface = f.interface; function = f.function; ty = ty })) (func_itself f.ty)
+
 -- what begins where it is given something alike
 begun_alike : (w : Whole) (gs gs' : Givens) → Alike gs gs' → MadeAlike (begun w gs) (begun w gs')
 begun_alike w gs gs' h = record { is = refl; given = h; instances = tt; exports = alike_itself Nothing }
@@ -69,7 +70,7 @@ count tree = (linked tree).whole.next_instance
 pub some_made : (tree : Tree) → 1 ≤ count tree
 some_made tree = more_made (plan_of tree) (unmade tree)
 
-module _ (j : Joint) (first second : Tree) (to : ℕ → ℕ) where
+module _ (j : Joint) (first second : Tree) (from to : ℕ → ℕ) where
   abbrev pub lefts : ℕ → ℕ
   lefts = left (count first) (count second)
 
@@ -81,14 +82,14 @@ module _ (j : Joint) (first second : Tree) (to : ℕ → ℕ) where
     instances = 1;
     place = lefts;
     before = record { next_instance = 0; next_resource = 0; stages = Begins ∷ []; canons = []; owners = [] };
-    import = Theirs;
+    import = λ f. Theirs (import_with from f);
     later = (before_first j first second).next;
-    to = itself;
+    to = from;
   }
 
-  -- the export of the first that meets an import of the second
+  -- what meets an import of the second
   abbrev pub meets : Import → Target
-  meets f = or_nowhere ((group_of first).exports f.interface f.function)
+  meets f = or_nowhere ((over_host (joining j first second) first from).exports f.interface f.function)
 
   abbrev pub there : Import → Target
   there f = target_to lefts Theirs (meets f)
@@ -103,11 +104,52 @@ module _ (j : Joint) (first second : Tree) (to : ℕ → ℕ) where
     to = to;
   }
 
-  module _ (fits : Fits j first second to) (agree : Agree first second to) where
+  module _ (fits : Fits j first second from to) (agree : Agree (joining j first second) first second from to) where
     -- ---- the first
 
     mutual
-      outside_stays : (interface name : Name) (item : Item) → given_in first_at (outside interface name item) ≡ outside interface name item
+      outside_in : (interface name : Name) (item : Item) → given_in first_at (outside interface name item) ≡ outside interface name (item_with from item)
+      outside_in interface name (FuncItem ty) = refl
+      outside_in interface name (InstanceItem entries) = ap GivenInstance (all_outside_in name entries)
+      outside_in interface name (KindItem (ResourceKind r)) = refl
+      outside_in interface name (KindItem (ValueKind ty)) = refl
+      outside_in interface name (KindItem (FuncKind ty)) = refl
+      outside_in interface name (KindItem (InstanceKind own entries)) = refl
+
+      all_outside_in : (interface : Name) (entries : Entries) → givens_in first_at (all_outside interface entries) ≡ all_outside interface (entries_with from entries)
+      all_outside_in interface NoEntries = refl
+      all_outside_in interface (Entry name item rest) = ap₂ (Giving name) (outside_in interface name item) (all_outside_in interface rest)
+
+    -- what the first is given, in the whole's numbers
+    abbrev first_imports : Givens
+    first_imports = all_outside [] (entries_with from (imports_of first))
+
+    abbrev first_begun : ℕ → ℕ → Givens → Making
+    first_begun instance next given = record (begun (record { next_instance = 1; next_resource = next; stages = Begins ∷ []; canons = []; owners = [] }) given) { instance = instance }
+
+    first_begins : begun (and_stage (made_front j first second).whole Begins) first_imports ≡ making_in first_at (unmade first)
+    first_begins =
+        ap (λ w. begun (and_stage w Begins) first_imports) (front_whole j first second from to fits)
+        ∙ ap (λ n. first_begun 1 n first_imports) (sym agree.first_begins)
+        ∙ ap (λ k. first_begun k (from (first_own first)) first_imports) (sym (left_here (count first) (count second) 0 (some_made first)))
+        ∙ ap (first_begun (lefts 0) (from (first_own first))) (sym (all_outside_in [] (imports_of first)))
+
+    pub first_is : MadeAlike (making_in first_at (linked first)) (made_first j first second)
+    first_is =
+        subst (λ z. MadeAlike z (made_first j first second))
+        (ap (link (first_plan j first second)) first_begins
+        ∙ components_inside (before_first j first second ∷ []) (no_scope ∷ []) first_at first agree.first_stays (left_here (count first) (count second)) agree.first_knows)
+        (plan_linked (first_plan j first second) (begun (and_stage (made_front j first second).whole Begins) first_imports) (begun (and_stage (made_front j first second).whole Begins) (given_first j first second))
+        (begun_alike (and_stage (made_front j first second).whole Begins) first_imports (given_first j first second) fits.first_given))
+
+    -- ---- the second
+
+    -- what is outside stands nowhere in the whole
+    abbrev outside_at : Standing
+    outside_at = record { instances = 1; place = lefts; before = first_at.before; import = Theirs; later = 0; to = itself }
+
+    mutual
+      outside_stays : (interface name : Name) (item : Item) → given_in outside_at (outside interface name item) ≡ outside interface name item
       outside_stays interface name (FuncItem ty) = refl
       outside_stays interface name (InstanceItem entries) = ap GivenInstance (all_outside_stays name entries)
       outside_stays interface name (KindItem (ResourceKind r)) = refl
@@ -115,43 +157,38 @@ module _ (j : Joint) (first second : Tree) (to : ℕ → ℕ) where
       outside_stays interface name (KindItem (FuncKind ty)) = refl
       outside_stays interface name (KindItem (InstanceKind own entries)) = refl
 
-      all_outside_stays : (interface : Name) (entries : Entries) → givens_in first_at (all_outside interface entries) ≡ all_outside interface entries
+      all_outside_stays : (interface : Name) (entries : Entries) → givens_in outside_at (all_outside interface entries) ≡ all_outside interface entries
       all_outside_stays interface NoEntries = refl
       all_outside_stays interface (Entry name item rest) = ap₂ (Giving name) (outside_stays interface name item) (all_outside_stays interface rest)
 
-    abbrev first_begun : ℕ → ℕ → Givens → Making
-    first_begun instance next given = record (begun (record { next_instance = 1; next_resource = next; stages = Begins ∷ []; canons = []; owners = [] }) given) { instance = instance }
+    host_target : (o : Option Target) → option_map (target_in outside_at) o ≡ option_map (target_to lefts Theirs) o
+    host_target None = refl
+    host_target (Some (Mine k l)) = ap (λ z. Some (Mine (lefts k) z)) (lifting_itself l)
+    host_target (Some (Theirs f)) = refl
 
-    first_begins : begun (and_stage (made_front j first second).whole Begins) (all_outside [] (imports_of first)) ≡ making_in first_at (unmade first)
-    first_begins =
-        ap (λ w. begun (and_stage w Begins) (all_outside [] (imports_of first))) (front_whole j first second to fits)
-        ∙ ap (λ i. first_begun 1 (behind_known (all_known [] i)) (all_outside [] (imports_of first))) fits.imports
-        ∙ ap (λ k. first_begun k (first_own first) (all_outside [] (imports_of first))) (sym (left_here (count first) (count second) 0 (some_made first)))
-        ∙ ap (first_begun (lefts 0) (first_own first)) (sym (all_outside_stays [] (imports_of first)))
+    host_stays : (entries : Entries) (interface name : Name) → option_map (target_to lefts Theirs) (target_of (exported (all_outside [] entries) interface name)) ≡ target_of (exported (all_outside [] entries) interface name)
+    host_stays entries interface name =
+        sym (host_target (target_of (exported (all_outside [] entries) interface name)))
+        ∙ sym (targets_in outside_at (all_outside [] entries) interface name)
+        ∙ ap (λ gs. target_of (exported gs interface name)) (all_outside_stays [] entries)
 
-    pub first_is : MadeAlike (making_in first_at (linked first)) (made_first j first second)
-    first_is =
-        subst (λ z. MadeAlike z (made_first j first second))
-        (ap (link (first_plan j first second)) first_begins
-        ∙ components_inside (before_first j first second ∷ []) (no_scope ∷ []) first_at first agree.first_stays (left_here (count first) (count second)) agree.first_knows)
-        (plan_linked (first_plan j first second) (begun (and_stage (made_front j first second).whole Begins) (all_outside [] (imports_of first))) (begun (and_stage (made_front j first second).whole Begins) (given_first j first second))
-        (begun_alike (and_stage (made_front j first second).whole Begins) (all_outside [] (imports_of first)) (given_first j first second) fits.first_given))
+    target_stays : (o h : Option Target) → option_map (target_to lefts Theirs) h ≡ h → or_nowhere (or_else (option_map (target_in first_at) o) h) ≡ target_to lefts Theirs (or_nowhere (or_else (option_map (target_with from) o) h))
+    target_stays None None e = refl
+    target_stays None (Some t) e = ap or_nowhere (sym e)
+    target_stays (Some (Mine k l)) h e = refl
+    target_stays (Some (Theirs f)) h e = refl
 
-    -- ---- the second
+    abbrev host : Name → Name → Option Target
+    host interface name = target_of (exported (hosted (joining j first second)) interface name)
 
-    target_stays : (o : Option Target) → or_nowhere (option_map (target_in first_at) o) ≡ target_to lefts Theirs (or_nowhere o)
-    target_stays None = refl
-    target_stays (Some (Mine k l)) = ap (Mine (lefts k)) (lifting_itself l)
-    target_stays (Some (Theirs f)) = refl
-
-    met_there : (interface name : Name) → or_nowhere (target_of (exported (made_first j first second).exports interface name)) ≡ target_to lefts Theirs (or_nowhere ((group_of first).exports interface name))
+    met_there : (interface name : Name) → or_nowhere (or_else (target_of (exported (made_first j first second).exports interface name)) (host interface name)) ≡ target_to lefts Theirs (or_nowhere ((over_host (joining j first second) first from).exports interface name))
     met_there interface name =
-        ap or_nowhere (targets_alike (givens_in first_at (linked first).exports) (made_first j first second).exports first_is.exports interface name)
-        ∙ ap or_nowhere (targets_in first_at (linked first).exports interface name)
-        ∙ target_stays ((group_of first).exports interface name)
+        ap (λ z. or_nowhere (or_else z (host interface name)))
+        (targets_alike (givens_in first_at (linked first).exports) (made_first j first second).exports first_is.exports interface name ∙ targets_in first_at (linked first).exports interface name)
+        ∙ target_stays ((group_of first).exports interface name) (host interface name) (host_stays (imports_of (joining j first second)) interface name)
 
     mutual
-      met_is : (interface name : Name) (item : Item) → met (made_first j first second).exports to interface name item ≡ given_in second_at (outside interface name item)
+      met_is : (interface name : Name) (item : Item) → met (made_first j first second).exports (hosted (joining j first second)) to interface name item ≡ given_in second_at (outside interface name item)
       met_is interface name (FuncItem ty) = ap GivenFunc (met_there interface name)
       met_is interface name (InstanceItem entries) = ap GivenInstance (all_met_is name entries)
       met_is interface name (KindItem (ResourceKind r)) = refl
@@ -159,7 +196,7 @@ module _ (j : Joint) (first second : Tree) (to : ℕ → ℕ) where
       met_is interface name (KindItem (FuncKind ty)) = refl
       met_is interface name (KindItem (InstanceKind own entries)) = refl
 
-      all_met_is : (interface : Name) (entries : Entries) → all_met (made_first j first second).exports to interface entries ≡ givens_in second_at (all_outside interface entries)
+      all_met_is : (interface : Name) (entries : Entries) → all_met (made_first j first second).exports (hosted (joining j first second)) to interface entries ≡ givens_in second_at (all_outside interface entries)
       all_met_is interface NoEntries = refl
       all_met_is interface (Entry name item rest) = ap₂ (Giving name) (met_is interface name item) (all_met_is interface rest)
 
@@ -176,11 +213,11 @@ module _ (j : Joint) (first second : Tree) (to : ℕ → ℕ) where
     first_right : rights 0 ≡ 1 + count first
     first_right = right_here (count first) (count second) 0 (some_made second) ∙ (let q : 1 + count first + 0 ≡ 1 + count first = omega arith in q)
 
-    second_begins : begun (and_stage (made_between j first second).whole Begins) (all_met (made_first j first second).exports to [] (imports_of second)) ≡ making_in second_at (unmade second)
+    second_begins : begun (and_stage (made_between j first second).whole Begins) (all_met (made_first j first second).exports (hosted (joining j first second)) to [] (imports_of second)) ≡ making_in second_at (unmade second)
     second_begins =
-        ap₂ (λ w g. begun (and_stage w Begins) g) (between_whole j first second to fits ∙ ap (λ m. m.whole) first_is.is) (all_met_is [] (imports_of second))
-        ∙ ap (λ k. second_begun k (behind_own first) base.stages base.canons base.owners imported) (sym first_right)
-        ∙ ap (λ n. second_begun (rights 0) n base.stages base.canons base.owners imported) (sym agree.begins)
+        ap₂ (λ w g. begun (and_stage w Begins) g) (between_whole j first second from to fits ∙ ap (λ m. m.whole) first_is.is) (all_met_is [] (imports_of second))
+        ∙ ap (λ k. second_begun k (from (behind_own first)) base.stages base.canons base.owners imported) (sym first_right)
+        ∙ ap (λ n. second_begun (rights 0) n base.stages base.canons base.owners imported) (sym agree.second_begins)
         ∙ ap (λ l. second_begun (rights 0) (to (first_own second)) l base.canons base.owners imported) (sym (append-nil base.stages))
         ∙ ap (λ l. second_begun (rights 0) (to (first_own second)) (base.stages ++ []) l base.owners imported) (sym (append-nil base.canons))
         ∙ ap (λ l. second_begun (rights 0) (to (first_own second)) (base.stages ++ []) (base.canons ++ []) l imported) (sym (append-nil base.owners))
@@ -190,8 +227,8 @@ module _ (j : Joint) (first second : Tree) (to : ℕ → ℕ) where
         subst (λ z. MadeAlike z (made_second j first second))
         (ap (link (second_plan j first second)) second_begins
         ∙ components_inside (before_second j first second ∷ []) (one_scope j first second ∷ []) second_at second agree.second_stays (right_here (count first) (count second)) agree.second_knows)
-        (plan_linked (second_plan j first second) (begun (and_stage (made_between j first second).whole Begins) (all_met (made_first j first second).exports to [] (imports_of second))) (begun (and_stage (made_between j first second).whole Begins) (given_second j first second))
-        (begun_alike (and_stage (made_between j first second).whole Begins) (all_met (made_first j first second).exports to [] (imports_of second)) (given_second j first second) fits.second_given))
+        (plan_linked (second_plan j first second) (begun (and_stage (made_between j first second).whole Begins) (all_met (made_first j first second).exports (hosted (joining j first second)) to [] (imports_of second))) (begun (and_stage (made_between j first second).whole Begins) (given_second j first second))
+        (begun_alike (and_stage (made_between j first second).whole Begins) (all_met (made_first j first second).exports (hosted (joining j first second)) to [] (imports_of second)) (given_second j first second) fits.second_given))
 
     pub whole_is : (linked (joining j first second)).whole ≡ whole_in second_at (linked second).whole
-    whole_is = joined_whole j first second to fits ∙ ap (λ m. m.whole) second_is.is
+    whole_is = joined_whole j first second from to fits ∙ ap (λ m. m.whole) second_is.is

@@ -7,31 +7,28 @@ use Rattle.comp_worlds.specs.Groups.{Import, Target, Mine, Theirs, Func, Lowered
 use Rattle.comp_parts.specs.Parts.{IsImportOf, DropsSome}
 use Rattle.comp_link.specs.Linking.{Owned, Known, all_known, known_in, owner_in, linked, group_of}
 use Rattle.comp_renames.specs.Renaming.{import_with, target_with, canon_with, Renames}
-use Rattle.comp_joins.specs.Joining.{imports_of}
+use Rattle.comp_joins.specs.Joining.{imports_of, owned_with}
 use Rattle.comp_joins.specs.Laws.{in_a_step}
 use Rattle.comp_joins.proofs.Lists.{alike}
 
 module _ (to : ℕ → ℕ) (once : (r s : ℕ) → to r ≡ to s → r ≡ s) where
-  abbrev pub owned_with : Owned → Owned
-  owned_with o = record { resource = to o.resource; owner = o.owner }
-
   abbrev known_with : Known → Known
   known_with k = record { number = to k.number; resource = k.resource }
 
   abbrev pub renamed : Tree → Group
   renamed tree = record {
     canons = λ k n. option_map (canon_with to) ((group_of tree).canons k n);
-    owner = owner_in (map owned_with (linked tree).whole.owners);
+    owner = owner_in (map (owned_with to) (linked tree).whole.owners);
     imported = known_in (map known_with (all_known [] (imports_of tree)));
     exports = λ interface name. option_map (target_with to) ((group_of tree).exports interface name);
     given = λ r. option_map to ((group_of tree).given r);
     stages = (group_of tree).stages;
   }
 
-  owner_with : (os : List Owned) (r : ℕ) → owner_in (map owned_with os) (to r) ≡ owner_in os r
+  owner_with : (os : List Owned) (r : ℕ) → owner_in (map (owned_with to) os) (to r) ≡ owner_in os r
   owner_with [] r = refl
   owner_with (o ∷ os) r =
-      ap (λ b. cond b (Some o.owner) (owner_in (map owned_with os) (to r))) (alike to once o.resource r) ∙ ap (λ z. cond (nat_eq o.resource r) (Some o.owner) z) (owner_with os r)
+      ap (λ b. cond b (Some o.owner) (owner_in (map (owned_with to) os) (to r))) (alike to once o.resource r) ∙ ap (λ z. cond (nat_eq o.resource r) (Some o.owner) z) (owner_with os r)
 
   known_in_with : (ks : List Known) (r : ℕ) → known_in (map known_with ks) (to r) ≡ known_in ks r
   known_in_with [] r = refl
@@ -53,7 +50,7 @@ module _ (to : ℕ → ℕ) (once : (r s : ℕ) → to r ≡ to s → r ≡ s) w
   abbrev Was : List Owned → ℕ → Owner → Type 0
   Was os r o = (s : ℕ) × (to s ≡ r) × (owner_in os s ≡ Some o)
 
-  owner_was : (os : List Owned) (r : ℕ) (o : Owner) → owner_in (map owned_with os) r ≡ Some o → Was os r o
+  owner_was : (os : List Owned) (r : ℕ) (o : Owner) → owner_in (map (owned_with to) os) r ≡ Some o → Was os r o
   owner_was [] r o is = absurd (let q : None ≡ Some o = is in cc)
   owner_was (x ∷ os) r o is = go (nat_eq (to x.resource) r) refl is (λ is'. owner_was os r o is')
     where
@@ -65,7 +62,7 @@ module _ (to : ℕ → ℕ) (once : (r s : ℕ) → to r ≡ to s → r ≡ s) w
       itself true e same = same
       itself false e same = absurd (eqb-false x.resource x.resource e refl)
 
-      go : (b : Bool) → nat_eq (to x.resource) r ≡ b → cond b (Some x.owner) (owner_in (map owned_with os) r) ≡ Some o → (owner_in (map owned_with os) r ≡ Some o → Was os r o) → Was (x ∷ os) r o
+      go : (b : Bool) → nat_eq (to x.resource) r ≡ b → cond b (Some x.owner) (owner_in (map (owned_with to) os) r) ≡ Some o → (owner_in (map (owned_with to) os) r ≡ Some o → Was os r o) → Was (x ∷ os) r o
       go true e is' later = (x.resource, eqb-true (to x.resource) r e, itself (nat_eq x.resource x.resource) refl is')
       go false e is' later =
           let was : Was os r o = later is' in

@@ -1,6 +1,7 @@
 -- A component that joins two others: it holds both, makes an instance of the first and then one of the second, and hands on what the
 -- second exports. Its own instance makes nothing. (This project's own: the form of a component that is plugged to another one.)
-use Rattle.std.specs.Prelude.{◌≡◌, ◌⊎◌, ℕ, ◌≤◌, List, [], ◌∷◌, Option, Some, None, slice_get}
+use Rattle.std.specs.Prelude.{◌≡◌, ◌⊎◌, ℕ, ◌≤◌, ◌<◌, List, [], ◌∷◌, map, Option, Some, None, slice_get}
+use Rattle.std.specs.Option.{option_map}
 use Rattle.wasm_ast.specs.declared.component.Span.{Span}
 use Rattle.wasm_ast.specs.declared.component.NamedItem.{NamedItem}
 use Rattle.wasm_ast.specs.declared.component.Instance.TheVariants as instances
@@ -9,11 +10,12 @@ use Rattle.comp_types.specs.Items.{Item, Entries, FuncItem, InstanceItem, KindIt
 use Rattle.comp_grammar.specs.Trees.{Part, Tree, Nested, Instances, End as NoParts, More as Section}
 use Rattle.comp_rules.specs.Spaces.{Space}
 use Rattle.comp_rules.specs.Added.{entered, after_part, after_tree, root}
-use Rattle.comp_types.specs.Substitution.{func_with}
-use Rattle.comp_worlds.specs.Groups.{Import, Target, Theirs, type_of, Begins}
+use Rattle.comp_types.specs.Substitution.{func_with, entries_with}
+use Rattle.comp_worlds.specs.Groups.{Import, Target, Theirs, type_of, Begins, Group}
 use Rattle.comp_parts.specs.Parts.{IsImportOf}
 use Rattle.comp_link.specs.Plans.{Plan, Planned, End, Then, OfItems, ItemOf, Imports, Exports, OfModule, OfCoreItems, CoreItemOf, OfComponent, NewResource, Lifts, Lowers, MakesResource, DropsResource, ReadsResource, Scope, no_scope, and_plan, named_args, own_numbers, plan_part, plan_tree, plan_of}
-use Rattle.comp_link.specs.Linking.{Given, Givens, GivenFunc, GivenInstance, GivenResource, GivenType, Nothing, Giving, Known, Making, begun, and_stage, givens_of, with_component, link, all_outside, all_known, behind_known, target_in, exported, linked, group_of}
+use Rattle.comp_link.specs.Linking.{Given, Givens, GivenFunc, GivenInstance, GivenResource, GivenType, Nothing, Giving, Known, Making, begun, and_stage, givens_of, with_component, link, all_outside, all_known, behind_known, Owned, owner_in, target_in, resource_of, exported, linked, group_of}
+use Rattle.comp_renames.specs.Renaming.{target_with, canon_with}
 use Rattle.comp_inside.specs.Later.{StaysWhole}
 use Rattle.comp_inside.specs.Linked.{PlanKnows, unmade}
 use Rattle.comp_joins.specs.Alike.{Alike}
@@ -132,7 +134,13 @@ module _ (j : Joint) (first second : Tree) where
   abbrev pub made_second : Making
   made_second = link second_plan (begun (and_stage made_between.whole Begins) given_second)
 
--- ---- what meets the imports of the second: what the first's instance exports under the same names, and resources by this renaming
+-- ---- what meets the imports of the second: what the first's instance exports under the same names, or else what the whole imports
+-- under these; and resources by this renaming
+
+-- the first, or else the second
+abbrev pub or_else : {A : Type 0} → Option A → Option A → Option A
+or_else None y = y
+or_else (Some x) y = Some x
 
 abbrev pub nowhere : Target
 nowhere = Theirs (record { interface = []; function = []; ty = record { params = NoTypes; answer = None } })
@@ -142,37 +150,57 @@ or_nowhere None = nowhere
 or_nowhere (Some target) = target
 
 abbrev mutual
-  pub met : Givens → (ℕ → ℕ) → Name → Name → Item → Given
-  met exports to interface name (FuncItem ty) = GivenFunc (or_nowhere (target_in (exported exports interface name)))
-  met exports to interface name (InstanceItem entries) = GivenInstance (all_met exports to name entries)
-  met exports to interface name (KindItem (ResourceKind r)) = GivenResource (to r)
-  met exports to interface name (KindItem (ValueKind ty)) = GivenType
-  met exports to interface name (KindItem (FuncKind ty)) = GivenType
-  met exports to interface name (KindItem (InstanceKind own entries)) = GivenType
+  pub met : (exports imports : Givens) → (ℕ → ℕ) → Name → Name → Item → Given
+  met exports imports to interface name (FuncItem ty) = GivenFunc (or_nowhere (or_else (target_in (exported exports interface name)) (target_in (exported imports interface name))))
+  met exports imports to interface name (InstanceItem entries) = GivenInstance (all_met exports imports to name entries)
+  met exports imports to interface name (KindItem (ResourceKind r)) = GivenResource (to r)
+  met exports imports to interface name (KindItem (ValueKind ty)) = GivenType
+  met exports imports to interface name (KindItem (FuncKind ty)) = GivenType
+  met exports imports to interface name (KindItem (InstanceKind own entries)) = GivenType
 
-  pub all_met : Givens → (ℕ → ℕ) → Name → Entries → Givens
-  all_met exports to interface NoEntries = Nothing
-  all_met exports to interface (Entry name item rest) = Giving name (met exports to interface name item) (all_met exports to interface rest)
+  pub all_met : (exports imports : Givens) → (ℕ → ℕ) → Name → Entries → Givens
+  all_met exports imports to interface NoEntries = Nothing
+  all_met exports imports to interface (Entry name item rest) = Giving name (met exports imports to interface name item) (all_met exports imports to interface rest)
 
 abbrev pub imports_of : Tree → Entries
 imports_of tree = (after_tree [] root tree).imports
 
--- The whole imports what the first imports, and gives it that; it gives the second what the first exports; and what it exports leads
--- where the exports of the second lead.
-pub record Fits (j : Joint) (first second : Tree) (to : ℕ → ℕ) : Type 0 where
+-- what is outside of a component, by its imports
+abbrev pub hosted : Tree → Givens
+hosted tree = all_outside [] (imports_of tree)
+
+-- It gives the first what the whole imports, where the first's resources get these numbers; it gives the second what the first exports,
+-- or else what the whole imports; and what it exports leads where the exports of the second lead.
+pub record Fits (j : Joint) (first second : Tree) (from to : ℕ → ℕ) : Type 0 where
   pub front : JoinOnly no_scope root j.front
   pub between : JoinOnly (one_scope j first second) (after_part [] (with_first j first second) (instance_of 0 j.first_args)) j.between
   pub behind : JoinOnly (both_scope j first second) (behind_second j first second) j.behind
-  pub imports : imports_of (joining j first second) ≡ imports_of first
-  pub first_given : Alike (all_outside [] (imports_of first)) (given_first j first second)
-  pub second_given : Alike (all_met (made_first j first second).exports to [] (imports_of second)) (given_second j first second)
+  pub first_given : Alike (all_outside [] (entries_with from (imports_of first))) (given_first j first second)
+  pub second_given : Alike (all_met (made_first j first second).exports (hosted (joining j first second)) to [] (imports_of second)) (given_second j first second)
   pub exports : (interface name : Name) → target_in (exported (linked (joining j first second)).exports interface name) ≡ target_in (exported (made_second j first second).exports interface name)
 
--- ---- the two agree, where the second's resources get these numbers
+-- ---- the first over the whole's host
+
+abbrev pub owned_with : (ℕ → ℕ) → Owned → Owned
+owned_with to o = record { resource = to o.resource; owner = o.owner }
+
+-- The first as it stands in the whole: its resources have the whole's numbers and its imports the whole's names. What it does not
+-- export, it hands on from the whole's imports.
+abbrev pub over_host : (whole first : Tree) → (ℕ → ℕ) → Group
+over_host whole first from = record {
+  canons = λ k n. option_map (canon_with from) ((group_of first).canons k n);
+  owner = owner_in (map (owned_with from) (linked first).whole.owners);
+  imported = (group_of whole).imported;
+  exports = λ interface name. or_else (option_map (target_with from) ((group_of first).exports interface name)) (target_in (exported (hosted whole) interface name));
+  given = λ r. or_else (option_map from ((group_of first).given r)) (resource_of (exported (hosted whole) r.interface r.name));
+  stages = (group_of first).stages;
+}
+
+-- ---- the two agree, where their resources get these numbers
 
 -- an export meets an import with the same type, the names of its parameters included
-abbrev pub Meets : Tree → (ℕ → ℕ) → Import → Type 0
-Meets first to f = (target : Target) × ((group_of first).exports f.interface f.function ≡ Some target) × (type_of target ≡ func_with to f.ty)
+abbrev pub Meets : Group → (ℕ → ℕ) → Import → Type 0
+Meets G to f = (target : Target) × (G.exports f.interface f.function ≡ Some target) × (type_of target ≡ func_with to f.ty)
 
 -- the first number behind those of the component's imports, and behind all that it defines
 abbrev pub first_own : Tree → ℕ
@@ -189,15 +217,30 @@ IsKnown (k ∷ ks) r = (k.number ≡ r) ⊎ IsKnown ks r
 abbrev pub known_by : Tree → List Known
 known_by tree = all_known [] (imports_of tree)
 
--- Resources that the second imports have the numbers of those that the first exports for them, and what it defines has numbers behind
--- those of the first.
-pub record Agree (first second : Tree) (to : ℕ → ℕ) : Type 0 where
+-- What the first defines has the numbers behind those of the whole's imports, and what the second defines has numbers behind these.
+-- Resources that the second imports have the numbers of those that meet them.
+pub record Agree (whole first second : Tree) (from to : ℕ → ℕ) : Type 0 where
   pub first_stays : StaysWhole 1 first
   pub second_stays : StaysWhole 1 second
-  pub first_knows : PlanKnows (λ r. r) (plan_of first) (unmade first)
+  pub first_knows : PlanKnows from (plan_of first) (unmade first)
   pub second_knows : PlanKnows to (plan_of second) (unmade second)
-  pub once : (r s : ℕ) → to r ≡ to s → r ≡ s
-  pub begins : to (first_own second) ≡ behind_own first
-  pub behind : (r : ℕ) → first_own second ≤ r → behind_own first ≤ to r
-  pub types : (f : Import) → IsImportOf (group_of second) f → Meets first to f
+  pub first_once : (r s : ℕ) → from r ≡ from s → r ≡ s
+  pub second_once : (r s : ℕ) → to r ≡ to s → r ≡ s
+  pub first_begins : from (first_own first) ≡ first_own whole
+  pub known_before : (r : ℕ) → IsKnown (known_by first) r → from r < from (behind_own first)
+  pub own_before : (r : ℕ) → first_own first ≤ r → r < behind_own first → from r < from (behind_own first)
+  pub second_begins : to (first_own second) ≡ from (behind_own first)
+  pub behind : (r : ℕ) → first_own second ≤ r → from (behind_own first) ≤ to r
+  pub types : (f : Import) → IsImportOf (group_of second) f → Meets (over_host whole first from) to f
+  pub resources : (r : ℕ) → IsKnown (known_by second) r → (over_host whole first from).given ((group_of second).imported r) ≡ Some (to r)
+
+-- ---- where the first alone meets the second
+
+abbrev pub itself : ℕ → ℕ
+itself r = r
+
+-- The whole imports what the first imports, in the same numbers of resources, and the first exports all that the second imports.
+pub record Closed (whole first second : Tree) (to : ℕ → ℕ) : Type 0 where
+  pub imports : imports_of whole ≡ imports_of first
+  pub functions : (f : Import) → IsImportOf (group_of second) f → (target : Target) × ((group_of first).exports f.interface f.function ≡ Some target)
   pub resources : (r : ℕ) → IsKnown (known_by second) r → (group_of first).given ((group_of second).imported r) ≡ Some (to r)

@@ -8,7 +8,7 @@ use Rattle.comp_worlds.specs.Observed.{Call, runs_calls, seen, SameObservations}
 use Rattle.comp_parts.specs.Parts.{SameAsParts}
 use Rattle.comp_link.specs.Linking.{group_of}
 use Rattle.comp_link.specs.Components.{component_seen}
-use Rattle.comp_joins.specs.Joining.{Joint, joining, Fits, Agree}
+use Rattle.comp_joins.specs.Joining.{Joint, joining, Fits, over_host, Agree, itself, Closed}
 
 -- its making begins with a step, as that of a component in another one does
 abbrev pub in_a_step : Group → Group
@@ -30,12 +30,20 @@ pub record TwoStepsMore {S : Type 0} (A B : Group) (groups : List Group) (h : Ho
 abbrev pub StepsMore : {S : Type 0} → HostStep S → Type 0
 StepsMore {S} h = (A B : Group) (groups : List Group) (s : S) (d : Nesting) (calls : List Call) → TwoStepsMore A B groups h s d calls
 
--- Over a host the whole is observed to do what the second does over the first over that host, each of which is made in one step more:
--- in as many steps, whatever the limit on calls in progress. So it is seen to do what the second does over the first.
-pub record SeenJoined {S : Type 0} (whole first second : Tree) (h : HostStep S) (s : S) (calls : List Call) : Type 0 where
-  pub same : SameObservations (component_seen whole h s calls) (seen (group_of second) (group_of first ∷ []) h s calls)
-  pub exactly : (d : Nesting) (n : ℕ) → SameAsParts (in_a_step (group_of first)) (in_a_step (group_of second)) (group_of whole) [] h s d calls n
+-- Over a host the whole is observed to do what the second does over this group over that host, each of which is made in one step more:
+-- in as many steps, whatever the limit on calls in progress. So it is seen to do what the second does over that group.
+pub record SeenJoined {S : Type 0} (whole second : Tree) (first : Group) (h : HostStep S) (s : S) (calls : List Call) : Type 0 where
+  pub same : SameObservations (component_seen whole h s calls) (seen (group_of second) (first ∷ []) h s calls)
+  pub exactly : (d : Nesting) (n : ℕ) → SameAsParts (in_a_step first) (in_a_step (group_of second)) (group_of whole) [] h s d calls n
 
+-- It does what the second does over the first and the host.
 abbrev pub JoinedDoSame : {S : Type 0} → HostStep S → Type 0
 JoinedDoSame {S} h =
-    (j : Joint) (first second : Tree) (to : ℕ → ℕ) → Fits j first second to → Agree first second to → (s : S) (calls : List Call) → SeenJoined (joining j first second) first second h s calls
+    (j : Joint) (first second : Tree) (from to : ℕ → ℕ) → Fits j first second from to → Agree (joining j first second) first second from to → (s : S) (calls : List Call) →
+    SeenJoined (joining j first second) second (over_host (joining j first second) first from) h s calls
+
+-- Where the second imports nothing but what the first exports, it does what the second does over the first.
+abbrev pub PluggedDoSame : {S : Type 0} → HostStep S → Type 0
+PluggedDoSame {S} h =
+    (j : Joint) (first second : Tree) (to : ℕ → ℕ) → Fits j first second itself to → Agree (joining j first second) first second itself to → Closed (joining j first second) first second to →
+    (s : S) (calls : List Call) → SeenJoined (joining j first second) second (group_of first) h s calls

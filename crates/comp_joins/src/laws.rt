@@ -1,5 +1,5 @@
 ghost use Rattle.comp_joins.specs.Alike.{LinkedAlike};
-ghost use Rattle.comp_joins.specs.Laws.{StepsMore, JoinedDoSame};
+ghost use Rattle.comp_joins.specs.Laws.{StepsMore, JoinedDoSame, PluggedDoSame};
 
 use host_port::Host;
 
@@ -13,8 +13,15 @@ pub fn steps_of_making_are_counted<H: Host>()
     ensures { StepsMore H.step }
 {}
 
-/// A component that joins two others is observed to do what the second does over the first: over any host, for every list of calls,
-/// whatever the limit on calls in progress; each of the two is made in one step more.
+/// A component that joins two others is observed to do what the second does over the first and the host, where each import of the second
+/// is an export of the first or an import of the whole: over any host, for every list of calls, whatever the limit on calls in progress;
+/// each of the two is made in one step more.
 pub fn joined_components_do_what_their_parts_do<H: Host>()
     ensures { JoinedDoSame H.step }
+{}
+
+/// Where the second imports nothing but what the first exports, and the whole imports what the first imports, it is observed to do what the
+/// second does over the first.
+pub fn plugged_components_do_what_their_parts_do<H: Host>()
+    ensures { PluggedDoSame H.step }
 {}

@@ -5,5 +5,5 @@ mod laws;
 
 pub use laws::{
     joined_components_do_what_their_parts_do, plans_find_what_they_are_given,
-    steps_of_making_are_counted,
+    plugged_components_do_what_their_parts_do, steps_of_making_are_counted,
 };

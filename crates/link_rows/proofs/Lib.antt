@@ -1,3 +1,4 @@
 pub mod Compute
 pub mod Plugged
 pub mod Taking
+pub mod Sharing

@@ -3,3 +3,4 @@ pub mod Guards
 pub mod Rows
 pub mod Plugged
 pub mod Taking
+pub mod Sharing

@@ -15,7 +15,7 @@ use Rattle.host_port.specs.Calls.{PlainObservation, Returned, Spent}
 use Rattle.comp_grammar.specs.Trees.{Tree, CoreInstances, Instances, Aliases, Types, Canons, Exports}
 use Rattle.comp_worlds.specs.Observed.{obs}
 use Rattle.comp_link.specs.Linking.{group_of}
-use Rattle.comp_joins.specs.Joining.{Joint, joining, Fits, Agree}
+use Rattle.comp_joins.specs.Joining.{Joint, joining, Fits, Agree, itself, Closed}
 use Rattle.comp_joins.specs.Laws.{in_a_step}
 use Rattle.link_rows.specs.Trees.{tree, somewhere, a_number, core_type, module_of, instance_type, import_h, func_of, core_func_of, exports_f, reader}
 use Rattle.link_rows.specs.Rows.{clock, f, runs}
@@ -66,9 +66,7 @@ pub record PluggedExamples : Type 0 where
   pub fewer_over : parts 8 ≡ Spent ∷ []
 
 -- no resource needs another number
-abbrev pub itself : ℕ → ℕ
-itself r = r
-
 pub record PluggedPremises : Type 0 where
-  pub fits : Fits joint adapter reader itself
-  pub agree : Agree adapter reader itself
+  pub fits : Fits joint adapter reader itself itself
+  pub agree : Agree plugged adapter reader itself itself
+  pub closed : Closed plugged adapter reader itself

@@ -13,7 +13,7 @@ use Rattle.wasm_ast.specs.declared.component.TypeItem.TheVariants as items
 use Rattle.wasm_ast.specs.declared.component.Canon.TheVariants as canons
 use Rattle.host_port.specs.Calls.{Returned}
 use Rattle.comp_grammar.specs.Trees.{Tree, Instances, Aliases, Types, Canons, Exports}
-use Rattle.comp_joins.specs.Joining.{Joint, joining, Fits, Agree}
+use Rattle.comp_joins.specs.Joining.{Joint, joining, Fits, Agree, itself, Closed}
 use Rattle.link_rows.specs.Trees.{tree, somewhere, core_type, from_h, module_of, import_h, func_of, core_func_of, core_named, given_core, with_core, exports_f}
 use Rattle.link_rows.specs.Rows.{runs}
 use Rattle.link_rows.specs.Plugged.{as_h}
@@ -69,5 +69,6 @@ abbrev pub one_later : ℕ → ℕ
 one_later r = suc r
 
 pub record TakingPremises : Type 0 where
-  pub fits : Fits taking keeper taker one_later
-  pub agree : Agree keeper taker one_later
+  pub fits : Fits taking keeper taker itself one_later
+  pub agree : Agree (joining taking keeper taker) keeper taker itself one_later
+  pub closed : Closed (joining taking keeper taker) keeper taker one_later

@@ -4,6 +4,7 @@
 ghost use Rattle.link_rows.specs.Rows.{ReaderExamples, NestedExamples, ResourceExamples, StartExamples, EnteredExamples, BorrowExamples, InsideExamples};
 ghost use Rattle.link_rows.specs.Plugged.{PluggedExamples, PluggedPremises};
 ghost use Rattle.link_rows.specs.Taking.{TakingExamples, TakingPremises};
+ghost use Rattle.link_rows.specs.Sharing.{SharingExamples, SharingPremises};
 
 /// A component reads a clock, with its steps counted. It does nothing when it runs.
 #[tactic(auto, using(crate::proofs::Compute::reader_examples))]
@@ -71,4 +72,18 @@ pub fn handles_are_taken()
 #[tactic(auto, using(crate::proofs::Taking::premises_hold))]
 pub fn taking_premises_are_met()
     ensures { TakingPremises }
+{}
+
+/// A component takes one import from the one to which it is plugged, and one from the host, as the whole does. It does nothing when it
+/// runs.
+#[tactic(auto, using(crate::proofs::Sharing::sharing_examples))]
+pub fn imports_are_shared()
+    ensures { SharingExamples }
+{}
+
+/// The premises of the law of joined components can be met where the second has an import that the whole meets. It does nothing when it
+/// runs.
+#[tactic(auto, using(crate::proofs::Sharing::premises_hold))]
+pub fn sharing_premises_are_met()
+    ensures { SharingPremises }
 {}
