@@ -19,7 +19,7 @@ sharing_examples = record { tells = refl }
 fits : Fits sharing still teller itself itself
 fits = record {
   front = ((tt, refl, ((tt, tt), refl, tt)));
-  between = ((tt, tt), refl, tt);
+  between = ((tt, (tt, tt)), refl, ((tt, tt), refl, tt));
   behind = ((tt, tt), refl, ((tt, tt), refl, tt));
   first_given = alike_itself Nothing;
   second_given = alike_itself (all_met (made_first sharing still teller).exports (hosted shared) itself [] (imports_of teller));
@@ -44,7 +44,7 @@ agree : Agree shared still teller itself itself
 agree = record {
   first_stays = (tt, ((tt, tt), ((tt, tt), ((tt, tt), ((tt, tt), ((tt, tt), ((tt, tt), tt)))))));
   second_stays = (((tt, (tt, tt)), tt), ((tt, tt), (((tt, (tt, tt)), tt), ((tt, tt), ((tt, (tt, tt)), ((tt, (tt, tt)), ((tt, tt), (tt, ((tt, tt), ((tt, tt), ((tt, tt), ((tt, tt), ((tt, tt), tt)))))))))))));
-  first_knows = (tt, (tt, (tt, ((tt, tt), (tt, tt)))));
+  first_knows = (tt, (tt, (tt, ((tt, (tt, tt)), (tt, tt)))));
   second_knows = (tt, (tt, (tt, (tt, (tt, (tt, (tt, (tt, (tt, (tt, (tt, tt)))))))))));
   first_once = λ r s same. same;
   second_once = λ r s same. same;

@@ -1,8 +1,10 @@
--- A component that takes one import from the component to which it is plugged, and another one from the host, as the whole does.
-use Rattle.std.specs.Prelude.{◌≡◌, [], ◌∷◌, pos, codes, Some, None}
+-- A component that takes one import from the component to which it is plugged, which exports more than that, and another one from the
+-- host, as the whole does.
+use Rattle.std.specs.Prelude.{◌≡◌, ℕ, List, [], ◌∷◌, pos, codes, Some, None}
 use Rattle.wasm_ast.specs.declared.instr.Instr.TheVariants.{Plain, Call}
 use Rattle.wasm_ast.specs.declared.instr.Op.TheVariants.{I32Const}
 use Rattle.wasm_ast.specs.declared.component.CoreInstance.TheVariants as core_instances
+use Rattle.wasm_ast.specs.declared.component.NamedItem.{NamedItem}
 use Rattle.wasm_ast.specs.declared.component.Sort.TheVariants as sorts
 use Rattle.wasm_ast.specs.declared.component.Instance.TheVariants as instances
 use Rattle.wasm_ast.specs.declared.component.Alias.TheVariants as aliases
@@ -16,7 +18,10 @@ use Rattle.comp_joins.specs.Joining.{Joint, joining, Fits, Agree, itself}
 use Rattle.link_rows.specs.Trees.{tree, somewhere, a_number, one_param, core_type, from_h, module_of, instance_type, import_h, func_of, core_func_of, core_named, given_core, with_core, exports_f}
 use Rattle.link_rows.specs.Rows.{told, runs}
 
--- imports nothing, and exports an instance k with a clock that stands still
+abbrev pub clock_at : List ℕ → ℕ → NamedItem
+clock_at name index = record { name = name; sort = sorts.Func; index = index }
+
+-- imports nothing, and exports an instance k with two clocks that stand still
 abbrev pub still : Tree
 still = tree (
     module_of (core_type 0 1 ∷ []) [] (Plain (I32Const (pos 42)) ∷ [])
@@ -24,7 +29,7 @@ still = tree (
     ∷ Aliases (core_func_of 0 ∷ [])
     ∷ Types (items.Define (defs.Func [] (Some a_number)) ∷ [])
     ∷ Canons (canons.Lift 0 [] 0 ∷ [])
-    ∷ Instances (instances.Inline (record { name = codes "now"; sort = sorts.Func; index = 0 } ∷ []) ∷ [])
+    ∷ Instances (instances.Inline (clock_at (codes "now") 0 ∷ clock_at (codes "later") 0 ∷ []) ∷ [])
     ∷ Exports (record { name = codes "k"; sort = sorts.Instance; index = 0; desc = None } ∷ [])
     ∷ [])
 
@@ -46,16 +51,16 @@ teller = tree (
     ∷ exports_f 2
     ∷ [])
 
--- the whole imports h for the second alone
+-- The whole imports h for the second alone, and gives it as k an instance of the one clock that it imports.
 abbrev pub sharing : Joint
 sharing = record {
   front = instance_type (codes "tell") one_param None ∷ import_h ∷ [];
   first_span = somewhere;
   first_args = [];
-  between = Aliases (aliases.Export sorts.Instance 1 (codes "k") ∷ []) ∷ [];
+  between = Aliases (aliases.Export sorts.Instance 1 (codes "k") ∷ func_of 2 (codes "now") ∷ []) ∷ Instances (instances.Inline (clock_at (codes "now") 0 ∷ []) ∷ []) ∷ [];
   second_span = somewhere;
-  second_args = record { name = codes "h"; sort = sorts.Instance; index = 0 } ∷ record { name = codes "k"; sort = sorts.Instance; index = 2 } ∷ [];
-  behind = Aliases (func_of 3 (codes "f") ∷ []) ∷ exports_f 0 ∷ [];
+  second_args = record { name = codes "h"; sort = sorts.Instance; index = 0 } ∷ record { name = codes "k"; sort = sorts.Instance; index = 3 } ∷ [];
+  behind = Aliases (func_of 4 (codes "f") ∷ []) ∷ exports_f 1 ∷ [];
 }
 
 abbrev pub shared : Tree
