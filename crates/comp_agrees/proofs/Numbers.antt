@@ -1,6 +1,6 @@
 -- No two resources get one number, and those that are defined one behind the other stay so.
 use Rattle.std.proofs.Common.{◌≡◌, ◌⊎◌, inl, inr, ℕ, ◌+◌, ◌-◌, ◌≤◌, ◌<◌, nat_lt, cond, List, Bool, true, false, Option, Some, None, refl, sym, ◌∙◌, ap, subst, arith}
-use Rattle.std.proofs.lemmas.Bool.{ltb-true, ltb-false, lt-ltb, false≢true}
+use Rattle.std.proofs.lemmas.Bool.{ltb-true, ltb-false, lt-ltb}
 use Rattle.comp_types.specs.Substitution.{partner_of}
 use Rattle.comp_grammar.specs.Trees.{Tree}
 use Rattle.comp_link.specs.Plans.{plan_of}
@@ -8,8 +8,8 @@ use Rattle.comp_inside.specs.Linked.{unmade}
 use Rattle.comp_inside.proofs.Whole.{valid_stay}
 use Rattle.comp_knows.proofs.Order.{plan_new, known_in_order}
 use Rattle.comp_knows.proofs.Known.{names_known}
-use Rattle.comp_joins.specs.Joining.{first_own, behind_own, Agree}
-use Rattle.comp_agrees.specs.Numbers.{partner_or, numbered, ArePartners, from, to, Partners, ValidAgree}
+use Rattle.comp_joins.specs.Joining.{first_own, behind_own}
+use Rattle.comp_agrees.specs.Numbers.{partner_or, numbered, ArePartners, from, to, ValidAgree}
 
 module _ (pairs : List (ℕ × ℕ)) (own behind start : ℕ) (le : own ≤ behind) where
   abbrev at : ℕ → ℕ
