@@ -1,0 +1,86 @@
+ghost use Rattle.std.specs.Prelude.{◌≡◌, [], IfOk, map};
+ghost use Rattle.host_port.specs.Calls.{plain_answer};
+ghost use Rattle.host_port.specs.Scripts.{Script, script, item_answer};
+ghost use Rattle.wit_types.specs.Plain.{plain_result};
+ghost use Rattle.host_script.specs.Script.{item_seen};
+ghost use Rattle.host_script.specs.Hosts.{kept_by};
+
+use crate::script::{Answers, ScriptItem};
+use host_port::{
+    Answer, Host, HostCall, Observation, Observations, Resource, copy_call, copy_resource,
+};
+use script_values::{ReadValueFault, read_value};
+use std::alloc::Global;
+use std::vec::IntoIter;
+use virt_base::{Items, NoMemory};
+use wit_types::WitType;
+
+/// The host that answers by a script: each call takes the next answer, and a drop takes none.
+#[derive(Drop)]
+pub struct ScriptHost {
+    left: IntoIter<ScriptItem>,
+    seen: Observations,
+}
+
+impl ScriptHost {
+    /// The host with a script before it.
+    pub fn new(script: Answers) -> ScriptHost
+        ensures state { (kept_by result).state ≡ map item_seen script }
+        ensures seen { (kept_by result).seen ≡ [] }
+    {
+        let answers = script.into_vec();
+        let seen = Items::empty(*answers.allocator());
+        ScriptHost {
+            left: answers.into_iter(),
+            seen,
+        }
+    }
+}
+
+/// What an item answers to a call with a result type.
+fn answer_by(alloc: Global, ty: &Option<WitType>, item: ScriptItem) -> Result<Answer, NoMemory>
+    ensures { IfOk result (λ a. plain_answer a ≡ item_answer (plain_result ty.now) (item_seen item)) }
+{
+    match item {
+        ScriptItem::Traps => Ok(Answer::Trap),
+        ScriptItem::NoValue => match ty {
+            None => Ok(Answer::Value(None)),
+            Some(_) => Ok(Answer::Bad),
+        },
+        ScriptItem::Value(json) => match ty {
+            None => Ok(Answer::Bad),
+            Some(ty) => match read_value(alloc, ty, json) {
+                Ok(value) => Ok(Answer::Value(Some(value))),
+                Err(ReadValueFault::NotOfType) => Ok(Answer::Bad),
+                Err(ReadValueFault::NoMemory) => Err(NoMemory),
+            },
+        },
+    }
+}
+
+impl Host for ScriptHost {
+    ghost State = { Script };
+
+    ghost step = { script };
+
+    ghost kept = { kept_by };
+
+    fn call(&mut self, alloc: Global, call: &HostCall) -> Result<Answer, NoMemory> {
+        let copy = copy_call(alloc, call)?;
+        self.seen.push(Observation::Called(copy))?;
+        match self.left.next() {
+            None => Ok(Answer::Ended),
+            Some(item) => answer_by(alloc, &call.result, item),
+        }
+    }
+
+    fn drop_handle(&mut self, alloc: Global, resource: &Resource, id: u32) -> Result<(), NoMemory> {
+        let copy = copy_resource(alloc, resource)?;
+        self.seen.push(Observation::Dropped(copy, id))?;
+        Ok(())
+    }
+
+    fn observations(&self) -> &Observations {
+        &self.seen
+    }
+}

@@ -1,0 +1,15 @@
+//! Scripts: how the calls of a component's imports are answered and which of its exports are called, as JSON; and a host that
+//! answers by a script.
+#![tactic(auto)]
+
+mod answers;
+mod calls;
+mod fault;
+mod host;
+mod script;
+mod top;
+
+pub use fault::ScriptFault;
+pub use host::ScriptHost;
+pub use script::{Answers, Call, Calls, ExportType, ExportTypes, Script, ScriptItem};
+pub use top::read_script;

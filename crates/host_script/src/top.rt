@@ -1,0 +1,139 @@
+#![tactic(auto, using(script_values::proofs::Views::untypeds, crate::proofs::Whole::bads))]
+
+ghost use Rattle.std.specs.Prelude.{◌≡◌, ◌≢◌, [], List, ℕ, IfOk, option_map};
+ghost use Rattle.serde_json.specs.View.{view, items_view, members_view};
+ghost use Rattle.script_values.specs.Json.{untyped, untyped_items, untyped_members};
+ghost use Rattle.host_script.specs.Script.{Gives, IsBad, IsNoJson, array_in, value_at, is_known, first_unknown, unless_bad, made_of, script_in, script_of, due_script, script_seen, exports_seen, json_in, AreTyped};
+
+use crate::answers::read_answers;
+use crate::calls::{items_of, read_calls};
+use crate::fault::ScriptFault;
+use crate::script::{ExportTypes, Script};
+use serde_json::{Error, Map, Value as Json};
+use std::alloc::Global;
+use virt_base::Text;
+
+fn bad(alloc: Global, path: &str) -> ScriptFault
+    ensures { IsBad path.now result }
+{
+    match Text::from_str(alloc, path) {
+        Ok(path) => ScriptFault::BadScript(path),
+        Err(_) => ScriptFault::NoMemory,
+    }
+}
+
+fn is_known(key: &str) -> bool
+    ensures { result ≡ is_known key.now }
+{
+    key == "answers" || key == "calls"
+}
+
+/// The first key that is not known.
+fn first_unknown<'a>(members: &'a Map<String, Json>) -> Option<&'a str>
+    ensures { option_map (λ key. key.now) result ≡ first_unknown (untyped_members (members_view members.now.entries)) }
+{
+    for (key, _) in members {
+        if !is_known(key.as_str()) {
+            return Some(key.as_str());
+        }
+    }
+    None
+}
+
+fn known_keys(alloc: Global, members: &Map<String, Json>) -> Result<(), ScriptFault>
+    ensures { Gives (λ done. done) (unless_bad (first_unknown (untyped_members (members_view members.now.entries)))) result }
+{
+    match first_unknown(members) {
+        Some(key) => Err(bad(alloc, key)),
+        None => Ok(()),
+    }
+}
+
+/// Takes the value at a key.
+fn take_value(members: &mut Map<String, Json>, key: &str) -> Option<Json>
+    ensures value { option_map (λ json. untyped (view json)) result ≡ value_at key.now (untyped_members (members_view members.old.entries)) }
+    ensures others { (other : List ℕ) → other ≢ key.now → value_at other (untyped_members (members_view members.new.entries)) ≡ value_at other (untyped_members (members_view members.old.entries)) }
+{
+    members.remove(key)
+}
+
+/// The items of the array at a key.
+fn array_in(alloc: Global, key: &str, json: Option<Json>) -> Result<Vec<Json>, ScriptFault>
+    ensures { Gives (λ items. untyped_items (items_view items.items)) (array_in key.now (option_map (λ json. untyped (view json)) json)) result }
+{
+    match json {
+        None => Err(bad(alloc, key)),
+        Some(json) => match items_of(json) {
+            Some(items) => Ok(items),
+            None => Err(bad(alloc, key)),
+        },
+    }
+}
+
+fn read_both(
+    alloc: Global,
+    exports: &ExportTypes,
+    answers: Vec<Json>,
+    calls: Vec<Json>,
+) -> Result<Script, ScriptFault>
+    ensures due { Gives script_seen (made_of (exports_seen exports.now) (untyped_items (items_view answers.items)) (untyped_items (items_view calls.items))) result }
+    ensures typed { IfOk result (λ script. AreTyped (exports_seen exports.now) script.calls) }
+{
+    let read = read_answers(alloc, answers)?;
+    let made = read_calls(alloc, exports, calls)?;
+    Ok(Script {
+        answers: read,
+        calls: made,
+    })
+}
+
+fn script_in(
+    alloc: Global,
+    exports: &ExportTypes,
+    members: Map<String, Json>,
+) -> Result<Script, ScriptFault>
+    ensures due { Gives script_seen (script_in (exports_seen exports.now) (untyped_members (members_view members.entries))) result }
+    ensures typed { IfOk result (λ script. AreTyped (exports_seen exports.now) script.calls) }
+{
+    known_keys(alloc, &members)?;
+    let mut others = members;
+    let answer_items = array_in(alloc, "answers", take_value(&mut others, "answers"))?;
+    let call_items = array_in(alloc, "calls", take_value(&mut others, "calls"))?;
+    read_both(alloc, exports, answer_items, call_items)
+}
+
+fn script_of(alloc: Global, exports: &ExportTypes, json: Json) -> Result<Script, ScriptFault>
+    ensures due { Gives script_seen (script_of (exports_seen exports.now) (untyped (view json))) result }
+    ensures typed { IfOk result (λ script. AreTyped (exports_seen exports.now) script.calls) }
+{
+    match json {
+        Json::Object(members) => script_in(alloc, exports, members),
+        Json::Null | Json::Bool(_) | Json::Number(_) | Json::String(_) | Json::Array(_) => Err(bad(
+            alloc, "",
+        )),
+    }
+}
+
+fn no_json(alloc: Global, e: &Error) -> ScriptFault
+    ensures { IsNoJson e.now result }
+{
+    if e.is_memory() {
+        ScriptFault::NoMemory
+    } else {
+        bad(alloc, "")
+    }
+}
+
+/// Reads a script, or finds its first fault: the bytes are a JSON text (RFC 8259, at most 127 arrays and objects in one
+/// another) of an object with the keys `answers` and `calls` and no other; each answer is `"trap"`, `{}` or `{"value":V}`; each
+/// call is `[NAME,[V, ..]]` with the name of a function that can be called and a value for each of its parameters.
+pub fn read_script(alloc: Global, json: &[u8], exports: &ExportTypes) -> Result<Script, ScriptFault>
+    ensures due { Gives script_seen (due_script (exports_seen exports.now) (json_in json.now)) result }
+    // The arguments of each call are of its function's parameters.
+    ensures typed { IfOk result (λ script. AreTyped (exports_seen exports.now) script.calls) }
+{
+    match Json::from_slice(alloc, json) {
+        Ok(json) => script_of(alloc, exports, json),
+        Err(e) => Err(no_json(alloc, &e)),
+    }
+}
