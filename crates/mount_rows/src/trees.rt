@@ -9,20 +9,22 @@ use tree_table::{Entry, Node, Trees};
 use virt_base::{Items, Text, copy_bytes};
 
 /// The files and folders outside that most rows speak of.
-const FILES: [(&str, &str); 6] = [
+const FILES: [(&str, &str); 7] = [
     ("one", "1"),
     ("d/a", "aa"),
     ("d/s/x", "xxx"),
     ("d/s/y", ""),
     ("d/z", "z"),
     ("bad/ok", ""),
+    ("slash/a/b", "x"),
 ];
 
-const FOLDERS: [(&str, &str); 5] = [
+const FOLDERS: [(&str, &str); 6] = [
     ("d", "a s/ z"),
     ("d/s", "x y"),
     ("e", ""),
     ("bad", ".. ok"),
+    ("slash", "a/b"),
     ("holds", "gone lost/"),
 ];
 
@@ -111,7 +113,7 @@ const MIXED: &str =
 
 #[test]
 fn trees_are_what_the_rows_say(rt: HostRuntime) -> Result<(), Fail> {
-    let rows: [Row<'_>; 8] = [
+    let rows: [Row<'_>; 9] = [
         ("", &[], "", 0),
         ("fs.tree = [{ name = \"/t\" }]", &[], "[/t] /", 0),
         (MOUNT, &[], "[/t] / /a=aa /s/ /s/x=xxx /s/y= /z=z", 0),
@@ -137,6 +139,12 @@ fn trees_are_what_the_rows_say(rt: HostRuntime) -> Result<(), Fail> {
             "fs.tree = [{ name = \"/t\", mount = \"bad\" }]",
             &[],
             "bad name: ..",
+            0,
+        ),
+        (
+            "fs.tree = [{ name = \"/t\", mount = \"slash\" }]",
+            &[],
+            "bad name: a/b",
             0,
         ),
         (

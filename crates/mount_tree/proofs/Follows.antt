@@ -69,7 +69,7 @@ stop_answer due run next (FileFault name) s t u f g h = (
   λ told steady. f.answer told ∙ then_fault run next (FileFault name) (h.2 (f.goes.told ∙ told) (f.goes.steady steady)),
 )
 stop_answer due run next (BadName name) s t u f g h = λ told. f.answer told ∙ then_fault run next (BadName name) (h (f.goes.told ∙ told))
-stop_answer due run next (OverLimit what value) s t u f g h = λ told. f.answer told ∙ then_fault run next (OverLimit what value) (h (f.goes.told ∙ told))
+stop_answer due run next (OverLimit what value) s t u f g h = (h.0, λ told. f.answer told ∙ then_fault run next (OverLimit what value) (h.1 (f.goes.told ∙ told)))
 stop_answer due run next NoMemory s t u f g h = tt
 
 -- one more step, which gave a fault
@@ -98,7 +98,7 @@ tail_answer due rest (Err (FileFault name)) s t u f h = (
   λ told steady. f.answer told ∙ h.2 (f.goes.told ∙ told) (f.goes.steady steady),
 )
 tail_answer due rest (Err (BadName name)) s t u f h = λ told. f.answer told ∙ h (f.goes.told ∙ told)
-tail_answer due rest (Err (OverLimit what value)) s t u f h = λ told. f.answer told ∙ h (f.goes.told ∙ told)
+tail_answer due rest (Err (OverLimit what value)) s t u f h = (h.0, λ told. f.answer told ∙ h.1 (f.goes.told ∙ told))
 tail_answer due rest (Err NoMemory) s t u f h = tt
 
 -- a call does all that is left
@@ -116,7 +116,7 @@ says_answer : {A : Type 0} (run : Run A) (r : Result A TreeFault) (s : FilesStat
 says_answer run (Ok a) s h = λ told. h
 says_answer run (Err (FileFault name)) s h = absurd h
 says_answer run (Err (BadName name)) s h = λ told. h
-says_answer run (Err (OverLimit what value)) s h = λ told. h
+says_answer run (Err (OverLimit what value)) s h = (h.0, λ told. h.1)
 says_answer run (Err NoMemory) s h = tt
 
 pub says_gives : {A : Type 0} (run : Run A) (r : Result A TreeFault) (s : FilesState) → Says run.answer r → Gives run s s r
@@ -151,7 +151,7 @@ each_says step state after rest more x is h =
 says_fault : {A B : Type 0} (run : Run A) (next : A → Run B) (e : TreeFault) → Says run.answer (Err e) → Says (and_next run next).answer (Err e)
 says_fault run next (FileFault name) h = absurd h
 says_fault run next (BadName name) h = then_fault run next (BadName name) h
-says_fault run next (OverLimit what value) h = then_fault run next (OverLimit what value) h
+says_fault run next (OverLimit what value) h = (h.0, then_fault run next (OverLimit what value) h.1)
 says_fault run next NoMemory h = tt
 
 pub says_from : {A : Type 0} (due rest : Result A TreeFault) (r : Result A TreeFault) → due ≡ rest → Says rest r → Says due r

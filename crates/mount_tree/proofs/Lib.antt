@@ -5,4 +5,7 @@ pub mod PathLemmas
 pub mod ReadLemmas
 pub mod StepLemmas
 pub mod GrowLemmas
+pub mod LegalLemmas
+pub mod LimitLemmas
+pub mod TreeLemmas
 pub mod SpotLemmas

@@ -1,7 +1,7 @@
 -- Trees in order, one after another.
 use Rattle.std.proofs.Common.{List, [], ◌∷◌, ◌++◌}
 use Rattle.tree_table.specs.declared.entries.NamedTree.{NamedTree}
-use Rattle.mount_tree.specs.declared.policy_trees.MadeTree.{MadeTree}
+use Rattle.mount_tree.specs.declared.forest.MadeTree.{MadeTree}
 use Rattle.mount_tree.specs.Ordered.{IsOrdered, AreOrdered}
 
 pub ordered_more : (made : List MadeTree) (trees : List NamedTree) (m : MadeTree) (t : NamedTree) → AreOrdered made trees → IsOrdered m t → AreOrdered (made ++ m ∷ []) (trees ++ t ∷ [])

@@ -1,5 +1,5 @@
 -- What reading a file and listing a folder give.
-use Rattle.std.proofs.Common.{◌≡◌, ◌∙◌, refl, ap, subst, ℕ, ◌+◌, ◌-◌, ◌<◌, ◌≤◌, List, Bool, true, false, length, min, Option, Some, None, Result, Ok, Err, arith}
+use Rattle.std.proofs.Common.{◌≡◌, ◌∙◌, refl, ap, subst, ℕ, ◌+◌, ◌-◌, ◌<◌, ◌≤◌, List, Bool, true, false, length, min, Option, Some, None, Result, Ok, Err, inr, arith}
 use Rattle.std.specs.Prelude.{Vec, codes, nat_lt, is_none}
 use Rattle.std.specs.declared.alloc.Global.{Global}
 use Rattle.std.proofs.lemmas.Bool.Decides.{nat_tests}
@@ -11,7 +11,7 @@ use Rattle.outside.specs.declared.files.FileFail.{FileFail}
 use Rattle.outside.specs.declared.files.FileFail.TheVariants as fail
 use Rattle.mount_tree.specs.declared.fault.TreeFault.{TreeFault}
 use Rattle.mount_tree.specs.declared.fault.TreeFault.TheVariants.{FileFault, BadName, OverLimit, NoMemory}
-use Rattle.mount_tree.specs.Runs.{Run, Answers, IsFault, IsFileFault, Gives}
+use Rattle.mount_tree.specs.Runs.{Run, Answers, IsAbove, IsFault, IsFileFault, Gives}
 use Rattle.mount_tree.specs.Making.{fitting}
 use Rattle.mount_tree.specs.Building.{content_by, file_due, listing_by, listing_due}
 
@@ -28,6 +28,9 @@ fits used bytes few =
 pub too_long : (used : ℕ) (bytes : List ℕ) → 67108864 < used + length bytes
     → fitting used bytes ≡ Err (OverLimit (codes "embedded-bytes") (min (used + length bytes) 18446744073709551615))
 too_long used bytes many = let yes : nat_lt 67108864 (used + length bytes) ≡ true = grind (arith, nat_tests, many) in rw (yes) refl
+
+pub above_bytes : (n : ℕ) → 67108864 < n → IsAbove (codes "embedded-bytes") (min n 18446744073709551615)
+above_bytes n many = inr (inr (refl, omega (arith, many)))
 
 there_file : (name : List ℕ) (used : ℕ) (file : Option (List ℕ)) → ¬ (IsFileFault (content_by name used file)) → is_none file ≡ false
 there_file name used None fine = absurd (fine tt)
@@ -89,7 +92,8 @@ module _ (name : List ℕ) (used : ℕ) (s t : FilesState) where
       → Reads name (67108864 - used) s t (Err (fail.TooLong len)) → Gives (file_due s.held name used) s t (Err fault)
   read_long len fault few is h =
       gives_file name used s t (Err (fail.TooLong len)) (Err fault) h
-      (over_answers (file_due s.held name used) (codes "embedded-bytes") (min (used + len) 18446744073709551615) s t fault is (λ told. long_answer len few h told))
+      (over_answers (file_due s.held name used) (codes "embedded-bytes") (min (used + len) 18446744073709551615) s t fault is
+      (above_bytes (used + len) (omega (arith, few, h.within)), λ told. long_answer len few h told))
 
   pub read_memory : Reads name (67108864 - used) s t (Err fail.NoMemory) → Gives (file_due s.held name used) s t (Err NoMemory)
   read_memory h = gives_file name used s t (Err fail.NoMemory) (Err NoMemory) h tt

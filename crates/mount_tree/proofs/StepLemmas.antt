@@ -6,11 +6,13 @@ use Rattle.policy_data.specs.declared.data.Content.{Content}
 use Rattle.policy_data.specs.declared.data.Embedded.{Embedded}
 use Rattle.policy_data.specs.declared.data.EmbeddedFile.{EmbeddedFile}
 use Rattle.policy_data.specs.declared.data.Link.{Link}
+use Rattle.policy_data.specs.declared.data.TreeSource.{TreeSource}
+use Rattle.mount_tree.specs.declared.forest.Forest.{Forest}
 use Rattle.mount_tree.specs.declared.fault.TreeFault.{TreeFault}
 use Rattle.mount_tree.specs.declared.fault.TreeFault.TheVariants.{NoMemory}
 use Rattle.mount_tree.specs.Runs.{Run, done, and_next, each, Gives, Says}
-use Rattle.mount_tree.specs.Making.{Sofar, reached, with_file, with_other}
-use Rattle.mount_tree.specs.Building.{reach, content_due, file_step, folder_step, link_step, embedded_due}
+use Rattle.mount_tree.specs.Making.{Sofar, reached, with_file, with_other, with_tree}
+use Rattle.mount_tree.specs.Building.{reach, content_due, content_of, file_step, folder_step, link_step, embedded_due, root_due, tree_step}
 use Rattle.mount_tree.proofs.Follows.{Follows, follows_start, follows_step, follows_stop, follows_end, follows_memory, follows_call, says_gives, then_says, then_refused}
 
 -- ---- a file
@@ -87,3 +89,13 @@ module _ (s t : FilesState) (sofar : Sofar) (e : Embedded) where
       follows_call (embedded_due s.held sofar e) (each link_of folders e.links) r s t t
       (follows_step (embedded_due s.held sofar e) (each folder_step files e.folders) (λ fs. each link_of fs e.links) folders s t t (after_files files g)
       (says_gives (each folder_step files e.folders) (Ok folders) t h)) (says_gives (each link_of folders e.links) r t k)
+
+-- ---- a tree
+
+pub tree_stopped : (s t : FilesState) (forest : Forest) (source : TreeSource) (made : Sofar) (fault : TreeFault) → Says (root_due forest).answer (Ok made)
+    → Gives (content_of s.held made source.content) s t (Err fault) → Gives (tree_step s.held forest source) s t (Err fault)
+tree_stopped s t forest source made fault h g =
+    let due = tree_step s.held forest source in
+    follows_stop due (content_of s.held made source.content) (λ m. done (with_tree m source.name)) fault s s t
+    (follows_step due (root_due forest) (λ m. and_next (content_of s.held m source.content) (λ n. done (with_tree n source.name))) made s s s (follows_start due s)
+    (says_gives (root_due forest) (Ok made) s h)) g

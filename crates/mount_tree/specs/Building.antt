@@ -1,12 +1,12 @@
 -- The trees of a policy over files with these contents, in the order in which names are due.
-use Rattle.std.specs.Prelude.{ℕ, zero, suc, ◌+◌, List, [], ◌∷◌, ◌++◌, Option, Some, None, Result, Ok, Err, length, if◌then◌else◌}
+use Rattle.std.specs.Prelude.{ℕ, zero, suc, ◌+◌, List, [], ◌∷◌, ◌++◌, Option, Some, None, Result, Ok, Err, if◌then◌else◌}
 use Rattle.outside.specs.Files.{Held}
 use Rattle.outside.specs.declared.files.Entry.{Entry}
 use Rattle.outside.specs.declared.files.EntryKind.{EntryKind}
 use Rattle.outside.specs.declared.files.EntryKind.TheVariants as kinds
 use Rattle.tree_table.specs.declared.entries.Node.TheVariants.{Folder, Link as LinkTo}
 use Rattle.tree_table.specs.Stored.{root_entry}
-use Rattle.path_names.specs.Paths.{is_name}
+use Rattle.mount_tree.specs.Legal.{is_entry_name}
 use Rattle.policy_data.specs.declared.data.Content.{Content}
 use Rattle.policy_data.specs.declared.data.Content.TheVariants.{Bytes, File}
 use Rattle.policy_data.specs.declared.data.EmbeddedFile.{EmbeddedFile}
@@ -18,9 +18,9 @@ use Rattle.policy_data.specs.declared.data.TreeSource.{TreeSource}
 use Rattle.policy_data.specs.declared.policy.Policy.{Policy}
 use Rattle.mount_tree.specs.declared.fault.TreeFault.{TreeFault}
 use Rattle.mount_tree.specs.declared.fault.TreeFault.TheVariants.{FileFault, BadName}
-use Rattle.mount_tree.specs.declared.policy_trees.Forest.{Forest}
+use Rattle.mount_tree.specs.declared.forest.Forest.{Forest}
 use Rattle.mount_tree.specs.Runs.{Run, done, stops, and_next, each}
-use Rattle.mount_tree.specs.Making.{Sofar, reached, fitting, few_nodes, with_file, with_other}
+use Rattle.mount_tree.specs.Making.{Sofar, reached, fitting, few_nodes, with_file, with_other, with_tree}
 
 -- ---- what files and folders outside hold
 
@@ -83,7 +83,7 @@ entry_by deeper held kinds.Folder outside path sofar = and_next (folder_step sof
 
 abbrev pub entry_due : (List ℕ → List ℕ → Sofar → Run Sofar) → Held → List ℕ → List ℕ → Sofar → Entry → Run Sofar
 entry_due deeper held folder path sofar entry =
-    if is_name entry.name then entry_by deeper held entry.kind (inside folder entry.name) (below path entry.name) sofar else stops (BadName entry.name)
+    if is_entry_name entry.name then entry_by deeper held entry.kind (inside folder entry.name) (below path entry.name) sofar else stops (BadName entry.name)
 
 -- so many levels deep; at the limit on names nothing stands deeper
 abbrev pub mount_due : ℕ → Held → List ℕ → List ℕ → Sofar → Run Sofar
@@ -96,20 +96,13 @@ abbrev pub content_of : Held → Sofar → TreeContent → Run Sofar
 content_of held sofar (Mount folder) = mount_due 65 held folder [] sofar
 content_of held sofar (Written embedded) = embedded_due held sofar embedded
 
-abbrev pub with_tree : Forest → List ℕ → Sofar → Forest
-with_tree forest name made = record {
-  nodes = made.before + length made.there;
-  bytes = made.bytes;
-  trees = forest.trees ++ record { name = name; nodes = made.there } ∷ [];
-}
-
 -- the root is a node
 abbrev pub root_due : Forest → Run Sofar
-root_due forest = record { asks = []; answer = few_nodes (forest.nodes + 1) (record { before = forest.nodes; bytes = forest.bytes; there = root_entry ∷ [] }) }
+root_due forest = record { asks = []; answer = few_nodes (forest.nodes + 1) (record { before = forest; bytes = forest.bytes; there = root_entry ∷ [] }) }
 
 abbrev pub tree_step : Held → Forest → TreeSource → Run Forest
 tree_step held forest source =
-    and_next (root_due forest) (λ sofar. and_next (content_of held sofar source.content) (λ made. done (with_tree forest source.name made)))
+    and_next (root_due forest) (λ sofar. and_next (content_of held sofar source.content) (λ made. done (with_tree made source.name)))
 
 abbrev pub no_trees : Forest
 no_trees = record { nodes = 0; bytes = 0; trees = [] }

@@ -1,8 +1,10 @@
 pub mod Runs
+pub mod Legal
 pub mod Growing
 pub mod Spots
 pub mod Making
 pub mod Reaching
 pub mod Building
 pub mod Entering
+pub mod Woods
 pub mod Ordered

@@ -1,17 +1,18 @@
 -- A tree in the making: the paths so far, and what each leads to.
-use Rattle.std.specs.Prelude.{ℕ, ◌+◌, List, [], Result, Ok, Err, length, min, codes, nat_lt, if◌then◌else◌}
+use Rattle.std.specs.Prelude.{ℕ, ◌+◌, List, [], ◌∷◌, ◌++◌, Result, Ok, Err, length, min, codes, nat_lt, if◌then◌else◌}
 use Rattle.tree_table.specs.declared.entries.Entry.{Entry}
 use Rattle.tree_table.specs.declared.entries.Node.{Node}
 use Rattle.tree_table.specs.declared.entries.Node.TheVariants.{File}
 use Rattle.tree_table.specs.Linked.{end_name}
 use Rattle.path_names.specs.Paths.{names_of}
+use Rattle.mount_tree.specs.declared.forest.Forest.{Forest}
 use Rattle.mount_tree.specs.declared.fault.TreeFault.{TreeFault}
 use Rattle.mount_tree.specs.declared.fault.TreeFault.TheVariants.{OverLimit}
 use Rattle.mount_tree.specs.Growing.{above_of, is_free, with_folders, with_node}
 
--- how many nodes there are before this tree, how many bytes files have so far, and its entries in the order in which they were made, the root first
+-- the trees before this one, how many bytes files have so far, and its entries in the order in which they were made, the root first
 pub record Sofar : Type 0 where
-  pub before : ℕ
+  pub before : Forest
   pub bytes : ℕ
   pub there : List Entry
 
@@ -23,7 +24,7 @@ with_path there path node = with_node there (above_of (names_of path)) (end_name
 
 -- what is there, and a path that may be added
 abbrev pub count_with : Sofar → List ℕ → ℕ
-count_with sofar path = (sofar.before + length sofar.there) + (if is_free sofar.there (above_of (names_of path)) (end_name (names_of path)) then 1 else 0)
+count_with sofar path = (sofar.before.nodes + length sofar.there) + (if is_free sofar.there (above_of (names_of path)) (end_name (names_of path)) then 1 else 0)
 
 -- with the folders above a path, from the root on
 abbrev pub with_above : Sofar → List ℕ → Sofar
@@ -49,3 +50,13 @@ with_file sofar path bytes = record { before = sofar.before; bytes = sofar.bytes
 -- a folder or a link
 abbrev pub with_other : Sofar → List ℕ → Node → Sofar
 with_other sofar path node = record { before = sofar.before; bytes = sofar.bytes; there = with_path sofar.there path node }
+
+-- ---- a tree that was made
+
+-- it stands under its name behind those before it
+abbrev pub with_tree : Sofar → List ℕ → Forest
+with_tree made name = record {
+  nodes = made.before.nodes + length made.there;
+  bytes = made.bytes;
+  trees = made.before.trees ++ record { name = name; nodes = made.there } ∷ [];
+}

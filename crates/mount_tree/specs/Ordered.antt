@@ -7,9 +7,9 @@ use Rattle.tree_table.specs.Trees.{path_cmp}
 use Rattle.outside.specs.Files.{FilesState, Goes}
 use Rattle.policy_data.specs.declared.policy.Policy.{Policy}
 use Rattle.mount_tree.specs.declared.fault.TreeFault.{TreeFault}
-use Rattle.mount_tree.specs.declared.policy_trees.MadeTree.{MadeTree}
+use Rattle.mount_tree.specs.declared.forest.MadeTree.{MadeTree}
 use Rattle.mount_tree.specs.Runs.{Answers, IsFileFault}
-use Rattle.mount_tree.specs.declared.policy_trees.Forest.{Forest}
+use Rattle.mount_tree.specs.declared.forest.Forest.{Forest}
 use Rattle.mount_tree.specs.Building.{trees_due}
 
 -- the paths of a tree, which stand in order: what was made, and nothing else

@@ -1,5 +1,5 @@
 -- What is asked of files one after another, and what comes of it.
-use Rattle.std.specs.Prelude.{ℕ, ◌≡◌, ◌++◌, List, [], ◌∷◌, true, Contains, Result, Ok, Err}
+use Rattle.std.specs.Prelude.{ℕ, ◌≡◌, ◌<◌, ◌++◌, ◌⊎◌, List, [], ◌∷◌, true, Contains, Result, Ok, Err, codes}
 use Rattle.outside.specs.Fault.{Rose}
 use Rattle.outside.specs.Files.{FilesState, Goes}
 use Rattle.mount_tree.specs.declared.fault.TreeFault.{TreeFault}
@@ -38,6 +38,11 @@ IsFault due (FileFault name) = due ≡ FileFault name
 IsFault due (BadName name) = due ≡ BadName name
 IsFault due (OverLimit what value) = due ≡ OverLimit what value
 
+-- the quantity is above its limit
+abbrev pub IsAbove : List ℕ → ℕ → Type 0
+IsAbove what value =
+    ((what ≡ codes "tree-depth") × (64 < value)) ⊎ ((what ≡ codes "tree-nodes") × (65536 < value)) ⊎ ((what ≡ codes "embedded-bytes") × (67108864 < value))
+
 abbrev pub IsFileFault : {A : Type 0} → Result A TreeFault → Type 0
 IsFileFault (Err (FileFault name)) = Unit {0}
 IsFileFault _ = ⊥
@@ -48,7 +53,7 @@ Answers due s t (Ok a) = s.told ≡ true → due.answer ≡ Ok a
 Answers due s t (Err NoMemory) = Unit {0}
 Answers due s t (Err (FileFault name)) = Rose s.faults t.faults × (s.told ≡ true → Contains due.asks name) × (s.told ≡ true → s.steady ≡ true → due.answer ≡ Err (FileFault name))
 Answers due s t (Err (BadName name)) = s.told ≡ true → due.answer ≡ Err (BadName name)
-Answers due s t (Err (OverLimit what value)) = s.told ≡ true → due.answer ≡ Err (OverLimit what value)
+Answers due s t (Err (OverLimit what value)) = IsAbove what value × (s.told ≡ true → due.answer ≡ Err (OverLimit what value))
 
 pub record Gives {A : Type 0} (due : Run A) (s t : FilesState) (r : Result A TreeFault) : Type 0 where
   pub goes : Goes s t
@@ -63,7 +68,7 @@ Says due (Ok a) = due ≡ Ok a
 Says due (Err NoMemory) = Unit {0}
 Says due (Err (FileFault name)) = ⊥
 Says due (Err (BadName name)) = due ≡ Err (BadName name)
-Says due (Err (OverLimit what value)) = due ≡ Err (OverLimit what value)
+Says due (Err (OverLimit what value)) = IsAbove what value × (due ≡ Err (OverLimit what value))
 
 -- a run that asks nothing
 abbrev pub asks_none : {A : Type 0} → Result A TreeFault → Run A

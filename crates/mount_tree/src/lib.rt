@@ -2,6 +2,7 @@
 #![tactic(auto)]
 
 mod fault;
+mod forest;
 mod making;
 mod mount;
 mod ordered;

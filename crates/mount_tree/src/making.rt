@@ -1,18 +1,21 @@
-ghost use Rattle.std.specs.Prelude.{◌≡◌, ◌≤◌, ◌+◌, ◌∷◌, IfOk, [], codes, length};
+ghost use Rattle.std.specs.Prelude.{◌≡◌, ◌≤◌, ◌<◌, ◌+◌, ◌∷◌, IfOk, [], codes, length, true};
 ghost use Rattle.mount_tree.specs.Runs.{IsFault, Says};
 ghost use Rattle.mount_tree.specs.declared.fault.TreeFault.TheVariants.{OverLimit};
-ghost use Rattle.mount_tree.specs.Making.{count_with, few_nodes, fitting, reached, with_file, with_other};
+ghost use Rattle.mount_tree.specs.Making.{count_with, few_nodes, fitting, reached, with_file, with_other, with_tree};
 ghost use Rattle.tree_table.specs.Stored.{root_entry};
-ghost use Rattle.mount_tree.specs.Growing.{IsGrown};
+ghost use Rattle.path_names.specs.Paths.{is_path};
+ghost use Rattle.mount_tree.specs.Legal.{IsOther, IsPlace};
+ghost use Rattle.mount_tree.specs.Woods.{IsWood};
 ghost use Rattle.mount_tree.specs.Spots.{IsSpot};
 ghost use Rattle.mount_tree.specs.Reaching.{Reaches};
 
 use crate::fault::{TreeFault, over_limit};
+use crate::forest::{Forest, MadeTree};
 use crate::paths::{Above, Paths, Spot, depth_of};
 use std::alloc::Global;
 use std::marker::Model;
-use tree_table::{Node, Nodes};
-use virt_base::{Bytes, NoMemory};
+use tree_table::Node;
+use virt_base::{Bytes, NoMemory, Text};
 
 /// A path has at most so many names, all trees together so many nodes, and their files so many bytes.
 const MOST_NAMES: usize = 64;
@@ -21,23 +24,26 @@ const MOST_NODES: usize = 65_536;
 
 pub const MOST_BYTES: u64 = 67_108_864;
 
-/// A tree in the making.
+/// A tree in the making, behind those that were made.
 #[derive(Drop)]
 pub struct Making {
-    before: usize,
+    before: Forest,
     bytes: u64,
     paths: Paths,
 }
 
 impl Model for Making {
     ghost use Rattle.std.specs.Prelude.{◌≤◌, ◌+◌, length};
+    ghost use Rattle.tree_table.specs.Trees.{file_length, total_in};
     ghost use Rattle.mount_tree.specs.Making.{Sofar};
+    ghost use Rattle.mount_tree.specs.Legal.{AreLegal};
+    ghost use Rattle.mount_tree.specs.Woods.{IsWood, made_bytes};
 
     ghost Value = { Sofar };
 
     ghost view = { λ m. record { before = m.before; bytes = m.bytes; there = m.paths } };
 
-    ghost invariant = { λ m. (m.before + length m.paths ≤ 65536) × (m.bytes ≤ 67108864) };
+    ghost invariant = { λ m. (m.before.nodes + length m.paths ≤ 65536) × (m.bytes ≤ 67108864) × (made_bytes m.before.trees + total_in file_length m.paths ≤ m.bytes) × AreLegal m.paths × IsWood m.before };
 }
 
 /// The fault of so many nodes.
@@ -48,17 +54,18 @@ fn too_many(alloc: Global, nodes: usize) -> TreeFault
 }
 
 impl Making {
-    /// A root behind so many nodes and bytes of other trees.
-    pub fn root(alloc: Global, nodes: usize, bytes: u64) -> Result<Making, TreeFault>
-        requires nodes { nodes ≤ 65536 }
-        requires bytes { bytes ≤ 67108864 }
-        ensures { Says (few_nodes (nodes + 1) (record { before = nodes; bytes = bytes; there = root_entry ∷ [] })) result }
+    /// A root behind the trees that were made.
+    pub fn root(alloc: Global, forest: Forest) -> Result<Making, TreeFault>
+        requires { IsWood forest }
+        ensures { Says (few_nodes (forest.nodes + 1) (record { before = forest; bytes = forest.bytes; there = root_entry ∷ [] })) result }
     {
-        if nodes + 1 > MOST_NODES {
-            return Err(too_many(alloc, nodes + 1));
+        let nodes = forest.nodes + 1;
+        if nodes > MOST_NODES {
+            return Err(too_many(alloc, nodes));
         }
+        let bytes = forest.bytes;
         Ok(Making {
-            before: nodes,
+            before: forest,
             bytes,
             paths: Paths::root(alloc)?,
         })
@@ -74,14 +81,15 @@ impl Making {
 
     /// How many nodes there are, the root and those of the trees before among them.
     pub fn nodes(&self) -> usize
-        ensures value { result ≡ self.now.before + length self.now.there }
+        ensures value { result ≡ self.now.before.nodes + length self.now.there }
         ensures few { result ≤ 65536 }
     {
-        self.before + self.paths.len()
+        self.before.nodes + self.paths.len()
     }
 
     /// Makes the folders above a path. Refuses too many names first, and then too many nodes with the path.
     pub fn reach(self, alloc: Global, path: &str) -> Result<Reached<'_>, TreeFault>
+        requires { is_path path.now ≡ true }
         ensures { Reaches self path.now result }
     {
         let depth = depth_of(path);
@@ -99,7 +107,7 @@ impl Making {
         } else {
             0
         };
-        let nodes = before + paths.len() + more;
+        let nodes = before.nodes + paths.len() + more;
         if nodes > MOST_NODES {
             return Err(too_many(alloc, nodes));
         }
@@ -123,6 +131,7 @@ impl Making {
     ) -> Result<Making, NoMemory>
         requires spot { IsSpot self.there path.now spot.folder spot.name.now }
         requires few { count_with self path.now ≤ 65536 }
+        requires place { IsPlace path.now }
         requires fits { self.bytes + length bytes ≤ 67108864 }
         ensures { IfOk result (λ m. m ≡ with_file self path.now bytes) }
     {
@@ -151,6 +160,8 @@ impl Making {
     ) -> Result<Making, NoMemory>
         requires spot { IsSpot self.there path.now spot.folder spot.name.now }
         requires few { count_with self path.now ≤ 65536 }
+        requires place { IsPlace path.now }
+        requires node { IsOther node }
         ensures { IfOk result (λ m. m ≡ with_other self path.now node) }
     {
         let _ = path;
@@ -167,12 +178,27 @@ impl Making {
         })
     }
 
-    /// What was made, the root first.
-    pub fn into_nodes(self) -> Nodes
-        ensures value { result ≡ self.there }
-        ensures grown { IsGrown result }
+    /// The trees with this one behind them, under its name.
+    pub fn into_forest(self, name: Text) -> Result<Forest, NoMemory>
+        ensures value { IfOk result (λ forest. forest ≡ with_tree self name) }
+        ensures wood { IfOk result IsWood }
     {
-        self.paths.into_nodes()
+        let nodes = self.nodes();
+        let Making {
+            before,
+            bytes,
+            paths,
+        } = self;
+        let mut trees = before.trees;
+        trees.push(MadeTree {
+            name,
+            nodes: paths.into_nodes(),
+        })?;
+        Ok(Forest {
+            nodes,
+            bytes,
+            trees,
+        })
     }
 }
 

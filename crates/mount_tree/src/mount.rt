@@ -2,16 +2,24 @@ ghost use Rattle.std.specs.Prelude.{◌≡◌, ◌+◌, ◌*◌, IfOk};
 ghost use Rattle.mount_tree.specs.Runs.{Gives, each};
 ghost use Rattle.mount_tree.specs.Building.{below, inside, mount_due};
 ghost use Rattle.mount_tree.specs.Entering.{Enters};
+ghost use Rattle.mount_tree.specs.Legal.{IsFolderPath, is_entry_name};
 
 use crate::fault::{TreeFault, bad_name};
 use crate::making::Making;
 use crate::reading::list_folder;
 use crate::steps::{add_file, add_folder};
 use outside::{Entry, EntryKind, Files};
-use path_names::is_name;
+use path_names::{holds_byte, is_name};
 use policy_data::Content;
 use std::alloc::Global;
 use virt_base::{NoMemory, Text};
+
+/// Whether an entry of a folder may have this name: a legal one without `/`, which no path would lead to.
+fn is_entry_name(name: &Text) -> bool
+    ensures { result ≡ is_entry_name name.now }
+{
+    is_name(name.bytes()) && !holds_byte(name.bytes(), b'/')
+}
 
 /// What an entry of a folder is called outside.
 fn inside(alloc: Global, folder: &str, name: &str) -> Result<Text, NoMemory>
@@ -57,9 +65,10 @@ fn add_entry<F: Files>(
     path: &str,
     entry: &Entry,
 ) -> Result<Entered, TreeFault>
+    requires { IsFolderPath path.now }
     ensures { Enters folder.now path.now making entry.now (F.state files.old) (F.state files.new) result }
 {
-    if !is_name(entry.name.bytes()) {
+    if !is_entry_name(&entry.name) {
         return Err(bad_name(alloc, &entry.name));
     }
     let outside = inside(alloc, folder, entry.name.as_str())?;
@@ -92,6 +101,7 @@ pub fn add_contents<F: Files>(
     path: &Text,
     levels: usize,
 ) -> Result<Making, TreeFault>
+    requires { IsFolderPath path.now }
     ensures { Gives (mount_due levels (F.state files.old).held folder.now path.now making) (F.state files.old) (F.state files.new) result }
 {
     if levels == 0 {

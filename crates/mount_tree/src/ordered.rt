@@ -1,7 +1,7 @@
 ghost use Rattle.std.specs.Prelude.{◌≡◌, IfOk};
 ghost use Rattle.mount_tree.specs.Ordered.{AreOrdered, IsOrdered};
 
-use crate::policy_trees::{MadeTree, MadeTrees};
+use crate::forest::{MadeTree, MadeTrees};
 use std::alloc::Global;
 use tree_table::{NamedTree, Trees};
 use virt_base::{Items, NoMemory};

@@ -1,9 +1,13 @@
-ghost use Rattle.std.specs.Prelude.{◌≡◌, ◌≤◌, IfOk};
+ghost use Rattle.std.specs.Prelude.{All, IfOk};
 ghost use Rattle.mount_tree.specs.Runs.{Gives};
 ghost use Rattle.mount_tree.specs.Building.{content_of, tree_step, trees_due};
 ghost use Rattle.mount_tree.specs.Ordered.{Builds};
+ghost use Rattle.mount_tree.specs.Woods.{AreBuilt, IsWood};
+ghost use Rattle.mount_tree.specs.Legal.{IsContent, IsSource};
+ghost use Rattle.policy_data.specs.Limits.{KeepsLimits};
 
 use crate::fault::TreeFault;
+use crate::forest::Forest;
 use crate::making::Making;
 use crate::mount::add_contents;
 use crate::ordered::ordered_trees;
@@ -11,26 +15,8 @@ use crate::steps::add_embedded;
 use outside::Files;
 use policy_data::{Policy, TreeContent, TreeSource};
 use std::alloc::Global;
-use tree_table::{Nodes, Trees};
+use tree_table::Trees;
 use virt_base::{Items, Text};
-
-/// The name of a tree, and what was made of it.
-#[derive(Debug, Drop)]
-pub struct MadeTree {
-    pub name: Text,
-    pub nodes: Nodes,
-}
-
-/// Trees in order.
-pub type MadeTrees = Items<MadeTree>;
-
-/// The trees so far, with their nodes and the bytes of their files.
-#[derive(Drop)]
-pub struct Forest {
-    pub nodes: usize,
-    pub bytes: u64,
-    pub trees: MadeTrees,
-}
 
 /// A mounted folder is looked at so many levels deep: at the limit on names nothing stands deeper.
 const LEVELS: usize = 65;
@@ -41,6 +27,7 @@ fn add_content<F: Files>(
     making: Making,
     content: &TreeContent,
 ) -> Result<Making, TreeFault>
+    requires { IsContent content.now }
     ensures { Gives (content_of (F.state files.old).held making content.now) (F.state files.old) (F.state files.new) result }
 {
     match content {
@@ -58,30 +45,22 @@ fn add_tree<F: Files>(
     forest: Forest,
     source: &TreeSource,
 ) -> Result<Forest, TreeFault>
-    requires nodes { forest.nodes ≤ 65536 }
-    requires bytes { forest.bytes ≤ 67108864 }
-    ensures few { IfOk result (λ forest. (forest.nodes ≤ 65536) × (forest.bytes ≤ 67108864)) }
+    requires wood { IsWood forest }
+    requires source { IsSource source.now }
+    ensures wood { IfOk result IsWood }
     ensures gives { Gives (tree_step (F.state files.old).held forest source.now) (F.state files.old) (F.state files.new) result }
 {
-    let making = Making::root(alloc, forest.nodes, forest.bytes)?;
+    let making = Making::root(alloc, forest)?;
     let making = add_content(alloc, files, making, &source.content)?;
     let name = source.name.copy(alloc)?;
-    let (nodes, bytes) = (making.nodes(), making.bytes());
-    let mut trees = forest.trees;
-    trees.push(MadeTree {
-        name,
-        nodes: making.into_nodes(),
-    })?;
-    Ok(Forest {
-        nodes,
-        bytes,
-        trees,
-    })
+    Ok(making.into_forest(name)?)
 }
 
 /// Makes the trees of a policy, tree by tree.
 fn make_trees<F: Files>(alloc: Global, files: &mut F, policy: &Policy) -> Result<Forest, TreeFault>
-    ensures { Gives (trees_due (F.state files.old).held policy.now) (F.state files.old) (F.state files.new) result }
+    requires { All IsSource policy.now.fs_tree }
+    ensures gives { Gives (trees_due (F.state files.old).held policy.now) (F.state files.old) (F.state files.new) result }
+    ensures wood { IfOk result IsWood }
 {
     let mut forest = Forest {
         nodes: 0,
@@ -101,7 +80,9 @@ fn make_trees<F: Files>(alloc: Global, files: &mut F, policy: &Policy) -> Result
 /// name is tested first, then how many names its path has, how many nodes there are, and the bytes of the file, which is
 /// read then.
 pub fn build<F: Files>(alloc: Global, policy: &Policy, files: &mut F) -> Result<Trees, TreeFault>
-    ensures { Builds policy.now (F.state files.old) (F.state files.new) result }
+    requires { KeepsLimits policy.now }
+    ensures due { Builds policy.now (F.state files.old) (F.state files.new) result }
+    ensures trees { IfOk result AreBuilt }
 {
     let forest = make_trees(alloc, files, policy)?;
     let trees = ordered_trees(alloc, forest.trees)?;

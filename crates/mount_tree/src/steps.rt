@@ -1,4 +1,6 @@
-ghost use Rattle.std.specs.Prelude.{◌≡◌};
+ghost use Rattle.std.specs.Prelude.{◌≡◌, All, true};
+ghost use Rattle.path_names.specs.Paths.{is_path, is_target};
+ghost use Rattle.mount_tree.specs.Legal.{ArePaths};
 ghost use Rattle.mount_tree.specs.Runs.{Gives, Says, each};
 ghost use Rattle.mount_tree.specs.Building.{embedded_due, file_step, folder_step, link_step};
 ghost use Rattle.policy_data.specs.declared.data.EmbeddedFile.{EmbeddedFile};
@@ -22,9 +24,11 @@ pub fn add_file<F: Files>(
     path: &str,
     content: &Content,
 ) -> Result<Making, TreeFault>
+    requires { is_path path.now ≡ true }
     ensures { Gives (file_step (F.state files.old).held making path.now content.now) (F.state files.old) (F.state files.new) result }
 {
-    let Reached { making, spot } = making.reach(alloc, path)?;
+    let place = making.reach(alloc, path)?;
+    let Reached { making, spot } = place;
     let bytes = content_bytes(alloc, files, content, making.bytes())?;
     let making = making.with_file(alloc, path, spot, bytes)?;
     Ok(making)
@@ -33,6 +37,7 @@ pub fn add_file<F: Files>(
 /// Adds a folder.
 #[tactic(auto, using(crate::proofs::StepLemmas::other_added, crate::proofs::StepLemmas::other_refused))]
 pub fn add_folder(alloc: Global, making: Making, path: &str) -> Result<Making, TreeFault>
+    requires { is_path path.now ≡ true }
     ensures { Says (folder_step making path.now).answer result }
 {
     let Reached { making, spot } = making.reach(alloc, path)?;
@@ -43,6 +48,8 @@ pub fn add_folder(alloc: Global, making: Making, path: &str) -> Result<Making, T
 /// Adds a symbolic link.
 #[tactic(auto, using(crate::proofs::StepLemmas::other_added, crate::proofs::StepLemmas::other_refused))]
 fn add_link(alloc: Global, making: Making, link: &Link) -> Result<Making, TreeFault>
+    requires path { is_path link.now.path ≡ true }
+    requires target { is_target link.now.target ≡ true }
     ensures { Says (link_step making link.now.path link.now.target).answer result }
 {
     let path = link.path.as_str();
@@ -58,6 +65,7 @@ fn add_files<F: Files>(
     making: Making,
     embedded: &[EmbeddedFile],
 ) -> Result<Making, TreeFault>
+    requires { All (λ (file : EmbeddedFile). is_path file.path ≡ true) embedded.now }
     ensures { Gives (each (λ s (file : EmbeddedFile). file_step (F.state files.old).held s file.path file.content) making embedded.now) (F.state files.old) (F.state files.new) result }
 {
     let mut made = making;
@@ -70,6 +78,7 @@ fn add_files<F: Files>(
 }
 
 fn add_folders(alloc: Global, making: Making, folders: &[Text]) -> Result<Making, TreeFault>
+    requires { All (λ folder. is_path folder ≡ true) folders.now }
     ensures { Says (each folder_step making folders.now).answer result }
 {
     let mut made = making;
@@ -82,6 +91,7 @@ fn add_folders(alloc: Global, making: Making, folders: &[Text]) -> Result<Making
 }
 
 fn add_links(alloc: Global, making: Making, links: &[Link]) -> Result<Making, TreeFault>
+    requires { All (λ (link : Link). (is_path link.path ≡ true) × (is_target link.target ≡ true)) links.now }
     ensures { Says (each (λ s (link : Link). link_step s link.path link.target) making links.now).answer result }
 {
     let mut made = making;
@@ -101,6 +111,7 @@ pub fn add_embedded<F: Files>(
     making: Making,
     embedded: &Embedded,
 ) -> Result<Making, TreeFault>
+    requires { ArePaths embedded.now }
     ensures { Gives (embedded_due (F.state files.old).held making embedded.now) (F.state files.old) (F.state files.new) result }
 {
     let filed = add_files(alloc, files, making, embedded.files.as_slice())?;

@@ -1,7 +1,7 @@
 use Rattle.std.proofs.Common.{rules, ◌≡◌, ◌-◌, suc, arith}
 use Rattle.std.proofs.lemmas.Result.{err_from_is_err_and}
 use Rattle.mount_tree.proofs.Follows.{each_on, each_stop}
-use Rattle.mount_tree.proofs.MountLemmas.{mount_begins, mount_missed, entry_step, entered_file, entered_not, entered_folder}
+use Rattle.mount_tree.proofs.MountLemmas.{mount_begins, mount_missed, entry_step, entered_file, entered_not, entered_folder, entered_path}
 use Rattle.mount_tree.proofs.mount.+add_contents.Goals as goal
 
 pub returns-in_err-entries : goal.returns-in_err-entries
@@ -44,3 +44,9 @@ loop-entry-preserved g n c =
     _ _ _ c.loop-entry.invariant c.in-Some.ensures.cases.0
     (entered_folder (c.args.levels - 1) c.args.folder.now c.args.path.now c.loop-entry.made c.in-Some.entry.now _ _ _ c.in_ok-making.field-0 c.in-Some-inner.inner _
     (search rules) (rw (c.as_str.ensures, c.as_str-in-Some.ensures) at c.in_ok-making.ensures) c.in_ok-made-in-Some-inner.ensures)
+
+pub add_contents-requires : goal.add_contents-requires
+add_contents-requires g n c = λ κs le.
+    let inner = entered_path (c.args.levels - 1) c.args.folder.now c.args.path.now c.loop-entry.made c.in-Some.entry.now _ _ c.in_ok-making.field-0 c.in-Some-inner.inner
+    (search rules) (rw (c.as_str.ensures, c.as_str-in-Some.ensures) at c.in_ok-making.ensures) in
+    (search (rules, arith), (search rules, inner))

@@ -1,6 +1,6 @@
 use Rattle.std.proofs.Common.{◌≡◌, ◌++◌, length, List}
 use Rattle.std.specs.Vec.Iter.{into_iter_items}
-use Rattle.mount_tree.specs.declared.policy_trees.MadeTree.{MadeTree}
+use Rattle.mount_tree.specs.declared.forest.MadeTree.{MadeTree}
 use Rattle.mount_tree.specs.Ordered.{AreOrdered}
 use Rattle.mount_tree.proofs.ordered.ordered_trees.Given as goal
 

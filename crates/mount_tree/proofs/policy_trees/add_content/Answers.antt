@@ -1,5 +1,8 @@
-use Rattle.std.proofs.Common.{◌≡◌, ◌∙◌, []}
+use Rattle.std.proofs.Common.{◌≡◌, ◌∙◌, [], inl}
 use Rattle.mount_tree.proofs.policy_trees.add_content.Goals as goal
+
+pub add_contents-requires : goal.add_contents-requires
+add_contents-requires g c = inl (c.from_string-root.ensures ∙ c.new.ensures.bytes)
 
 pub returns-in-Mount : goal.returns-in-Mount
 returns-in-Mount g c =

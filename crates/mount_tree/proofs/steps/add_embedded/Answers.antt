@@ -1,15 +1,21 @@
-use Rattle.std.proofs.Common.{List, Ok, subst}
+use Rattle.std.proofs.Common.{List, Ok, Err, subst}
 use Rattle.policy_data.specs.declared.data.Link.{Link}
 use Rattle.mount_tree.specs.Runs.{Says, each}
 use Rattle.mount_tree.specs.Building.{folder_step, link_step}
 use Rattle.std.proofs.lemmas.Result.{err_from_is_err_and}
-use Rattle.mount_tree.proofs.StepLemmas.{files_refused, links_added}
+use Rattle.mount_tree.proofs.StepLemmas.{files_refused, folders_refused, links_added}
 use Rattle.mount_tree.proofs.steps.add_embedded.Goals as goal
 
 pub returns-in_err-filed : goal.returns-in_err-filed
 returns-in_err-filed g c =
     let p = err_from_is_err_and c.from_residual.result c.from_residual.ensures.1 in
     rw (p.1, p.2) (files_refused _ _ c.args.making c.args.embedded.now c.in_err-filed.field-0.0 (rw c.as_slice.ensures at c.in_err-filed.ensures))
+
+pub returns-in_err-housed : goal.returns-in_err-housed
+returns-in_err-housed g c =
+    let p = err_from_is_err_and c.from_residual-in_err-housed.result c.from_residual-in_err-housed.ensures.1 in
+    let refused = subst (λ (fs : List _). Says (each folder_step c.in_ok-filed.filed fs).answer (Err c.in_err-housed.field-0.0)) c.as_slice-2.ensures c.in_err-housed.ensures in
+    rw (p.1, p.2) (folders_refused _ _ c.args.making c.args.embedded.now c.in_ok-filed.filed c.in_err-housed.field-0.0 (rw c.as_slice.ensures at c.in_ok-filed.ensures) refused)
 
 pub returns : goal.returns
 returns g c =

@@ -1,24 +1,18 @@
-use Rattle.std.proofs.Common.{◌≡◌, ◌∙◌, ℕ, ◌+◌, ◌≤◌, cond, Result, Err, length, sym, ap, arith}
+use Rattle.std.proofs.Common.{◌≡◌, ◌∙◌, ℕ, ◌+◌, ◌≤◌, [], true, cond, Err, length, refl, sym, ap, subst, inl, inr, arith}
 use Rattle.std.specs.Prelude.{codes}
 use Rattle.tree_table.specs.Linked.{end_name}
 use Rattle.path_names.specs.Paths.{names_of}
-use Rattle.mount_tree.specs.declared.fault.TreeFault.{TreeFault}
-use Rattle.mount_tree.specs.declared.fault.TreeFault.TheVariants.{OverLimit, NoMemory, FileFault, BadName}
-use Rattle.mount_tree.specs.Runs.{IsFault, Says}
-use Rattle.mount_tree.specs.Growing.{above_of, is_free}
+use Rattle.mount_tree.specs.declared.fault.TreeFault.TheVariants.{OverLimit}
+use Rattle.std.proofs.lemmas.List.Elements.{All-nil}
+use Rattle.tree_table.specs.Trees.{file_length, total_in}
+use Rattle.mount_tree.specs.Growing.{above_of, is_free, with_folders}
+use Rattle.mount_tree.specs.Legal.{AreLegal, is_entry_name}
 use Rattle.mount_tree.specs.Making.{Sofar, reached}
+use Rattle.mount_tree.proofs.LegalLemmas.{legal-folders, path-names, total-folders}
+use Rattle.mount_tree.proofs.LimitLemmas.{over_says}
 use Rattle.mount_tree.proofs.SpotLemmas.{spot-free, reached-ok, reached-past}
 use Rattle.mount_tree.proofs.making.Making.reach.Goals.{then-is_free, else-is_free}
 use Rattle.mount_tree.proofs.making.Making.reach.Goals as goal
-
-says-past : (n : ℕ) (r : Result Sofar TreeFault) (fault : TreeFault) → r ≡ Err (OverLimit (codes "tree-nodes") n) → IsFault (OverLimit (codes "tree-nodes") n) fault → Says r (Err fault)
-says-past n r NoMemory due is = tt
-says-past n r (OverLimit what value) due is = due ∙ ap Err is
-says-past n r (BadName name) due is = due ∙ ap Err is
-says-past n r (FileFault name) due is = absurd (other is)
-  where
-    other : OverLimit (codes "tree-nodes") n ≡ FileFault name → ⊥
-    other e = cc
 
 pub returns-then-nodes-gt-MOST_NODES : goal.returns-then-nodes-gt-MOST_NODES
 returns-then-nodes-gt-MOST_NODES c =
@@ -36,10 +30,11 @@ returns-then-nodes-gt-MOST_NODES c =
       | else-is_free w ↦ omega (arith, w.more-is, ap {B = ℕ} (λ b. cond b 1 0) (sym is-free ∙ w.if-is_free.false))
     ] in
     let few : length (names_of path) ≤ 64 = omega (arith, c.if-depth-gt-MOST_NAMES.false, c.depth_of-depth.ensures) in
-    let nodes = i.before + c.len.result + c.if-is_free.more in
-    let count : nodes ≡ (i.before + length ps) + cond free 1 0 = omega (arith, more, size) in
+    let nodes = i.before.nodes + c.len.result + c.if-is_free.more in
+    let count : nodes ≡ (i.before.nodes + length ps) + cond free 1 0 = omega (arith, more, size) in
     let due : reached sofar path ≡ Err (OverLimit (codes "tree-nodes") nodes) = reached-past sofar path ps few c.in_ok-paths.ensures.paths nodes count c.if-nodes-gt-MOST_NODES.true in
-    says-past nodes (reached c.args.self path) c.too_many.result (ap (λ (m : Sofar). reached m path) (sym c.self.view_is) ∙ due) c.too_many.ensures
+    over_says (reached c.args.self path) (codes "tree-nodes") nodes c.too_many.result (ap (λ (m : Sofar). reached m path) (sym c.self.view_is) ∙ due)
+    (inr (inl (refl, c.if-nodes-gt-MOST_NODES.true))) c.too_many.ensures
 
 pub returns : goal.returns
 returns c =
@@ -57,9 +52,25 @@ returns c =
       | else-is_free w ↦ omega (arith, w.more-is, ap {B = ℕ} (λ b. cond b 1 0) (sym is-free ∙ w.if-is_free.false))
     ] in
     let few : length (names_of path) ≤ 64 = omega (arith, c.if-depth-gt-MOST_NAMES.false, c.depth_of-depth.ensures) in
-    let small : (i.before + length ps) + cond free 1 0 ≤ 65536 = omega (arith, more, size, c.if-nodes-gt-MOST_NODES.false) in
+    let small : (i.before.nodes + length ps) + cond free 1 0 ≤ 65536 = omega (arith, more, size, c.if-nodes-gt-MOST_NODES.false) in
     record {
       due = ap (λ (m : Sofar). reached m path) (sym c.self.view_is) ∙ reached-ok sofar path ps few c.in_ok-paths.ensures.paths small;
       spot = s;
       few = small;
+      deep = few;
     }
+
+pub invariant_of-result : goal.invariant_of-result
+invariant_of-result c =
+    let names = names_of c.args.path.now in
+    let i = c.self.inside in
+    let ps = c.in_ok-paths.field-0.paths in
+    let grown : ps ≡ with_folders i.paths [] names = c.in_ok-paths.ensures.paths in
+    let few : length names ≤ 64 = omega (arith, c.if-depth-gt-MOST_NAMES.false, c.depth_of-depth.ensures) in
+    let size : c.len.result ≡ length ps = omega (arith, c.len.ensures.value, ap length c.in_ok-paths.paths-is) in (
+      omega (arith, size, c.if-nodes-gt-MOST_NODES.false),
+      c.self.invariant.1,
+      omega (arith, c.self.invariant.2, total-folders i.paths [] names, ap (total_in file_length) grown),
+      subst AreLegal (sym grown) (legal-folders i.paths [] names c.self.invariant.3 (All-nil (λ name. is_entry_name name ≡ true)) (path-names c.args.path.now c.requires) (omega (arith, few))),
+      c.self.invariant.4,
+    )

@@ -1,7 +1,11 @@
-use Rattle.std.proofs.Common.{◌≡◌, ◌∙◌, ◌≤◌, List, sym, ap, subst}
+use Rattle.std.proofs.Common.{◌≡◌, ◌∙◌, ◌≤◌, List, sym, ap, subst, arith}
 use Rattle.tree_table.specs.declared.entries.Entry.{Entry}
 use Rattle.mount_tree.specs.Making.{Sofar, count_with, with_other, with_path}
 use Rattle.mount_tree.specs.Spots.{IsSpot}
+use Rattle.tree_table.specs.Trees.{file_length, total_in}
+use Rattle.mount_tree.specs.Growing.{with_node}
+use Rattle.mount_tree.specs.Legal.{AreLegal, IsLegal}
+use Rattle.mount_tree.proofs.LegalLemmas.{added, other-empty, other-kept, spot-legal, total-node}
 use Rattle.mount_tree.proofs.SpotLemmas.{room, spot-added}
 use Rattle.mount_tree.proofs.making.Making.with_other.Goals as goal
 
@@ -11,7 +15,15 @@ invariant_of-result c =
     let s : IsSpot i.paths c.args.path.now c.args.spot.folder c.args.spot.name.now = subst (λ (m : Sofar). IsSpot m.there c.args.path.now c.args.spot.folder c.args.spot.name.now) (sym c.self.view_is) c.requires.spot in
     let few : count_with (record { before = i.before; bytes = i.bytes; there = i.paths }) c.args.path.now ≤ 65536 = subst (λ (m : Sofar). count_with m c.args.path.now ≤ 65536) (sym c.self.view_is) c.requires.few in
     let is : c.in_ok-paths.paths ≡ with_path i.paths c.args.path.now c.args.node = c.in_ok-paths.ensures s.above s.at ∙ spot-added i.paths c.args.path.now c.args.spot.folder c.args.spot.name.now s c.args.node in
-    (room i.before i.paths c.in_ok-paths.paths c.args.path.now c.args.node is few, c.self.invariant.1)
+    let grown : c.in_ok-paths.paths ≡ with_node i.paths s.above c.args.spot.name.now c.args.node = c.in_ok-paths.ensures s.above s.at in
+    let held = total-node file_length i.paths s.above c.args.spot.name.now c.args.node in (
+      room i.before.nodes i.paths c.in_ok-paths.paths c.args.path.now c.args.node is few,
+      c.self.invariant.1,
+      omega (arith, c.self.invariant.2, held, other-empty c.args.node c.requires.node, ap (total_in file_length) grown),
+      subst AreLegal (sym grown) (added IsLegal i.paths s.above c.args.spot.name.now c.args.node c.self.invariant.3
+          (spot-legal i.paths c.args.path.now c.args.spot.folder c.args.spot.name.now s c.args.node c.requires.place (other-kept c.args.node c.requires.node))),
+      c.self.invariant.4,
+    )
 
 pub returns : goal.returns
 returns c =
