@@ -1,36 +1,14 @@
-use outside::{Contents, MemFiles, MemSink, Named, Places};
+use crate::fixtures::{
+    EMPTY, Ran, SEVEN, SEVEN_OUT, WORDS, files_of, files_with, mounted, run_app, run_on, sink_of,
+    words_of,
+};
 use std::alloc::Global;
 use std::test::Fail;
-use virt_base::{Bytes, Items, NoMemory, Text, write_u32};
+use virt_base::{NoMemory, Text, write_u32};
 use virt_engine::{code, wasi_virt};
-
-/// A component whose export `f` answers 7.
-const SEVEN: [u8; 83] = [
-    0x00, 0x61, 0x73, 0x6d, 0x0d, 0x00, 0x01, 0x00, 0x01, 0x22, 0x00, 0x61, 0x73, 0x6d, 0x01, 0x00,
-    0x00, 0x00, 0x01, 0x05, 0x01, 0x60, 0x00, 0x01, 0x7f, 0x03, 0x02, 0x01, 0x00, 0x07, 0x05, 0x01,
-    0x01, 0x66, 0x00, 0x00, 0x0a, 0x06, 0x01, 0x04, 0x00, 0x41, 0x07, 0x0b, 0x02, 0x04, 0x01, 0x00,
-    0x00, 0x00, 0x06, 0x07, 0x01, 0x00, 0x00, 0x01, 0x00, 0x01, 0x66, 0x07, 0x05, 0x01, 0x40, 0x00,
-    0x00, 0x79, 0x08, 0x06, 0x01, 0x00, 0x00, 0x00, 0x00, 0x00, 0x0b, 0x07, 0x01, 0x00, 0x01, 0x66,
-    0x01, 0x00, 0x00,
-];
-
-/// Its output.
-const SEVEN_OUT: [u8; 116] = [
-    0x00, 0x61, 0x73, 0x6d, 0x0d, 0x00, 0x01, 0x00, 0x04, 0x53, 0x00, 0x61, 0x73, 0x6d, 0x0d, 0x00,
-    0x01, 0x00, 0x01, 0x22, 0x00, 0x61, 0x73, 0x6d, 0x01, 0x00, 0x00, 0x00, 0x01, 0x05, 0x01, 0x60,
-    0x00, 0x01, 0x7f, 0x03, 0x02, 0x01, 0x00, 0x07, 0x05, 0x01, 0x01, 0x66, 0x00, 0x00, 0x0a, 0x06,
-    0x01, 0x04, 0x00, 0x41, 0x07, 0x0b, 0x02, 0x04, 0x01, 0x00, 0x00, 0x00, 0x06, 0x07, 0x01, 0x00,
-    0x00, 0x01, 0x00, 0x01, 0x66, 0x07, 0x05, 0x01, 0x40, 0x00, 0x00, 0x79, 0x08, 0x06, 0x01, 0x00,
-    0x00, 0x00, 0x00, 0x00, 0x0b, 0x07, 0x01, 0x00, 0x01, 0x66, 0x01, 0x00, 0x00, 0x05, 0x04, 0x01,
-    0x00, 0x00, 0x00, 0x06, 0x06, 0x01, 0x01, 0x00, 0x00, 0x01, 0x66, 0x0b, 0x07, 0x01, 0x00, 0x01,
-    0x66, 0x01, 0x00, 0x00,
-];
 
 /// The place of the operand of `i32.const` in it.
 const OPERAND: usize = 42;
-
-/// The component without sections (Component Model, Binary.md).
-const EMPTY: [u8; 8] = [0x00, 0x61, 0x73, 0x6d, 0x0d, 0x00, 0x01, 0x00];
 
 /// Its output: it stands in a section, and its instance behind it.
 const EMPTY_OUT: [u8; 24] = [
@@ -40,102 +18,6 @@ const EMPTY_OUT: [u8; 24] = [
 
 /// Where a section of the component above ends, so that what stands before is a component.
 const ENDS: [usize; 6] = [8, 44, 50, 59, 66, 74];
-
-fn named(alloc: Global, name: &str, bytes: Vec<u8>) -> Result<Named<Bytes>, NoMemory> {
-    Ok(Named {
-        name: Text::from_str(alloc, name)?,
-        value: Items::new(bytes),
-    })
-}
-
-fn words_of(alloc: Global, words: &[&str]) -> Result<Vec<Text>, NoMemory> {
-    let mut texts = Vec::new(alloc);
-    for word in words {
-        texts.push(Text::from_str(alloc, word)?)?;
-    }
-    Ok(texts)
-}
-
-fn places(alloc: Global, numbers: &[u64]) -> Result<Places, NoMemory> {
-    Ok(Items::new(Vec::from_slice(alloc, numbers)?))
-}
-
-/// The files `a` and `p`, and room for `o`.
-fn files_of(
-    alloc: Global,
-    app: &[u8],
-    policy: &[u8],
-    room: usize,
-    failing: &[u64],
-) -> Result<MemFiles, NoMemory> {
-    let app = Vec::from_slice(alloc, app)?;
-    let policy = Vec::from_slice(alloc, policy)?;
-    files_with(alloc, app, policy, room, failing)
-}
-
-/// The same of bytes that are not copied.
-fn files_with(
-    alloc: Global,
-    app: Vec<u8>,
-    policy: Vec<u8>,
-    room: usize,
-    failing: &[u64],
-) -> Result<MemFiles, NoMemory> {
-    let mut files = Items::empty(alloc);
-    files.push(named(alloc, "a", app)?)?;
-    files.push(named(alloc, "p", policy)?)?;
-    let contents = Contents {
-        files,
-        folders: Items::empty(alloc),
-    };
-    let mut files = MemFiles::new(alloc, contents, places(alloc, failing)?)?;
-    files.reserve(alloc, &Text::from_str(alloc, "o")?, room)?;
-    Ok(files)
-}
-
-fn sink_of(alloc: Global, failing: &[u64]) -> Result<MemSink, NoMemory> {
-    let mut sink = MemSink::new(alloc, places(alloc, failing)?);
-    sink.reserve(alloc, 200)?;
-    Ok(sink)
-}
-
-const WORDS: [&str; 6] = ["virt", "a", "-p", "p", "-o", "o"];
-
-/// The exit status of a call, the text that it put, and what `o` holds afterwards.
-#[derive(Drop)]
-struct Ran {
-    code: u8,
-    text: Vec<u8>,
-    out: Option<Vec<u8>>,
-}
-
-fn run_on(
-    alloc: Global,
-    words: &[&str],
-    mut files: MemFiles,
-    mut sink: MemSink,
-) -> Result<Ran, NoMemory> {
-    let words = words_of(alloc, words)?;
-    let status = wasi_virt(alloc, words.as_slice(), &mut files, &mut sink);
-    let out = match files.file(&Text::from_str(alloc, "o")?) {
-        Some(bytes) => Some(Vec::from_slice(alloc, bytes)?),
-        None => None,
-    };
-    Ok(Ran {
-        code: code(&status),
-        text: Vec::from_slice(alloc, sink.bytes())?,
-        out,
-    })
-}
-
-fn run_app(alloc: Global, app: &[u8]) -> Result<Ran, NoMemory> {
-    run_on(
-        alloc,
-        &WORDS,
-        files_of(alloc, app, b"", 200, &[])?,
-        sink_of(alloc, &[])?,
-    )
-}
 
 #[test]
 fn seven_is_wrapped(rt: HostRuntime) -> Result<(), Fail> {
@@ -263,40 +145,6 @@ fn exports_of_each_sort_are_there(rt: HostRuntime) -> Result<(), Fail> {
     Ok(())
 }
 
-/// What is put for applications that are refused.
-#[test]
-fn applications_are_refused_with_their_cause(rt: HostRuntime) -> Result<(), Fail> {
-    let alloc = rt.alloc();
-    // the component above with another body, or with another canonical function
-    let mut float_add = Vec::from_slice(alloc, &SEVEN[..8])?;
-    float_add.extend_from_slice(&[0x01, 0x23])?;
-    float_add.extend_from_slice(&SEVEN[10..36])?;
-    float_add.extend_from_slice(&[0x0a, 0x07, 0x01, 0x05, 0x00, 0x41, 0x07, 0x92, 0x0b])?;
-    float_add.extend_from_slice(&SEVEN[44..])?;
-    let mut long_constant = SEVEN;
-    long_constant[41] = 0x42;
-    let mut other_type = SEVEN;
-    other_type[73] = 0x01;
-    // an instance type without entries, and an import of it; a resource, and an export of it
-    let importing =
-        b"\0asm\x0D\0\x01\0\x07\x03\x01\x42\x00\x0A\x1A\x01\x00\x15wasi:http/types@0.2.0\x05\x00";
-    let resource = b"\0asm\x0D\0\x01\0\x07\x04\x01\x3F\x7F\x00\x0B\x07\x01\x00\x01r\x03\x00\x00";
-    for (app, line) in [
-        (float_add.as_slice(), "unsupported at 43 byte 92"),
-        (long_constant.as_slice(), "invalid rule 1 section 0"),
-        (other_type.as_slice(), "invalid rule 3 section 4"),
-        (importing.as_slice(), "unlisted wasi:http/types@0.2.0"),
-        (resource.as_slice(), "handle-export r"),
-    ] {
-        let ran = run_app(alloc, app)?;
-        let line = format!(in alloc; "application refused: {line}\n")?;
-        assert_eq!(rt; ran.code, 2);
-        assert_eq!(rt; ran.text.as_slice(), line.as_bytes());
-        assert!(rt; ran.out.is_none());
-    }
-    Ok(())
-}
-
 /// Components without other sections, so many in one another.
 fn nested(alloc: Global, depth: usize) -> Result<Vec<u8>, Fail> {
     let mut bytes = Vec::from_slice(alloc, &EMPTY)?;
@@ -353,17 +201,56 @@ fn a_failing_call_is_reported(rt: HostRuntime) -> Result<(), Fail> {
     Ok(())
 }
 
+/// The same under a policy that mounts a folder: each of its calls in turn, those of the folder between those of the
+/// application and of OUT.
+#[test]
+fn a_failing_call_of_a_mount_is_reported(rt: HostRuntime) -> Result<(), Fail> {
+    let alloc = rt.alloc();
+    for (failing, line, held) in [
+        (0, b"file fault: p\n".as_slice(), None),
+        (1, b"file fault: a\n".as_slice(), None),
+        (2, b"file fault: d\n".as_slice(), None),
+        (3, b"file fault: d/s\n".as_slice(), None),
+        (4, b"file fault: d/s/x\n".as_slice(), None),
+        (5, b"file fault: d/y\n".as_slice(), None),
+        (6, b"file fault: o\n".as_slice(), None),
+        (7, b"file fault: o\n".as_slice(), Some(0)),
+        (8, b"file fault: o\n".as_slice(), Some(10)),
+        (9, b"file fault: o\n".as_slice(), Some(93)),
+    ] {
+        let files = mounted(&rt, alloc, &[failing])?;
+        let ran = run_on(alloc, &WORDS, files, sink_of(alloc, &[])?)?;
+        assert_eq!(rt; ran.code, 3, "at call {failing}");
+        assert_eq!(rt; ran.text.as_slice(), line);
+        assert_eq!(rt; ran.out.as_ref().map(|out| out.len()), held);
+    }
+    let ran = run_on(
+        alloc,
+        &WORDS,
+        mounted(&rt, alloc, &[10])?,
+        sink_of(alloc, &[])?,
+    )?;
+    assert_eq!(rt; ran.code, 0);
+    Ok(())
+}
+
+/// What was written before a write failed stays, and other files are as they were.
 #[test]
 fn what_fits_stays_after_a_write_without_room(rt: HostRuntime) -> Result<(), Fail> {
     let alloc = rt.alloc();
-    let files = files_of(alloc, &SEVEN, b"", 50, &[])?;
-    let ran = run_on(alloc, &WORDS, files, sink_of(alloc, &[])?)?;
-    assert_eq!(rt; ran.code, 3);
-    assert_eq!(rt; ran.text.as_slice(), b"file fault: o\n".as_slice());
-    assert_eq!(rt;
-        ran.out.as_ref().map(|out| out.as_slice()),
-        Some(&SEVEN_OUT[..50])
-    );
+    let mut files = files_of(alloc, &SEVEN, b"slots = 3", 50, &[])?;
+    let mut sink = sink_of(alloc, &[])?;
+    let words = words_of(alloc, &WORDS)?;
+    let status = wasi_virt(alloc, words.as_slice(), &mut files, &mut sink);
+    assert_eq!(rt; code(&status), 3);
+    assert_eq!(rt; sink.bytes(), b"file fault: o\n".as_slice());
+    for (name, bytes) in [
+        ("a", SEVEN.as_slice()),
+        ("p", b"slots = 3".as_slice()),
+        ("o", &SEVEN_OUT[..50]),
+    ] {
+        assert_eq!(rt; files.file(&Text::from_str(alloc, name)?), Some(bytes), "{name}");
+    }
     Ok(())
 }
 
@@ -508,71 +395,5 @@ fn an_application_above_its_limit_is_refused(rt: HostRuntime) -> Result<(), Fail
         ran.text.as_slice(),
         b"over limit: application-bytes 33554433\n".as_slice()
     );
-    Ok(())
-}
-
-/// What is put for policies, over files that are the application and the policy alone.
-#[test]
-fn policies_are_read_whole(rt: HostRuntime) -> Result<(), Fail> {
-    let alloc = rt.alloc();
-    let done = "done: 83 bytes in, 116 bytes out, 0 functions imported\n";
-    for (policy, exit, line) in [
-        ("slots = 64", 0, done),
-        (
-            "[[fs.tree]]\nname = \"t\"\nfiles = { a = { text = \"x\" }, b = { file = \"a\" } }",
-            0,
-            done,
-        ),
-        ("slots = 0", 1, "policy refused: bad-value slots\n"),
-        ("env.pas = 1", 1, "policy refused: bad-key env.pas\n"),
-        (
-            "[[fs.tree]]\nname = \"t\"\nfiles = { \"a//b\" = { text = \"\" } }",
-            1,
-            "policy refused: bad-name fs.tree[0].files.a//b\n",
-        ),
-        ("slots = 4097", 5, "over limit: slots 4097\n"),
-        (
-            "[[fs.tree]]\nname = \"t\"\nfiles = { b = { file = \"c\" } }",
-            3,
-            "file fault: c\n",
-        ),
-        (
-            "[[fs.tree]]\nname = \"t\"\nmount = \"f\"",
-            3,
-            "file fault: f\n",
-        ),
-        (DEEP_POLICY, 5, "over limit: tree-depth 65\n"),
-    ] {
-        let files = files_of(alloc, &SEVEN, policy.as_bytes(), 200, &[])?;
-        let ran = run_on(alloc, &WORDS, files, sink_of(alloc, &[])?)?;
-        assert_eq!(rt; ran.code, exit, "{policy}");
-        assert_eq!(rt; ran.text.as_slice(), line.as_bytes());
-        assert_eq!(rt; ran.out.is_some(), exit == 0);
-    }
-    Ok(())
-}
-
-/// A tree with one folder of 65 names.
-const DEEP_POLICY: &str =
-    "[[fs.tree]]\nname = \"t\"\nfolders = [\"a/a/a/a/a/a/a/a/a/a/a/a/a/a/a/a/a/a/a/a/a/a/a/a/a/a/a/a/a/a/a/a/a/a/a/a/a/a/a/a/a/a/a/a/a/a/a/a/a/a/a/a/a/a/a/a/a/a/a/a/a/a/a/a/a\"]";
-
-/// The policy is refused before the application, and the application before the policy's trees.
-#[test]
-fn trees_come_behind_the_application(rt: HostRuntime) -> Result<(), Fail> {
-    let alloc = rt.alloc();
-    for (policy, exit, line) in [
-        ("slots = 0", 1, "policy refused: bad-value slots\n"),
-        (
-            "[[fs.tree]]\nname = \"t\"\nmount = \"f\"",
-            2,
-            "application refused: malformed at 0\n",
-        ),
-    ] {
-        let files = files_of(alloc, b"", policy.as_bytes(), 200, &[])?;
-        let ran = run_on(alloc, &WORDS, files, sink_of(alloc, &[])?)?;
-        assert_eq!(rt; ran.code, exit, "{policy}");
-        assert_eq!(rt; ran.text.as_slice(), line.as_bytes());
-        assert!(rt; ran.out.is_none());
-    }
     Ok(())
 }

@@ -3,3 +3,7 @@
 
 #[cfg(test)]
 mod calls;
+#[cfg(test)]
+mod fixtures;
+#[cfg(test)]
+mod refusals;
