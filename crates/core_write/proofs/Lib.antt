@@ -7,3 +7,4 @@ pub mod ModuleWriting
 pub mod Opcodes
 pub mod Expressions
 pub mod Shortest
+pub mod Writable

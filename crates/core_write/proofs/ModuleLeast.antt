@@ -80,7 +80,7 @@ pub record Kept (s : Progress) (size : ℕ) : Type 0 where
 wider : (s : Progress) (size total : ℕ) → size ≤ total → Kept s size → Kept s total
 wider s size total le k = record { fits = k.fits; found = k.found; rank = k.rank; small = omega (arith, k.small, le); later = k.later }
 
-none_added : (m : Module) (r n size total : ℕ) → r ≤ n → size ≤ total → Kept (record { rank = r; found = m }) size → Kept (record { rank = n; found = m }) total
+pub none_added : (m : Module) (r n size total : ℕ) → r ≤ n → size ≤ total → Kept (record { rank = r; found = m }) size → Kept (record { rank = n; found = m }) total
 none_added m r n size total up le k = record { fits = k.fits; found = k.found; rank = omega (arith, k.rank, up); small = omega (arith, k.small, le); later = up_to_more r n (sections_of m) up k.later }
 
 one_added : (s : Progress) (size n : ℕ) (part : CoreSection) → Kept s size → 0 < rank_of part → s.rank < rank_of part → ContentFits s.found part → length (section_bytes part) ≤ n → sections_of (put_section s.found part) ≡ sections_of s.found ++ part ∷ []
@@ -99,7 +99,7 @@ one_added s size n part k h lt content le e =
       later = subst (AllUpTo (rank_of part)) (sym e) (up_to_both (rank_of part) (sections_of s.found) (part ∷ []) (up_to_more s.rank (rank_of part) (sections_of s.found) (omega (arith, lt)) k.later) (omega arith, tt));
     }
 
-added : (s : Progress) (size n : ℕ) (part : CoreSection) → Kept s size → 0 < rank_of part → s.rank < rank_of part → ContentFits s.found part → length (section_bytes part) ≤ n → Kept (add_section s part) (size + n)
+pub added : (s : Progress) (size n : ℕ) (part : CoreSection) → Kept s size → 0 < rank_of part → s.rank < rank_of part → ContentFits s.found part → length (section_bytes part) ≤ n → Kept (add_section s part) (size + n)
 added s size n part k h lt content le =
     subst (λ (t : Progress). Kept t (size + n)) (sym (add_is s part h))
     (elim (grows s.found part s.rank (empty_from s.rank s.found k.later) lt) [
@@ -128,11 +128,11 @@ kept_parts (part ∷ parts) s size total at text k h w le =
           kept_parts parts (add_section s part) (size + length w.0) total (at + length w.0) w.1 k2 b.1 w.3 (omega (arith, le, split))
     ]
 
-kept_none : Kept no_sections 0
+pub kept_none : Kept no_sections 0
 unfolding sections
 kept_none = record { fits = tt; found = refl; rank = omega arith; small = omega arith; later = tt }
 
-found_fits : (t : Progress) → has_counts t ≡ true → (size : ℕ) → Kept t size → core_module.Fits t.found × (length (core_module.write t.found) ≤ 8 + size)
+pub found_fits : (t : Progress) → has_counts t ≡ true → (size : ℕ) → Kept t size → core_module.Fits t.found × (length (core_module.write t.found) ≤ 8 + size)
 unfolding core_module all_sections sections
 found_fits t may size k =
     let c : Progress = rebuilt t.found in

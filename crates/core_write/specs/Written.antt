@@ -59,3 +59,15 @@ pub record ModuleFits (m : Module) : Type 0 where
   pub data_count : NumberFits m.data_count
   pub code : ListFits (sized body) m.code
   pub segments : ListFits segment m.segments
+
+-- as many as a count says, if there is one
+abbrev pub IsCounted : Option ℕ → ℕ → Type 0
+IsCounted None n = Unit {0}
+IsCounted (Some count) n = n ≡ count
+
+-- a module that may be written: each of its lists may, there are as many bodies as functions, and as many segments as a data
+-- count says
+pub record IsWritable (m : Module) : Type 0 where
+  pub fits : ModuleFits m
+  pub bodies : length m.code ≡ length m.functions
+  pub segments : IsCounted m.data_count (length m.segments)

@@ -3,9 +3,11 @@
 
 mod instrs;
 mod items;
+mod laws;
 mod ops;
 mod sections;
 mod types;
 mod writing;
 
-pub use writing::write_module;
+pub use laws::writable_modules_are_spelled;
+pub use writing::{write_module, write_writable};

@@ -1,7 +1,7 @@
 ghost use Rattle.std.specs.Prelude.{◌≡◌, ◌++◌, ℕ, List, IfOk};
 ghost use Rattle.wasm_format.specs.Format.{Format, AreBytes};
 ghost use Rattle.wasm_ast.specs.Modules.{core_module, SpellsModule};
-ghost use Rattle.core_write.specs.Written.{IsShortestOf, ModuleFits, module_bytes};
+ghost use Rattle.core_write.specs.Written.{IsShortestOf, IsWritable, ModuleFits, module_bytes};
 
 use crate::sections::{put_back, put_front};
 use std::alloc::Global;
@@ -29,6 +29,17 @@ fn module_out(alloc: Global, module: &Module) -> Result<Vec<u8>, NoMemory>
 #[tactic(auto, using(crate::proofs::Shortest::is_shortest, crate::proofs::Shortest::is_written))]
 pub fn write_module(alloc: Global, module: &Module) -> Result<Vec<u8>, NoMemory>
     requires { (text : List ℕ) × AreBytes text × SpellsModule «module».now text }
+    ensures shortest { IfOk result (λ out. IsShortestOf «module».now out.items) }
+    ensures written { IfOk result (λ out. out.items ≡ core_module.write «module».now) }
+{
+    module_out(alloc, module)
+}
+
+/// The same of a module of which it is known that it may be written: its counts, sizes and indexes are below 2^32, its names are
+/// UTF-8, and brackets match.
+#[tactic(auto, using(crate::proofs::Writable::fitting_is_shortest, crate::proofs::Writable::fitting_is_written))]
+pub fn write_writable(alloc: Global, module: &Module) -> Result<Vec<u8>, NoMemory>
+    requires { IsWritable «module».now }
     ensures shortest { IfOk result (λ out. IsShortestOf «module».now out.items) }
     ensures written { IfOk result (λ out. out.items ≡ core_module.write «module».now) }
 {
