@@ -2,6 +2,7 @@
 use Rattle.std.proofs.Common.{◌≡◌, ◌≢◌, ℕ, zero, suc, ◌+◌, ◌-◌, ◌*◌, ◌<◌, ◌≤◌, ◌^◌, ◌==◌, List, [], ◌∷◌, ◌++◌, Bool, true, false, Option, Some, None, IsSome, All, map, length, refl, sym, ap, ◌∙◌, subst, arith, inl, inr, lit<, lit≤, append-nil}
 use Rattle.std.specs.Prelude.{slice_get, if◌then◌else◌, IfSome}
 use Rattle.std.specs.Int.{from_bool}
+use Rattle.std.proofs.lemmas.Bool.{lt-ltb}
 use Rattle.wasm_ast.specs.declared.module.Body.{Body}
 use Rattle.slot_tables.specs.Places.{entry_of as entry_in}
 use Rattle.handle_space.specs.HandleMap.{HandleMap, Answered, take_own}
@@ -22,12 +23,14 @@ use Rattle.adapter_code.specs.Enough.{Behind, Enough}
 use Rattle.table_bytes.specs.declared.entry.Entry.{Entry}
 use Rattle.table_bytes.specs.declared.entry.Entry.TheVariants.{Host, Node, FileAt, EmptyIn, Discard, Always, Entries, ScratchRoot, ScratchEntries, ScratchFile, ScratchIn, ScratchOut}
 use Rattle.table_bytes.specs.Entries.{entry_of}
-use Rattle.table_bytes.specs.Table.{spot, place_of, place_at, places_of, IsTable, Changed}
+use Rattle.table_bytes.specs.Table.{spot, place_of, place_at, first_of, places_of, IsTable, Changed}
 use Rattle.table_bytes.specs.Routines.{free_code, locals_of, state_of, FreeEnds}
 use Rattle.table_bytes.proofs.Places.{place_words, used_place}
 use Rattle.table_bytes.proofs.Frees.{free-run}
 use Rattle.slot_tables.specs.declared.cells.Place.{Place}
 use Rattle.slot_tables.specs.declared.cells.Place.TheVariants.{Free, Used}
+use Rattle.routine_forms.proofs.Fine.{well_formed_is}
+use Rattle.routine_forms.proofs.Own.{alike_inside}
 use Rattle.adapter_compile.specs.declared.calls.HandleCalls.{HandleCalls}
 use Rattle.adapter_compile.specs.Bounds.{brackets}
 use Rattle.adapter_compile.specs.Handles.{HasCalls}
@@ -153,22 +156,17 @@ module _ (base capacity free at : ℕ) (e : Entry) (m : List ℕ) (h : HandleMap
 
   -- ---- the same at home in the destructor's locals
   freed_inside : (places : List ℕ) (outer : List Local) (h' : HandleMap ℕ) (extra : List Effect) (r : Run) → IsFreed base capacity free at start h' extra (ended r) → IsFreed base capacity free at start h' extra (ended (run_inside places outer r))
-  freed_inside places outer h' extra (Next k s) p = record { end = p.end; changed = p.changed; table = p.table; effects = p.effects }
-  freed_inside places outer h' extra (Left name k s) p = record { end = p.end; changed = p.changed; table = p.table; effects = p.effects }
-  freed_inside places outer h' extra (Over end' k s) p = record { end = p.end; changed = p.changed; table = p.table; effects = p.effects }
-
-  end_inside : (places : List ℕ) (outer : List Local) (r : Run) → (ended (run_inside places outer r)).end ≡ (ended r).end
-  end_inside places outer (Next k s) = refl
-  end_inside places outer (Left name k s) = refl
-  end_inside places outer (Over end' k s) = refl
-
-  count_inside : (places : List ℕ) (outer : List Local) (r : Run) → (ended (run_inside places outer r)).count ≡ (ended r).count
-  count_inside places outer (Next k s) = refl
-  count_inside places outer (Left name k s) = refl
-  count_inside places outer (Over end' k s) = refl
+  freed_inside places outer h' extra r p =
+      let a = alike_inside places outer r in
+      record {
+        end = a.end ∙ p.end;
+        changed = subst (λ n. Changed m n base capacity (free + 1) at (Free (first_of m base capacity))) (sym a.memory) p.changed;
+        table = a.table ∙ p.table;
+        effects = a.effects ∙ p.effects;
+      }
 
   drops_inside : (places : List ℕ) (outer : List Local) (kind index : ℕ) (o : Option (Answered ℕ ℕ)) (r : Run) → Drops kind index base capacity free at start o (ended r) → Drops kind index base capacity free at start o (ended (run_inside places outer r))
-  drops_inside places outer kind index None r p = end_inside places outer r ∙ p
+  drops_inside places outer kind index None r p = (alike_inside places outer r).end ∙ p
   drops_inside places outer kind index (Some a) r p = freed_inside places outer a.map (Dropped kind a.answer index ∷ []) r p
 
   releases_inside : (places : List ℕ) (outer : List Local) (kind : ℕ) (o : Option ℕ) (r : Run) → Releases kind o base capacity free at start (ended r) → Releases kind o base capacity free at start (ended (run_inside places outer r))
@@ -176,8 +174,8 @@ module _ (base capacity free at : ℕ) (e : Entry) (m : List ℕ) (h : HandleMap
   releases_inside places outer kind (Some index) r p = drops_inside places outer kind index (take_own h index kind) r p
 
   destroys_inside : (places : List ℕ) (outer : List Local) (host : Option ℕ) (r : Run) → Destroys host base capacity free at e start (ended r) → Destroys host base capacity free at e start (ended (run_inside places outer r))
-  destroys_inside places outer None r p = (omega (arith, p.0, count_inside places outer r), freed_inside places outer h [] r p.1)
-  destroys_inside places outer (Some kind) r p = (omega (arith, p.0, count_inside places outer r), releases_inside places outer kind (host_of e) r p.1)
+  destroys_inside places outer None r p = (omega (arith, p.0, (alike_inside places outer r).count), freed_inside places outer h [] r p.1)
+  destroys_inside places outer (Some kind) r p = (omega (arith, p.0, (alike_inside places outer r).count), releases_inside places outer kind (host_of e) r p.1)
 
   pub destroyed_home : (host : Option ℕ) → Destroys host base capacity free at e start (routine_run (routine_of host base) start)
   destroyed_home host =
@@ -209,8 +207,8 @@ has_calls calls None base can = (tt, (tt, (tt, (tt, (tt, (tt, (tt, tt), (tt, (tt
 has_calls calls (Some kind) base can = (tt, (tt, (tt, (tt, (tt, (tt, (tt, ((tt, (can, tt)), tt, (tt, (tt, (tt, (tt, (tt, (tt, (tt, tt), (tt, (tt, (tt, (tt, (tt, (tt, tt))))))))))))))))))))
 
 pub fine_destructor : (host : Option ℕ) (base : ℕ) → IfSome host (λ kind. kind < 14) → IsWellFormed destroy_widths [] (routine_of host base)
-fine_destructor None base lt = (lit< tt, (lit< tt, ((Narrow, refl, refl, refl), ((Narrow, refl, refl, refl), ((Narrow, refl, refl, inr (inr refl)), (refl, tt, (lit< tt, tt), ((Narrow, refl, refl, inr (inr refl)), (lit< tt, ((Narrow, refl, refl, inl refl), (lit< tt, ((Narrow, refl, refl, refl), ((Narrow, refl, refl, inr (inr refl)), tt))))))))))))
-fine_destructor (Some kind) base lt = (lit< tt, (lit< tt, ((Narrow, refl, refl, refl), ((Narrow, refl, refl, refl), ((Narrow, refl, refl, inl refl), (lit< tt, ((Narrow, refl, refl, refl), (refl, ((Narrow, refl, refl, inr (inr refl)), ((lt, refl), tt)), tt, (lit< tt, (lit< tt, ((Narrow, refl, refl, refl), ((Narrow, refl, refl, refl), ((Narrow, refl, refl, inr (inr refl)), (refl, tt, (lit< tt, tt), ((Narrow, refl, refl, inr (inr refl)), (lit< tt, ((Narrow, refl, refl, inl refl), (lit< tt, ((Narrow, refl, refl, refl), ((Narrow, refl, refl, inr (inr refl)), tt))))))))))))))))))))
+fine_destructor None base lt = well_formed_is destroy_widths [] (routine_of None base) refl
+fine_destructor (Some kind) base lt = well_formed_is destroy_widths [] (routine_of (Some kind) base) (rw (lt-ltb kind 14 lt) refl)
 
 pub shallow_destructor : (host : Option ℕ) (base : ℕ) → brackets (routine_of host base) ≤ 1
 shallow_destructor None base = lit≤ tt

@@ -2,39 +2,19 @@
 
 ghost use Rattle.std.specs.Prelude.{◌≡◌, ◌<◌, IfOk, IfSome};
 ghost use Rattle.adapter_code.specs.Code.{code_of};
-ghost use Rattle.adapter_code.specs.Placed.{placed};
 ghost use Rattle.adapter_compile.specs.Does.{body_of};
-ghost use Rattle.adapter_state.specs.Destructor.{release_code, routine_of, destroy_places, destroy_widths, IsDestructor};
+ghost use Rattle.adapter_state.specs.Destructor.{release_code, destroy_code, routine_of, destroy_widths, IsDestructor};
 
-use adapter_code::{
-    Field, IntOp, Statement, Statements, Width, add, append, choose, constant, load, multiply,
-};
+use adapter_code::{Statements, Width, append, constant, load};
 use adapter_compile::{HandleCalls, compile};
+use routine_forms::{drop_handle, equal, placed_at, when};
 use std::alloc::Global;
-use table_bytes::{TableLocals, free};
+use table_bytes::{OWN, TAG, WORD, own_free, to_place};
 use virt_base::NoMemory;
 use wasm_ast::Body;
 
-const LOCALS: TableLocals = TableLocals {
-    base: 1,
-    place: 0,
-    scratch: 2,
-    spot: 3,
-    found: 4,
-    tag: 5,
-    word: 6,
-    long: 7,
-};
-
-const TAG: Field = Field {
-    offset: 8,
-    width: 1,
-};
-
-const WORD: Field = Field {
-    offset: 12,
-    width: 4,
-};
+/// Where the locals of the routines on slot tables stand: the place is the parameter.
+const PLACES: [u32; 8] = [1, 0, 2, 3, 4, 5, 6, 7];
 
 /// The body of the destructor of a kind whose slot table begins at `base`: a function of a place. A kind that the host has is
 /// given.
@@ -68,11 +48,19 @@ pub fn destructor(
 fn destroy(alloc: Global, base: u32, host: Option<u8>) -> Result<Statements, NoMemory>
     ensures { IfOk result (λ list. code_of list.items ≡ routine_of host base) }
 {
+    let own = own_destroy(alloc, base, host)?;
+    placed_at(alloc, &PLACES, &own)
+}
+
+// Over the locals of `OWN`.
+fn own_destroy(alloc: Global, base: u32, host: Option<u8>) -> Result<Statements, NoMemory>
+    ensures { IfOk result (λ list. code_of list.items ≡ destroy_code host base) }
+{
     match host {
-        None => free(alloc, base, &LOCALS),
+        None => own_free(alloc, base),
         Some(kind) => {
             let mut list = release(alloc, base, kind)?;
-            append(&mut list, free(alloc, base, &LOCALS)?)?;
+            append(&mut list, own_free(alloc, base)?)?;
             Ok(list)
         }
     }
@@ -80,36 +68,16 @@ fn destroy(alloc: Global, base: u32, host: Option<u8>) -> Result<Statements, NoM
 
 // Drops the host's handle in a place that holds one.
 fn release(alloc: Global, base: u32, kind: u8) -> Result<Statements, NoMemory>
-    ensures { IfOk result (λ list. code_of list.items ≡ placed destroy_places (release_code kind base)) }
+    ensures { IfOk result (λ list. code_of list.items ≡ release_code kind base) }
 {
-    let TableLocals {
-        scratch,
-        spot,
-        found,
-        tag,
-        word,
-        place,
-        ..
-    } = LOCALS;
-    let drops = vec![in alloc;
-        load(word, spot, WORD),
-        Statement::DropHandle { kind, index: word },
+    let drops = vec![in alloc; load(OWN.word, OWN.spot, WORD), drop_handle(kind, OWN.word)]?;
+    let mut list = to_place(alloc, base)?;
+    let held = vec![in alloc;
+        load(OWN.tag, OWN.spot, TAG),
+        constant(OWN.found, 1),
+        equal(OWN.found, OWN.tag, OWN.found),
+        when(alloc, OWN.found, drops),
     ]?;
-    let op = IntOp::Eq;
-    let list = vec![in alloc;
-        constant(LOCALS.base, base as u64),
-        constant(scratch, 16),
-        multiply(spot, place, scratch),
-        add(spot, spot, LOCALS.base),
-        load(tag, spot, TAG),
-        constant(found, 1),
-        Statement::Int {
-            op,
-            to: found,
-            a: tag,
-            b: found
-        },
-        choose(found, drops, Vec::new(alloc)),
-    ]?;
+    append(&mut list, held)?;
     Ok(list)
 }

@@ -7,4 +7,4 @@ mod routines;
 
 pub use entry::Entry;
 pub use laws::{free_frees, take_takes, zeros_are_free};
-pub use routines::{TableLocals, free, take};
+pub use routines::{HEAD, LONG, OWN, TAG, TableLocals, WORD, free, own_free, take, to_place};
