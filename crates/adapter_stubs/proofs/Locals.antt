@@ -14,7 +14,7 @@ use Rattle.adapter_code.specs.declared.statement.Width.TheVariants.{Narrow}
 use Rattle.adapter_compile.specs.Does.{core_type, declared_of}
 use Rattle.adapter_valid.proofs.Functions.{get_front, get_back, locals_of, whole_locals}
 use Rattle.adapter_stubs.specs.declared.stub.Stub.{Stub}
-use Rattle.adapter_stubs.specs.Widths.{width_of, IsFlat, widths_of, further, result_width, host_params, first_widths, stub_widths, flag_of, result_of}
+use Rattle.adapter_stubs.specs.Widths.{width_of, IsFlat, widths_of, further, further_of, result_width, host_params, first_widths, stub_widths, flag_of, result_of}
 use Rattle.adapter_stubs.specs.Bodies.{counters_of}
 
 pub flat_same : (t : CoreType) → IsFlat t → core_type (width_of t) ≡ t
@@ -55,26 +55,26 @@ module _ (s : Stub) where
       let p = length s.flat.params in
       let rest = declared_of (drop p (stub_widths s)) (counters_of s) in
       let front : take p (stub_widths s) ≡ P =
-      ap (take p) (append_assoc P (Narrow ∷ (H ++ R ∷ [])) (further 0 s.further)) ∙ taken P ((Narrow ∷ (H ++ R ∷ [])) ++ further 0 s.further) p (sym long_params) in
+      ap (take p) (append_assoc P (Narrow ∷ (H ++ R ∷ [])) (further 0 (further_of s))) ∙ taken P ((Narrow ∷ (H ++ R ∷ [])) ++ further 0 (further_of s)) p (sym long_params) in
       ap (λ l. l ++ spread rest) (sym (ap (map core_type) front ∙ flats_same s.flat.params flat)) ∙ whole_locals p (stub_widths s) (counters_of s)
 
   -- ---- by their places
   pub at_flag : slice_get (stub_widths s) (flag_of s) ≡ Some Narrow
   at_flag =
       let here = get_back P (Narrow ∷ (H ++ R ∷ [])) 0 (flag_of s) (omega (arith, long_params)) in
-      get_front (first_widths s) (further 0 s.further) (flag_of s) Narrow here
+      get_front (first_widths s) (further 0 (further_of s)) (flag_of s) Narrow here
 
   pub at_param : (i : ℕ) (t : CoreType) → slice_get (host_params s.host) i ≡ Some t → slice_get (stub_widths s) (flag_of s + 1 + i) ≡ Some (width_of t)
   at_param i t is =
       let inner = get_front H (R ∷ []) i (width_of t) (slice_get-map width_of (host_params s.host) i ∙ ap (option_map width_of) is) in
       let here = get_back P (Narrow ∷ (H ++ R ∷ [])) (suc i) (flag_of s + 1 + i) (omega (arith, long_params)) in
-      get_front (first_widths s) (further 0 s.further) (flag_of s + 1 + i) (width_of t) (here ∙ inner)
+      get_front (first_widths s) (further 0 (further_of s)) (flag_of s + 1 + i) (width_of t) (here ∙ inner)
 
   pub at_result : slice_get (stub_widths s) (result_of s) ≡ Some R
   at_result =
       let inner = get_back H (R ∷ []) 0 (length (host_params s.host)) (omega (arith, long_host)) in
       let here = get_back P (Narrow ∷ (H ++ R ∷ [])) (suc (length (host_params s.host))) (result_of s) (omega (arith, long_params)) in
-      get_front (first_widths s) (further 0 s.further) (result_of s) R (here ∙ inner)
+      get_front (first_widths s) (further 0 (further_of s)) (result_of s) R (here ∙ inner)
 
   -- in a context that has these locals
   pub local_at : (c : Context) (n i : ℕ) (w : Width) → c.locals ≡ locals_of (stub_widths s) n → slice_get (stub_widths s) i ≡ Some w → slice_get c.locals i ≡ Some (core_type w)

@@ -1,9 +1,11 @@
 -- The locals of a stub.
-use Rattle.std.specs.Prelude.{ℕ, zero, suc, ◌+◌, ◌%◌, ◌==◌, if◌then◌else◌, List, [], ◌∷◌, ◌++◌, Bool, true, false, Option, Some, None, map, length}
+use Rattle.std.specs.Prelude.{ℕ, zero, suc, ◌+◌, ◌-◌, ◌%◌, max, ◌==◌, if◌then◌else◌, List, [], ◌∷◌, ◌++◌, Bool, true, false, Option, Some, None, map, length}
 use Rattle.virt_base.specs.declared.core_type.CoreType.{CoreType}
 use Rattle.virt_base.specs.declared.core_type.CoreType.TheVariants.{I32, I64, Funcref, Externref}
 use Rattle.adapter_code.specs.declared.statement.Width.{Width}
 use Rattle.adapter_code.specs.declared.statement.Width.TheVariants.{Narrow, Broad}
+use Rattle.adapter_code.specs.Code.{code_of}
+use Rattle.routine_locals.specs.Named.{span}
 use Rattle.adapter_stubs.specs.declared.stub.HostFunc.{HostFunc}
 use Rattle.adapter_stubs.specs.declared.stub.Stub.{Stub}
 
@@ -50,8 +52,12 @@ host_params (Some h) = h.flat.params
 abbrev pub first_widths : Stub → List Width
 first_widths s = widths_of s.flat.params ++ Narrow ∷ (widths_of (host_params s.host) ++ result_width s.flat.results ∷ [])
 
+-- how many stand behind these, up to the greatest that its routines name
+abbrev pub further_of : Stub → ℕ
+further_of s = max (span (code_of s.before.items)) (span (code_of s.after.items)) - length (first_widths s)
+
 abbrev pub stub_widths : Stub → List Width
-stub_widths s = first_widths s ++ further 0 s.further
+stub_widths s = first_widths s ++ further 0 (further_of s)
 
 -- where the flag stands, and the flat result
 abbrev pub flag_of : Stub → ℕ

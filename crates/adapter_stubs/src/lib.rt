@@ -15,3 +15,4 @@ pub use host_call::HostCall;
 pub use laws::{stubs_ask, stubs_run};
 pub use stub::{HostFunc, Stub};
 pub use stubs::stubs_module;
+pub use widths::stub_widths;

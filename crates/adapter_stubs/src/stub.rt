@@ -11,13 +11,13 @@ pub struct HostFunc {
 /// What a function of the adapter does, and its lifted type.
 ///
 /// Its locals are first the parameters; then the flag, of 32 bits; then what goes to the host's function; then the flat
-/// result, of 32 bits where there is none; and then so many further ones, of 32 and of 64 bits in turn. `before` runs first.
-/// Where it leaves a flag that is not 0 and there is a function of the host, that is asked, and `after` runs.
+/// result, of 32 bits where there is none; and then further ones, of 32 and of 64 bits in turn, up to the greatest that the
+/// routines name. `before` runs first. Where it leaves a flag that is not 0 and there is a function of the host, that is
+/// asked, and `after` runs.
 #[derive(Drop)]
 pub struct Stub {
     pub flat: CoreFunc,
     pub before: Statements,
     pub host: Option<HostFunc>,
     pub after: Statements,
-    pub further: u32,
 }

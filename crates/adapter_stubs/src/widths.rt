@@ -1,10 +1,13 @@
 // The locals of a stub.
 
-ghost use Rattle.std.specs.Prelude.{◌≡◌, ◌+◌, ◌++◌, IfOk, OnOk};
+ghost use Rattle.std.specs.Prelude.{◌≡◌, ◌+◌, ◌-◌, ◌++◌, IfOk, OnOk, max};
+ghost use Rattle.adapter_code.specs.Code.{code_of};
+ghost use Rattle.routine_locals.specs.Named.{span};
 ghost use Rattle.adapter_stubs.specs.Widths.{width_of as width_from, widths_of, width_at as width_in_turn, further, result_width as result_from, host_params, stub_widths as stub_widths_of};
 
 use crate::stub::{HostFunc, Stub};
 use adapter_code::Width;
+use routine_locals::locals_named;
 use std::alloc::Global;
 use virt_base::{CoreType, NoMemory};
 
@@ -17,7 +20,8 @@ pub fn stub_widths(alloc: Global, stub: &Stub) -> Result<Vec<Width>, NoMemory>
     widths.push(Width::Narrow)?;
     put_host(&mut widths, &stub.host)?;
     widths.push(result_width(stub.flat.results.as_slice()))?;
-    put_further(&mut widths, stub.further)?;
+    let first = widths.len() as u64;
+    put_further(&mut widths, named_behind(stub, first))?;
     Ok(widths)
 }
 
@@ -39,7 +43,17 @@ fn put_host(widths: &mut Vec<Width>, host: &Option<HostFunc>) -> Result<(), NoMe
     }
 }
 
-fn put_further(widths: &mut Vec<Width>, count: u32) -> Result<(), NoMemory>
+// How many locals the routines name behind the first ones.
+fn named_behind(stub: &Stub, first: u64) -> u64
+    ensures { result ≡ max (span (code_of stub.now.before.items)) (span (code_of stub.now.after.items)) - first }
+{
+    let before = locals_named(&stub.before);
+    let after = locals_named(&stub.after);
+    let most = if before < after { after } else { before };
+    most.saturating_sub(first)
+}
+
+fn put_further(widths: &mut Vec<Width>, count: u64) -> Result<(), NoMemory>
     ensures { OnOk result (widths.new.items ≡ widths.old.items ++ further 0 count) }
 {
     for i in 0..count {
@@ -48,7 +62,7 @@ fn put_further(widths: &mut Vec<Width>, count: u32) -> Result<(), NoMemory>
     Ok(())
 }
 
-fn width_at(i: u32) -> Width
+fn width_at(i: u64) -> Width
     ensures { result ≡ width_in_turn i }
 {
     if i % 2 == 0 {

@@ -27,7 +27,6 @@ pub fn sum(alloc: Global) -> Result<Stub, NoMemory>
         before,
         host: None,
         after: Vec::new(alloc),
-        further: 1,
     })
 }
 
@@ -52,7 +51,6 @@ pub fn asking(alloc: Global, function: u32) -> Result<Stub, NoMemory>
         before,
         host: Some(HostFunc { function, flat }),
         after,
-        further: 3,
     })
 }
 
@@ -65,7 +63,6 @@ pub fn peek(alloc: Global) -> Result<Stub, NoMemory>
         before: vec![in alloc; load(2, 0, WORD)]?,
         host: None,
         after: Vec::new(alloc),
-        further: 0,
     })
 }
 
@@ -78,7 +75,6 @@ pub fn poke(alloc: Global) -> Result<Stub, NoMemory>
         before: vec![in alloc; store(1, 0, WORD)]?,
         host: None,
         after: Vec::new(alloc),
-        further: 0,
     })
 }
 
@@ -96,7 +92,6 @@ pub fn make(alloc: Global) -> Result<Stub, NoMemory>
         before: vec![in alloc; statement]?,
         host: None,
         after: Vec::new(alloc),
-        further: 0,
     })
 }
 
