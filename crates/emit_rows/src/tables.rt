@@ -56,3 +56,25 @@ fn two_places_are_given_freed_and_given_again(rt: HostRuntime) -> Result<(), Fai
     assert_eq!(rt; ran.front, [0x0001_0000_0101_0001, 0, 0, 0]);
     Ok(())
 }
+
+// A block, the base, the head, its test, the capacity, the comparison and its test take 16 steps; that the place leaves the
+// chain, as one that was never used, and gets its entry takes 33.
+#[test]
+fn a_place_is_taken_in_49_steps(rt: HostRuntime) -> Result<(), Fail> {
+    let alloc = rt.alloc();
+    let routine = take(alloc, 32, 2, &LOCALS)?;
+    let locals = [
+        Small(9),
+        Small(9),
+        Small(9),
+        Small(9),
+        Small(9),
+        Small(3),
+        Small(1),
+        Wide(2),
+    ];
+    let ran = run_both(&rt, alloc, &routine, &locals, &[])?;
+    assert_eq!(rt; ran.end, CodeEnd::Answer);
+    assert_eq!(rt; ran.steps, 1 + 2 + 3 + 2 + 2 + 4 + 2 + 33);
+    Ok(())
+}
