@@ -8,7 +8,7 @@ use Rattle.instance_handles.specs.declared.fault.HandleFault.TheVariants.{Trap, 
 use Rattle.instance_state.specs.declared.instance.Instance.{Instance}
 
 abbrev pub config_of : Instance → Config ℕ
-config_of i = record { store = i.store; map = i.handles; entered = i.entered; closed = i.closed }
+config_of i = record { store = i.code.store; map = i.handles; entered = i.entered; closed = i.closed }
 
 -- The operation went, and left the instance so; or it does not go.
 abbrev pub Goes : Option (Local ℕ (Unit {0})) → Config ℕ → Result (Unit {0}) TrapType → Type 0

@@ -4,7 +4,7 @@ ghost use Rattle.comp_worlds.specs.Locals.{is_open as opens, enter as enters, ex
 ghost use Rattle.comp_worlds.specs.Calls.{at_rest, plainly};
 ghost use Rattle.instance_state.specs.Shown.{config_of, Goes, Answers, AnswersInMemory};
 
-use core_store::Store;
+use core_runs::CoreRuns;
 use instance_handles::{HandleFault, Handles};
 use std::alloc::Global;
 use virt_base::Trap;
@@ -12,7 +12,7 @@ use virt_base::Trap;
 /// A component instance at a moment.
 #[derive(Drop)]
 pub struct Instance {
-    pub store: Store,
+    pub code: CoreRuns,
     pub handles: Handles,
     /// A call of one of its functions is in progress.
     pub entered: bool,
@@ -26,7 +26,7 @@ impl Instance {
         ensures { config_of result ≡ record at_rest { store = empty_store } }
     {
         Instance {
-            store: Store::new(alloc),
+            code: CoreRuns::new(alloc),
             handles: Handles::new(alloc),
             entered: false,
             closed: false,
