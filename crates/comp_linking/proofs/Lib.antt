@@ -1,0 +1,12 @@
+pub mod DraftLemmas
+pub mod StayLemmas
+pub mod StepLemmas
+pub mod LeadLemmas
+pub mod RestLemmas
+pub mod FirstLemmas
+pub mod NameLemmas
+pub mod NestLemmas
+pub mod PartLemmas
+pub mod DraftAt
+pub mod TypeLemmas
+pub mod LinkLemmas

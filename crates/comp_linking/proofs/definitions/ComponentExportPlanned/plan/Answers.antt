@@ -1,0 +1,14 @@
+use Rattle.std.proofs.Common.{refl, ◌++◌, Some}
+use Rattle.comp_rules.specs.Definitions.{AnExport}
+use Rattle.comp_linking.specs.Walks.{spaces, made}
+use Rattle.comp_linking.proofs.StayLemmas.{export_stays}
+use Rattle.comp_linking.proofs.StepLemmas.{behind_judged}
+use Rattle.comp_linking.proofs.definitions.ComponentExportPlanned.plan.Goals as goal
+
+pub returns : goal.returns
+returns c = λ ms todo outer a valid h.
+    let x = c.args.planner.now in
+    behind_judged ms todo outer a (AnExport c.args.self.now) x c.define_export.new.scope c.in_ok-define_export.field-0 c.add.new.self (Some c.in_ok-item.item) h
+    (c.in_ok-define_export.ensures (spaces outer) a.space h.scopes.inner) (λ r b. b.0 (valid r)) refl (export_stays (spaces outer) a.space c.args.self.now)
+    c.in_ok-add.ensures.modules c.in_ok-add.ensures.components c.in_ok-add.ensures.items
+    (λ more. c.in_ok-item.ensures ms (made ms x.components.items ++ more) a.space h.scopes.inner)

@@ -1,0 +1,4 @@
+pub mod Walks
+pub mod Goes
+pub mod Names
+pub mod Firsts
