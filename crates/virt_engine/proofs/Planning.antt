@@ -197,7 +197,7 @@ module _ (c : Command) (policy : Policy) (s t : FilesState) (p : FetchesPolicy c
         inr (inr (policy, p.policy, (app.bytes.items, has_app, λ told. subst (λ (held : Held). Contains (trees_due held policy).asks kept) stays_u (h.1 (told_u told)), λ told steady. by_trees told (FileFault kept) (h.2 (told_u told) (goes_u.steady steady) Done)))),
       )
       refused_trees NoMemory m h = tt
-      refused_trees (OverLimit what value) m h = (inr (inr (policy, u, (w, m))), λ told. by_trees told (OverLimit what value) (h (told_u told) Done))
+      refused_trees (OverLimit what value) m h = (inr (inr h.0), λ told. by_trees told (OverLimit what value) (h.1 (told_u told) Done))
       refused_trees (PolicyRefused fault) m h = λ told. by_trees told (PolicyRefused fault) (h (told_u told) Done)
       refused_trees Done m h = absurd h
       refused_trees (AppRefused fault) m h = absurd h

@@ -26,7 +26,7 @@ use Rattle.virt_engine.specs.PolicyTrees.{with_trees, trees_verdict}
 use Rattle.virt_engine.specs.Plan.{IsPolicyFile, IsDueUnder, IsDueOf, IsDueFor, IsDue, IsAccepted, NoFileDue, written_by, Plans, IsReady, RefusalOf, Wrote, DueOf, FilesQuiet, Finishes, Ran, RanCommand, Completes, Accepts, Delivers}
 use Rattle.policy_data.specs.declared.policy.Policy.{Policy}
 use Rattle.policy_data.specs.declared.fault.ReadPolicyFault.{ReadPolicyFault}
-use Rattle.mount_tree.specs.declared.policy_trees.Forest.{Forest}
+use Rattle.mount_tree.specs.declared.forest.Forest.{Forest}
 use Rattle.mount_tree.specs.declared.fault.TreeFault.{TreeFault}
 use Rattle.virt_engine.proofs.PolicyLaws.{well_formed_due}
 use Rattle.virt_engine.proofs.Adding.{goes_on}

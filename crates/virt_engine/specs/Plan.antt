@@ -6,7 +6,8 @@ use Rattle.outside.specs.Files.{FilesState, Held, Goes, with_file, no_place}
 use Rattle.outside.specs.Sink.{SinkState}
 use Rattle.policy_data.specs.declared.policy.Policy.{Policy}
 use Rattle.policy_toml.specs.Policy.{IsWellFormed}
-use Rattle.mount_tree.specs.declared.policy_trees.Forest.{Forest}
+use Rattle.mount_tree.specs.declared.forest.Forest.{Forest}
+use Rattle.mount_tree.specs.Runs.{IsAbove}
 use Rattle.mount_tree.specs.Building.{trees_due}
 use Rattle.comp_grammar.specs.Trees.{Tree}
 use Rattle.comp_rules.specs.Added.{type_of}
@@ -20,7 +21,7 @@ use Rattle.virt_engine.specs.Output.{IsOutputOf, output_bytes}
 use Rattle.virt_engine.specs.Fetching.{IsFileFault}
 use Rattle.virt_engine.specs.Policies.{policy_limit, IsPolicyVerdict, HasPolicy, IsPolicyOver}
 use Rattle.virt_engine.specs.Apps.{app_limit, IsAppVerdict, IsAppFile, HasApp, HasRefused, IsAppOver}
-use Rattle.virt_engine.specs.PolicyTrees.{trees_verdict, HasTrees, MakesTrees}
+use Rattle.virt_engine.specs.PolicyTrees.{trees_verdict, HasTrees}
 use Rattle.virt_engine.specs.Report.{Puts, Reports}
 use Rattle.virt_engine.specs.Writing.{LeftOf}
 
@@ -79,10 +80,9 @@ DueTree c s kept = (policy : Policy) × HasPolicy c.policy s policy × ((app : L
 abbrev pub DueName : Command → FilesState → List ℕ → Type 0
 DueName c s kept = DuePolicy c s kept ⊎ DueApp c s kept ⊎ DueTree c s kept
 
--- The quantity that is named is above its limit: of the policy, of the application, or of the trees of a policy.
+-- The quantity that is named is above its limit: of the policy, of the application, or of the policy's trees.
 abbrev pub IsOver : List ℕ → ℕ → Type 0
-IsOver what value = IsPolicyOver what value ⊎ IsAppOver what value
-    ⊎ ((policy : Policy) × (s : FilesState) × ((t : FilesState) × MakesTrees policy s t (Err (OverLimit what value))))
+IsOver what value = IsPolicyOver what value ⊎ IsAppOver what value ⊎ IsAbove what value
 
 -- A refusal before any write: a fault that was counted, want of memory, or what the definition says.
 abbrev pub RefusalOf : Command → FilesState → FilesState → Status → Type 0

@@ -8,6 +8,7 @@ use Rattle.outside.specs.Files.{FilesState, Held, Goes}
 use Rattle.policy_data.specs.declared.fault.ReadPolicyFault.{ReadPolicyFault}
 use Rattle.policy_data.specs.declared.fault.ReadPolicyFault.TheVariants as faults
 use Rattle.policy_data.specs.declared.policy.Policy.{Policy}
+use Rattle.policy_data.specs.Limits.{KeepsLimits}
 use Rattle.policy_toml.specs.Policy.{policy_of, IsWellFormed}
 use Rattle.virt_engine.specs.declared.status.PolicyFault.TheVariants.{NotToml, BadKey, BadValue, BadName}
 use Rattle.virt_engine.specs.declared.status.Status.{Status}
@@ -52,7 +53,7 @@ IsPolicyVerdict held name status = (next : Policy → Status) → policy_verdict
 
 -- What reading a policy's text answers.
 abbrev pub ReadsPolicy : List ℕ → Result Policy Status → Type 0
-ReadsPolicy text (Ok policy) = IsWellFormed text policy × (policy_due text ≡ Ok policy)
+ReadsPolicy text (Ok policy) = IsWellFormed text policy × (policy_due text ≡ Ok policy) × KeepsLimits policy
 ReadsPolicy text (Err status) = (status ≡ NoMemory) ⊎ ((fault : ReadPolicyFault) × (policy_due text ≡ Err fault) × (refused_for fault ≡ status))
 
 -- The policy's file is within its limit and its text stands for the policy.
@@ -60,6 +61,7 @@ pub record HasPolicy (name : List ℕ) (s : FilesState) (policy : Policy) : Type
   pub text : List ℕ
   pub short : length text ≤ policy_limit
   pub well_formed : IsWellFormed text policy
+  pub limits : KeepsLimits policy
   pub there : s.told ≡ true → s.held.file name ≡ Some text
   pub taken : s.told ≡ true → (next : Policy → Status) → policy_verdict s.held name next ≡ next policy
 

@@ -5,7 +5,8 @@ use Rattle.outside.specs.Files.{FilesState, Held, Goes}
 use Rattle.policy_data.specs.declared.policy.Policy.{Policy}
 use Rattle.mount_tree.specs.declared.fault.TreeFault.{TreeFault}
 use Rattle.mount_tree.specs.declared.fault.TreeFault.TheVariants as faults
-use Rattle.mount_tree.specs.declared.policy_trees.Forest.{Forest}
+use Rattle.mount_tree.specs.declared.forest.Forest.{Forest}
+use Rattle.mount_tree.specs.Runs.{IsAbove}
 use Rattle.mount_tree.specs.Building.{trees_due}
 use Rattle.virt_engine.specs.declared.status.PolicyFault.TheVariants.{BadName}
 use Rattle.virt_engine.specs.declared.status.Status.{Status}
@@ -44,7 +45,7 @@ abbrev pub TreesCause : Policy → FilesState → FilesState → Status → Type
 TreesCause policy s t (FileFault name) = Rose s.faults t.faults × (s.told ≡ true → Contains (trees_due s.held policy).asks name)
     × (s.told ≡ true → s.steady ≡ true → IsTreesVerdict s.held policy (FileFault name))
 TreesCause policy s t NoMemory = Unit {0}
-TreesCause policy s t (OverLimit what value) = s.told ≡ true → IsTreesVerdict s.held policy (OverLimit what value)
+TreesCause policy s t (OverLimit what value) = IsAbove what value × (s.told ≡ true → IsTreesVerdict s.held policy (OverLimit what value))
 TreesCause policy s t (PolicyRefused fault) = s.told ≡ true → IsTreesVerdict s.held policy (PolicyRefused fault)
 TreesCause policy s t _ = ⊥
 

@@ -1,3 +1,4 @@
+ghost use Rattle.policy_data.specs.Limits.{KeepsLimits};
 ghost use Rattle.virt_engine.specs.PolicyTrees.{MakesTrees, IsStoppedBy};
 
 use crate::status::{PolicyFault, Status};
@@ -19,6 +20,7 @@ fn stopped_by(fault: TreeFault) -> Status
 
 /// Makes the trees of a policy. An application without imports sees nothing of them, so they are let go.
 pub fn make_trees<F: Files>(alloc: Global, policy: &Policy, files: &mut F) -> Result<(), Status>
+    requires { KeepsLimits policy.now }
     ensures { MakesTrees policy.now (F.state files.old) (F.state files.new) result }
 {
     match build(alloc, policy, files) {

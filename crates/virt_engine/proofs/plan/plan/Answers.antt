@@ -24,3 +24,6 @@ returns-in-Ok g c =
     plans_ready _ _ _ _ c.in_ok-policy.ensures _ _ c.in_ok-app.ensures _ c.in_ok-make_trees.ensures _ c.in-Ok.ensures.output
     (is_output _ _ tree _ typed.0.application typed.1 c.in-Ok.ensures.output (c.in-Ok.ensures.spelled tree (app_spelled c.in_ok-app.app.bytes.items tree typed.0.application)))
     c.in-Ok.ensures.done c.in-Ok.ensures.fault c.in-Ok.ensures.line
+
+pub make_trees-requires : goal.make_trees-requires
+make_trees-requires g c = c.in_ok-policy.ensures.policy.limits
