@@ -1,5 +1,5 @@
 -- The whole is made as its form says: its own sections make nothing.
-use Rattle.std.proofs.Common.{◌≡◌, ℕ, List, [], ◌∷◌, refl, ◌∙◌, ap}
+use Rattle.std.proofs.Common.{◌≡◌, List, [], ◌∷◌, refl, ◌∙◌, ap}
 use Rattle.std.specs.Prelude.{slice_get}
 use Rattle.comp_grammar.specs.Trees.{Part, Tree, Nested, End as NoParts, More as Section}
 use Rattle.comp_rules.specs.Spaces.{Space}
@@ -8,7 +8,7 @@ use Rattle.comp_link.specs.Plans.{Plan, Planned, End, Then, OfModule, OfCoreItem
 use Rattle.comp_link.specs.Linking.{find, Making, given_at, item_in, with_component, link_item, link, linked}
 use Rattle.comp_inside.specs.Linked.{unmade}
 use Rattle.comp_inside.proofs.Made.{item_whole, export_whole}
-use Rattle.comp_joins.specs.Joining.{OnlyNames, AllName, JoinOnly, in_front, spaces_behind, made_by, Joint, instance_of, joining, with_first, with_second, behind_second, one_scope, both_scope, made_front, made_first, made_between, made_second, Fits}
+use Rattle.comp_joins.specs.Joining.{OnlyNames, AllName, JoinOnly, in_front, spaces_behind, made_by, Joint, instance_of, joining, with_first, with_second, behind_second, one_scope, both_scope, made_front, made_first, made_between, made_second}
 
 names_whole : (item : Planned) (m : Making) → OnlyNames item → (link_item item m).whole ≡ m.whole
 names_whole (OfItems exports) m h = refl
@@ -47,7 +47,7 @@ parts_linked scope s (part ∷ parts) rest m h =
     ∙ link_followed (plan_part [] [] s scope part).plan (plan_tree [] [] (after_part [] s part) scope (in_front parts rest)) m
     ∙ parts_linked scope (after_part [] s part) parts rest (link (plan_part [] [] s scope part).plan m) h.2
 
-module _ (j : Joint) (first second : Tree) (from to : ℕ → ℕ) (fits : Fits j first second from to) where
+module _ (j : Joint) (first second : Tree) (front : JoinOnly no_scope root j.front) (between : JoinOnly (one_scope j first second) (after_part [] (with_first j first second) (instance_of 0 j.first_args)) j.between) (behind : JoinOnly (both_scope j first second) (behind_second j first second) j.behind) where
   abbrev behind_tree : Tree
   behind_tree = in_front j.behind NoParts
 
@@ -57,26 +57,26 @@ module _ (j : Joint) (first second : Tree) (from to : ℕ → ℕ) (fits : Fits 
   abbrev first_tree : Tree
   first_tree = Section (Nested j.first_span first) (Section (instance_of 0 j.first_args) (in_front j.between second_tree))
 
-  abbrev with_second_made : Making
+  abbrev pub with_second_made : Making
   with_second_made = with_component (made_between j first second) (own_numbers (with_second j first second) (slice_get (with_second j first second).components 1)) (made_second j first second)
 
   abbrev with_first_made : Making
   with_first_made = with_component (made_front j first second) (own_numbers (with_first j first second) (slice_get (with_first j first second).components 0)) (made_first j first second)
 
-  abbrev all_made : Making
+  abbrev pub all_made : Making
   all_made = made_by (both_scope j first second) (behind_second j first second) j.behind with_second_made
 
-  linked_joining : linked (joining j first second) ≡ all_made
+  pub linked_joining : linked (joining j first second) ≡ all_made
   linked_joining =
-      parts_linked no_scope root j.front first_tree (unmade (joining j first second)) fits.front
-      ∙ parts_linked (one_scope j first second) (after_part [] (with_first j first second) (instance_of 0 j.first_args)) j.between second_tree with_first_made fits.between
-      ∙ parts_linked (both_scope j first second) (behind_second j first second) j.behind NoParts with_second_made fits.behind
+      parts_linked no_scope root j.front first_tree (unmade (joining j first second)) front
+      ∙ parts_linked (one_scope j first second) (after_part [] (with_first j first second) (instance_of 0 j.first_args)) j.between second_tree with_first_made between
+      ∙ parts_linked (both_scope j first second) (behind_second j first second) j.behind NoParts with_second_made behind
 
   pub front_whole : (made_front j first second).whole ≡ (unmade (joining j first second)).whole
-  front_whole = made_whole no_scope root j.front (unmade (joining j first second)) fits.front
+  front_whole = made_whole no_scope root j.front (unmade (joining j first second)) front
 
   pub between_whole : (made_between j first second).whole ≡ (made_first j first second).whole
-  between_whole = made_whole (one_scope j first second) (after_part [] (with_first j first second) (instance_of 0 j.first_args)) j.between with_first_made fits.between
+  between_whole = made_whole (one_scope j first second) (after_part [] (with_first j first second) (instance_of 0 j.first_args)) j.between with_first_made between
 
   pub joined_whole : (linked (joining j first second)).whole ≡ (made_second j first second).whole
-  joined_whole = ap (λ m. m.whole) linked_joining ∙ made_whole (both_scope j first second) (behind_second j first second) j.behind with_second_made fits.behind
+  joined_whole = ap (λ m. m.whole) linked_joining ∙ made_whole (both_scope j first second) (behind_second j first second) j.behind with_second_made behind

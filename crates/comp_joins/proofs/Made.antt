@@ -129,7 +129,7 @@ module _ (j : Joint) (first second : Tree) (from to : ℕ → ℕ) where
 
     first_begins : begun (and_stage (made_front j first second).whole Begins) first_imports ≡ making_in first_at (unmade first)
     first_begins =
-        ap (λ w. begun (and_stage w Begins) first_imports) (front_whole j first second from to fits)
+        ap (λ w. begun (and_stage w Begins) first_imports) (front_whole j first second fits.front fits.between fits.behind)
         ∙ ap (λ n. first_begun 1 n first_imports) (sym agree.first_begins)
         ∙ ap (λ k. first_begun k (from (first_own first)) first_imports) (sym (left_here (count first) (count second) 0 (some_made first)))
         ∙ ap (first_begun (lefts 0) (from (first_own first))) (sym (all_outside_in [] (imports_of first)))
@@ -215,7 +215,7 @@ module _ (j : Joint) (first second : Tree) (from to : ℕ → ℕ) where
 
     second_begins : begun (and_stage (made_between j first second).whole Begins) (all_met (made_first j first second).exports (hosted (joining j first second)) to [] (imports_of second)) ≡ making_in second_at (unmade second)
     second_begins =
-        ap₂ (λ w g. begun (and_stage w Begins) g) (between_whole j first second from to fits ∙ ap (λ m. m.whole) first_is.is) (all_met_is [] (imports_of second))
+        ap₂ (λ w g. begun (and_stage w Begins) g) (between_whole j first second fits.front fits.between fits.behind ∙ ap (λ m. m.whole) first_is.is) (all_met_is [] (imports_of second))
         ∙ ap (λ k. second_begun k (from (behind_own first)) base.stages base.canons base.owners imported) (sym first_right)
         ∙ ap (λ n. second_begun (rights 0) n base.stages base.canons base.owners imported) (sym agree.second_begins)
         ∙ ap (λ l. second_begun (rights 0) (to (first_own second)) l base.canons base.owners imported) (sym (append-nil base.stages))
@@ -231,4 +231,4 @@ module _ (j : Joint) (first second : Tree) (from to : ℕ → ℕ) where
         (begun_alike (and_stage (made_between j first second).whole Begins) (all_met (made_first j first second).exports (hosted (joining j first second)) to [] (imports_of second)) (given_second j first second) fits.second_given))
 
     pub whole_is : (linked (joining j first second)).whole ≡ whole_in second_at (linked second).whole
-    whole_is = joined_whole j first second from to fits ∙ ap (λ m. m.whole) second_is.is
+    whole_is = joined_whole j first second fits.front fits.between fits.behind ∙ ap (λ m. m.whole) second_is.is

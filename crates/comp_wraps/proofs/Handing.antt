@@ -15,7 +15,7 @@ use Rattle.comp_rules.specs.Added.{after}
 use Rattle.comp_worlds.specs.Groups.{Target}
 use Rattle.comp_link.specs.Plans.{Named, AFunc, AnInstanceAt, Scope, Plan, End, Then, ItemOf, Exports, named_by, resource_or_type, plan_all}
 use Rattle.comp_link.specs.Linking.{Given, Givens, GivenFunc, GivenInstance, GivenResource, GivenType, Nothing, Giving, find, and_given, Making, given_at, and_item, item_in, and_export, link_item, link, target_in, instance_in, exported}
-use Rattle.comp_wraps.specs.Wrapping.{Handed, alias_of, exports_from, is_of_sort, AreThere, IsNamed, AreExports}
+use Rattle.comp_wraps.specs.Wrapping.{Handed, alias_at, exports_from, is_of_sort, AreThere, IsNamed, AreExports}
 
 -- ---- what can be called: functions, and instances with them
 
@@ -55,17 +55,18 @@ length_more (y ∷ xs) x = let e : length (xs ++ x ∷ []) ≡ length xs + 1 = l
 
 -- ---- the plans
 
-abbrev pub items_of : List Handed → Plan
-items_of [] = End
-items_of (e ∷ es) = Then (ItemOf e.sort 0 e.name) (items_of es)
+-- aliases of the instance at this index
+abbrev pub items_at : ℕ → List Handed → Plan
+items_at k [] = End
+items_at k (e ∷ es) = Then (ItemOf e.sort k e.name) (items_at k es)
 
-pub aliases_plan : (s : Space) (scope : Scope) (es : List Handed) → (plan_all [] [] s scope (map AnAlias (map alias_of es))).plan ≡ items_of es
-aliases_plan s scope [] = refl
-aliases_plan s scope (e ∷ es) = ap (Then (ItemOf e.sort 0 e.name)) (aliases_plan (after [] s (AnAlias (alias_of e))) scope es)
+pub aliases_plan : (k : ℕ) (s : Space) (scope : Scope) (es : List Handed) → (plan_all [] [] s scope (map AnAlias (map (alias_at k) es))).plan ≡ items_at k es
+aliases_plan k s scope [] = refl
+aliases_plan k s scope (e ∷ es) = ap (Then (ItemOf e.sort k e.name)) (aliases_plan k (after [] s (AnAlias (alias_at k e))) scope es)
 
-pub aliases_scope : (s : Space) (scope : Scope) (es : List Handed) → (plan_all [] [] s scope (map AnAlias (map alias_of es))).scope ≡ scope
-aliases_scope s scope [] = refl
-aliases_scope s scope (e ∷ es) = aliases_scope (after [] s (AnAlias (alias_of e))) scope es
+pub aliases_scope : (k : ℕ) (s : Space) (scope : Scope) (es : List Handed) → (plan_all [] [] s scope (map AnAlias (map (alias_at k) es))).scope ≡ scope
+aliases_scope k s scope [] = refl
+aliases_scope k s scope (e ∷ es) = aliases_scope k (after [] s (AnAlias (alias_at k e))) scope es
 
 -- each item of the one list is there in the other
 abbrev Keeps : {A : Type 0} → List A → List A → Type 0
@@ -116,15 +117,15 @@ module _ (X : Givens) where
   at_more fs fs' is is' kf ki [] f i h = tt
   at_more fs fs' is is' kf ki (e ∷ es) f i h = at_sort fs fs' is is' (λ f' i'. At X fs is es f' i') (λ f' i'. At X fs' is' es f' i') kf ki (λ f' i' k. at_more fs fs' is is' kf ki es f' i' k) f i e.name e.sort h
 
-  one_alias : (m : Making) (name : Name) (sort : Sort) → slice_get m.instances 0 ≡ Some X → (item : Given) → find name X ≡ Some item → link_item (ItemOf sort 0 name) m ≡ and_item m (Some item)
-  one_alias m name sort first item is = ap (λ z. and_item m (item_in z name)) first ∙ ap (and_item m) is
+  one_alias : (k : ℕ) (m : Making) (name : Name) (sort : Sort) → slice_get m.instances k ≡ Some X → (item : Given) → find name X ≡ Some item → link_item (ItemOf sort k name) m ≡ and_item m (Some item)
+  one_alias k m name sort first item is = ap (λ z. and_item m (item_in z name)) first ∙ ap (and_item m) is
 
   abbrev pub All : List Handed → Making → Making → Type 0
   All es m m' = Aliased X m m' × At X m'.functions m'.instances es (length m.functions) (length m.instances)
 
-  func_then : (name : Name) (es : List Handed) (t : Target) (m : Making) → find name X ≡ Some (GivenFunc t) → All es (and_item m (Some (GivenFunc t))) (link (items_of es) (and_item m (Some (GivenFunc t)))) → All (record { name = name; sort = sorts.Func } ∷ es) m (link (items_of es) (and_item m (Some (GivenFunc t))))
-  func_then name es t m is r =
-      let m' : Making = link (items_of es) (and_item m (Some (GivenFunc t))) in
+  func_then : (k : ℕ) (name : Name) (es : List Handed) (t : Target) (m : Making) → find name X ≡ Some (GivenFunc t) → All es (and_item m (Some (GivenFunc t))) (link (items_at k es) (and_item m (Some (GivenFunc t)))) → All (record { name = name; sort = sorts.Func } ∷ es) m (link (items_at k es) (and_item m (Some (GivenFunc t))))
+  func_then k name es t m is r =
+      let m' : Making = link (items_at k es) (and_item m (Some (GivenFunc t))) in
       let end : m'.functions ≡ m.functions ++ (Some t ∷ r.0.functions.0) = r.0.functions.1 ∙ append_assoc m.functions (Some t ∷ []) r.0.functions.0 in (
         record { whole = r.0.whole; exports = r.0.exports; functions = (Some t ∷ r.0.functions.0, end); instances = r.0.instances },
         (
@@ -133,9 +134,9 @@ module _ (X : Givens) where
         ),
       )
 
-  instance_then : (name : Name) (es : List Handed) (items : Givens) (m : Making) → find name X ≡ Some (GivenInstance items) → All es (and_item m (Some (GivenInstance items))) (link (items_of es) (and_item m (Some (GivenInstance items)))) → All (record { name = name; sort = sorts.Instance } ∷ es) m (link (items_of es) (and_item m (Some (GivenInstance items))))
-  instance_then name es items m is r =
-      let m' : Making = link (items_of es) (and_item m (Some (GivenInstance items))) in
+  instance_then : (k : ℕ) (name : Name) (es : List Handed) (items : Givens) (m : Making) → find name X ≡ Some (GivenInstance items) → All es (and_item m (Some (GivenInstance items))) (link (items_at k es) (and_item m (Some (GivenInstance items)))) → All (record { name = name; sort = sorts.Instance } ∷ es) m (link (items_at k es) (and_item m (Some (GivenInstance items))))
+  instance_then k name es items m is r =
+      let m' : Making = link (items_at k es) (and_item m (Some (GivenInstance items))) in
       let end : m'.instances ≡ m.instances ++ (items ∷ r.0.instances.0) = r.0.instances.1 ∙ append_assoc m.instances (items ∷ []) r.0.instances.0 in (
         record { whole = r.0.whole; exports = r.0.exports; functions = r.0.functions; instances = (items ∷ r.0.instances.0, end) },
         (
@@ -145,28 +146,28 @@ module _ (X : Givens) where
       )
 
   -- what is to come is aliased behind whatever is there
-  abbrev Later : List Handed → Type 0
-  Later es = (m : Making) → slice_get m.instances 0 ≡ Some X → All es m (link (items_of es) m)
+  abbrev Later : ℕ → List Handed → Type 0
+  Later k es = (m : Making) → slice_get m.instances k ≡ Some X → All es m (link (items_at k es) m)
 
-  alias_sort : (name : Name) (sort : Sort) (es : List Handed) (item : Given) (m : Making) → slice_get m.instances 0 ≡ Some X → find name X ≡ Some item → is_of_sort sort item ≡ true → Later es → All (record { name = name; sort = sort } ∷ es) m (link (items_of es) (and_item m (Some item)))
-  alias_sort name sorts.Func es (GivenFunc t) m first is test later = func_then name es t m is (later (and_item m (Some (GivenFunc t))) first)
-  alias_sort name sorts.Instance es (GivenInstance items) m first is test later = instance_then name es items m is (later (and_item m (Some (GivenInstance items))) (slice_within m.instances (items ∷ []) 0 X first))
-  alias_sort name sorts.Type es (GivenResource r) m first is test later = let all : All es m (link (items_of es) m) = later m first in (all.0, (ap can_call is, all.1))
-  alias_sort name sorts.Type es GivenType m first is test later = let all : All es m (link (items_of es) m) = later m first in (all.0, (ap can_call is, all.1))
-  alias_sort name sorts.Func es (GivenInstance items) m first is test later = absurd (let q : false ≡ true = test in cc)
-  alias_sort name sorts.Func es (GivenResource r) m first is test later = absurd (let q : false ≡ true = test in cc)
-  alias_sort name sorts.Func es GivenType m first is test later = absurd (let q : false ≡ true = test in cc)
-  alias_sort name sorts.Instance es (GivenFunc t) m first is test later = absurd (let q : false ≡ true = test in cc)
-  alias_sort name sorts.Instance es (GivenResource r) m first is test later = absurd (let q : false ≡ true = test in cc)
-  alias_sort name sorts.Instance es GivenType m first is test later = absurd (let q : false ≡ true = test in cc)
-  alias_sort name sorts.Type es (GivenFunc t) m first is test later = absurd (let q : false ≡ true = test in cc)
-  alias_sort name sorts.Type es (GivenInstance items) m first is test later = absurd (let q : false ≡ true = test in cc)
+  alias_sort : (k : ℕ) (name : Name) (sort : Sort) (es : List Handed) (item : Given) (m : Making) → slice_get m.instances k ≡ Some X → find name X ≡ Some item → is_of_sort sort item ≡ true → Later k es → All (record { name = name; sort = sort } ∷ es) m (link (items_at k es) (and_item m (Some item)))
+  alias_sort k name sorts.Func es (GivenFunc t) m first is test later = func_then k name es t m is (later (and_item m (Some (GivenFunc t))) first)
+  alias_sort k name sorts.Instance es (GivenInstance items) m first is test later = instance_then k name es items m is (later (and_item m (Some (GivenInstance items))) (slice_within m.instances (items ∷ []) k X first))
+  alias_sort k name sorts.Type es (GivenResource r) m first is test later = let all : All es m (link (items_at k es) m) = later m first in (all.0, (ap can_call is, all.1))
+  alias_sort k name sorts.Type es GivenType m first is test later = let all : All es m (link (items_at k es) m) = later m first in (all.0, (ap can_call is, all.1))
+  alias_sort k name sorts.Func es (GivenInstance items) m first is test later = absurd (let q : false ≡ true = test in cc)
+  alias_sort k name sorts.Func es (GivenResource r) m first is test later = absurd (let q : false ≡ true = test in cc)
+  alias_sort k name sorts.Func es GivenType m first is test later = absurd (let q : false ≡ true = test in cc)
+  alias_sort k name sorts.Instance es (GivenFunc t) m first is test later = absurd (let q : false ≡ true = test in cc)
+  alias_sort k name sorts.Instance es (GivenResource r) m first is test later = absurd (let q : false ≡ true = test in cc)
+  alias_sort k name sorts.Instance es GivenType m first is test later = absurd (let q : false ≡ true = test in cc)
+  alias_sort k name sorts.Type es (GivenFunc t) m first is test later = absurd (let q : false ≡ true = test in cc)
+  alias_sort k name sorts.Type es (GivenInstance items) m first is test later = absurd (let q : false ≡ true = test in cc)
 
-  pub aliased : (es : List Handed) (m : Making) → slice_get m.instances 0 ≡ Some X → AreThere X es → All es m (link (items_of es) m)
-  aliased [] m first there = (record { whole = refl; exports = refl; functions = ([], sym (append-nil m.functions)); instances = ([], sym (append-nil m.instances)) }, tt)
-  aliased (e ∷ es) m first there =
-      subst (λ z. All (e ∷ es) m (link (items_of es) z)) (sym (one_alias m e.name e.sort first there.0.0 there.0.1))
-      (alias_sort e.name e.sort es there.0.0 m first there.0.1 there.0.2 (λ m' first'. aliased es m' first' there.1))
+  pub aliased : (k : ℕ) (es : List Handed) (m : Making) → slice_get m.instances k ≡ Some X → AreThere X es → All es m (link (items_at k es) m)
+  aliased k [] m first there = (record { whole = refl; exports = refl; functions = ([], sym (append-nil m.functions)); instances = ([], sym (append-nil m.instances)) }, tt)
+  aliased k (e ∷ es) m first there =
+      subst (λ z. All (e ∷ es) m (link (items_at k es) z)) (sym (one_alias k m e.name e.sort first there.0.0 there.0.1))
+      (alias_sort k e.name e.sort es there.0.0 m first there.0.1 there.0.2 (λ m' first'. aliased k es m' first' there.1))
 
   -- ---- the exports
 

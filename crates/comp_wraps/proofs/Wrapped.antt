@@ -22,7 +22,7 @@ use Rattle.comp_wraps.specs.Wrapping.{Handed, alias_of, exports_from, HandOn, wr
 use Rattle.comp_wraps.specs.Laws.{Surrounds, ImportsNone}
 use Rattle.comp_wraps.proofs.Inside.{cond_some, find_in, linked_inside}
 use Rattle.comp_wraps.proofs.Apart.{tree_apart, plan_apart}
-use Rattle.comp_wraps.proofs.Handing.{appended, items_of, aliases_plan, aliased, exports_plan, exports_made, same_targets}
+use Rattle.comp_wraps.proofs.Handing.{appended, items_at, aliases_plan, aliased, exports_plan, exports_made, same_targets}
 
 -- ---- 1. the wrapping component imports nothing
 
@@ -170,13 +170,13 @@ module _ (span : Span) (c : Tree) (es : List Handed) (sections : Tree) (hand : H
   abbrev made_one : Making
   made_one = with_component first own within
 
-  linked_wrapping : linked w ≡ link (exports_plan X (with_aliases inner es) scope_reached 0 1 0 es) (link (items_of es) made_one)
+  linked_wrapping : linked w ≡ link (exports_plan X (with_aliases inner es) scope_reached 0 1 0 es) (link (items_at 0 es) made_one)
   linked_wrapping =
       ap (λ p. link p (with_component first own (link planned (begun (and_stage first.whole Begins) Nothing)))) (handed_plan (with_one inner) scope es sections hand)
       ∙ link_followed aliases_reached (followed (exports_plan X (with_aliases inner es) scope_reached 0 1 0 es) End) (with_component first own (link planned (begun (and_stage first.whole Begins) Nothing)))
       ∙ link_followed (exports_plan X (with_aliases inner es) scope_reached 0 1 0 es) End (link aliases_reached (with_component first own (link planned (begun (and_stage first.whole Begins) Nothing))))
       ∙ ap (λ z. link (exports_plan X (with_aliases inner es) scope_reached 0 1 0 es) (link aliases_reached (with_component first own z))) linked_within
-      ∙ ap (λ p. link (exports_plan X (with_aliases inner es) scope_reached 0 1 0 es) (link p made_one)) (aliases_plan (with_one inner) scope es)
+      ∙ ap (λ p. link (exports_plan X (with_aliases inner es) scope_reached 0 1 0 es) (link p made_one)) (aliases_plan 0 (with_one inner) scope es)
 
   -- ---- 3. its exports
 
@@ -245,8 +245,8 @@ module _ (span : Span) (c : Tree) (es : List Handed) (sections : Tree) (hand : H
   pub surrounds : AreExports (linked c).exports es → Surrounds (group_of w) (group_of c) (place behind_one)
   surrounds are =
       let first_there : slice_get made_one.instances 0 ≡ Some X = refl in
-      let a = aliased X es made_one first_there (exports_in are).each in
-      let x = exports_made X (with_aliases inner es) scope_reached 0 1 0 es (link (items_of es) made_one) a.1 in
+      let a = aliased X 0 es made_one first_there (exports_in are).each in
+      let x = exports_made X (with_aliases inner es) scope_reached 0 1 0 es (link (items_at 0 es) made_one) a.1 in
       let whole : (linked w).whole ≡ whole_in behind_one (linked c).whole = ap (λ m. m.whole) linked_wrapping ∙ x.2.whole ∙ a.0.whole in
       let exports : (linked w).exports ≡ x.0 = ap (λ m. m.exports) linked_wrapping ∙ x.2.exports ∙ ap (λ z. appended z x.0) a.0.exports in
       record {

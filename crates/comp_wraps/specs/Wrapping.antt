@@ -17,9 +17,12 @@ pub record Handed : Type 0 where
   pub name : Name
   pub sort : Sort
 
--- an alias of the instance's export
+-- an alias of the export of the instance at this index; and of the one instance
+abbrev pub alias_at : ℕ → Handed → Alias
+alias_at k e = aliases.Export e.sort k e.name
+
 abbrev pub alias_of : Handed → Alias
-alias_of e = aliases.Export e.sort 0 e.name
+alias_of e = alias_at 0 e
 
 abbrev pub export_at : Handed → ℕ → ComponentExport
 export_at e index = record { name = e.name; sort = e.sort; index = index; desc = None }
