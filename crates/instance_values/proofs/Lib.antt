@@ -1,0 +1,4 @@
+pub mod Passing
+pub mod Lifted
+pub mod Forms
+pub mod Words
