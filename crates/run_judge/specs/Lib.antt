@@ -1,0 +1,5 @@
+pub mod Components
+pub mod Ends
+pub mod Limits
+pub mod Scripts
+pub mod Types
