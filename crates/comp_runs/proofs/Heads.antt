@@ -59,6 +59,11 @@ then_alike x f g h = λ i. x >> λ a. h a i
 pub then_first : {W A B : Type 0} → (x y : Act W A) (f : A → Act W B) → x ≡ y → (x >> f) ≡ (y >> f)
 then_first x y f h = λ i. h i >> f
 
+-- in one world and another, with these steps and those
+pub then_at : {W A B : Type 0} → (x y : Act W A) (f : A → Act W B) (w v : W) (n m : ℕ) → x w n ≡ y v m → (x >> f) w n ≡ (y >> f) v m
+unfolding ◌>>◌
+then_at x y f w v n m h = ap (λ u. then_do u f) h
+
 pub below_then : {S A B : Type 0} → (x : Act S A) (f : A → Act S B) → below (x >> f) ≡ (below x >> λ a. below (f a))
 unfolding ◌>>◌ below
 below_then {S} {A} {B} x f = λ i v n. at v (x v.below n) i

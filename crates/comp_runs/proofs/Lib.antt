@@ -5,3 +5,5 @@ pub mod Unfolding
 pub mod Going
 pub mod Pausing
 pub mod Heads
+pub mod Hosting
+pub mod Machines

@@ -4,10 +4,13 @@ use Rattle.core_store.specs.State.{State}
 use Rattle.core_store.specs.declared.value.CoreValue.{CoreValue}
 use Rattle.core_eval.specs.Config.{Reply, Outcome, Done, Trapped as CoreTrapped, Asks, Spent as CoreSpent, TooDeep as CoreTooDeep}
 use Rattle.core_eval.specs.Eval.{deep, eval}
+use Rattle.core_eval.specs.Laws.{Within}
+use Rattle.core_eval.proofs.Steps.{within}
 use Rattle.core_interp.specs.declared.machine.Machine.{Machine}
 use Rattle.core_interp.specs.declared.machine.Pause.{Pause}
 use Rattle.core_interp.specs.declared.machine.Pause.TheVariants as pauses
-use Rattle.core_interp.specs.Session.{Follows, Says}
+use Rattle.core_interp.specs.Session.{Follows, Says, granted}
+use Rattle.core_interp.specs.Session as machine
 use Rattle.comp_worlds.specs.Acts.{Next, then_do, Act, ◌>>◌, gives, with_more}
 use Rattle.comp_worlds.specs.Groups.{Nesting, Group, Config, World, Ports}
 use Rattle.comp_worlds.specs.Locals.{with_store}
@@ -15,9 +18,10 @@ use Rattle.comp_worlds.specs.Calls.{pick, set, with_config, Finished, Question, 
 use Rattle.comp_worlds.proofs.Joint.{set_here}
 use Rattle.comp_parts.proofs.Fair.{Fair}
 use Rattle.comp_parts.proofs.Whole.{nothing_before}
-use Rattle.comp_runs.specs.Running.{stored, running, driving}
+use Rattle.comp_runs.specs.Running.{Rest, IsRest, stored, running, driving, going}
 use Rattle.comp_runs.specs.Pausing.{IsRunBy, LeadsTo, PausesLead}
 use Rattle.comp_runs.proofs.Unfolding.{unfolds}
+use Rattle.comp_runs.proofs.Going.{goes_by_its_rest}
 
 -- ---- the store in the world is not looked at
 
@@ -117,6 +121,15 @@ module _ {S : Type 0} (G : Group) (p : Ports S) (fair : Fair p) (d : Nesting) (k
         due zero lt = absurd (omega arith)
         due (suc n) lt = refl
 
+by_rest : {S : Type 0} → (G : Group) (p : Ports S) (fair : Fair p) (d : Nesting) (k : ℕ) (m : Machine) (s : State) (act : Act (World S) (List CoreValue)) → IsRunBy G p d k m s act → IsRest (machine.goes_on m s) → act ≡ going G p d k (machine.goes_on m s)
+by_rest G p fair d k m s act by rest =
+    let l = goes_by_its_rest G p fair in
+    let X : Rest = λ replies n. eval by.first by.function by.args (by.used ++ replies) n in
+    by.is
+    ∙ ap (with_more by.taken) (l.begun d k by.function by.args by.first by.used)
+    ∙ l.taken d k X by.taken (λ replies n. within by.first by.function by.args (by.used ++ replies) n) (λ replies n. subst (Within n) (sym (by.follows.so_far replies n)) (rest replies n))
+    ∙ l.alike d k (granted X by.taken) (machine.goes_on m s) by.follows.so_far
+
 pub pauses_lead : {S : Type 0} → (G : Group) (p : Ports S) (fair : Fair p) → PausesLead G p
 pauses_lead {S} G p fair = record {
   starts = λ d k. starts G p fair d k;
@@ -125,4 +138,5 @@ pauses_lead {S} G p fair = record {
       (leads G p fair d k by.first by.function by.args by.used by.taken b left pause m' s' h.budget (h.says by.first by.function by.args by.used by.taken by.follows));
   aside = λ d k m s act by store w n.
       subst (λ (x : Act (World S) (List CoreValue)). x (stored w k store) n ≡ x w n) (sym by.is) (more_aside G p fair d k by.first by.function by.args by.used by.taken store w n);
+  by_rest = λ d k. by_rest G p fair d k;
 }

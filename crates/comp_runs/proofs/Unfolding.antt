@@ -5,15 +5,18 @@ use Rattle.core_store.specs.declared.value.CoreValue.{CoreValue}
 use Rattle.core_eval.specs.Config.{Reply}
 use Rattle.core_eval.specs.Eval.{eval}
 use Rattle.core_eval.proofs.Steps.{within}
-use Rattle.comp_worlds.specs.Acts.{Act, ◌>>◌}
-use Rattle.comp_worlds.specs.Passing.{Passed}
+use Rattle.host_port.specs.Calls.{Returned}
+use Rattle.host_port.specs.Hosts.{HostStep}
+use Rattle.comp_worlds.specs.Acts.{Act, ◌>>◌, gives, shows}
+use Rattle.comp_worlds.specs.Passing.{Passed, out_of_tuple}
 use Rattle.comp_worlds.specs.Groups.{Nesting, store_at, Target, Group, World, Due, Origin, Outside, Ports}
-use Rattle.comp_worlds.specs.Calls.{core, store_of, goes_on, runs, drives, deep_enough, leaves, answers_if, drops_given}
-use Rattle.comp_worlds.specs.Observed.{without_handles}
-use Rattle.comp_parts.proofs.Fair.{Fair}
+use Rattle.comp_worlds.specs.Calls.{below, core, store_of, goes_on, runs, drives, deep_enough, leaves, answers_if, drops_given, does_all, is_made}
+use Rattle.comp_worlds.specs.Hosts.{hosted}
+use Rattle.comp_worlds.specs.Observed.{first_state, Call, without_handles, makes_calls, runs_calls}
+use Rattle.comp_parts.proofs.Fair.{Fair, host_fair}
 use Rattle.comp_parts.proofs.Whole.{nothing_before}
-use Rattle.comp_runs.specs.Running.{running, driving}
-use Rattle.comp_runs.specs.Laws.{SameBelow, NeedsNoFuel, MeetsWithoutFuel, Unfolds}
+use Rattle.comp_runs.specs.Running.{running, driving, serves}
+use Rattle.comp_runs.specs.Laws.{SameBelow, NeedsNoFuel, MeetsWithoutFuel, Unfolds, RunsServe}
 use Rattle.comp_runs.proofs.Matching.{Same}
 use Rattle.comp_runs.proofs.Acting.{same_stores, same_closed, same_params, same_result, same_posts, same_answers, same_leaves, same_calls, same_destructs, same_drops, same_performs, same_answers_if, same_drops_given, same_all, matches_pause}
 use Rattle.comp_runs.proofs.Driving.{runs_agree, drives_agree}
@@ -54,6 +57,14 @@ module _ {S : Type 0} (G : Group) (p : Ports S) (fair : Fair p) where
   pub drops_so : (d : Nesting) (x : ℕ) (r : Option ℕ) → deep_enough (λ fuel. drops_given G p (runs G p fuel) d x r) ≡ drops_given G p (running G p) d x r
   drops_so d x r = deep_same _ _ (λ b. same_drops_given G p fair b (runs G p b) (running G p) (runs_agree G p fair b) d x r)
 
+  serves_so : (d : Nesting) (list : List Call) → makes_calls G p d list ≡ serves G p d list
+  serves_so d [] = refl
+  serves_so d (call ∷ rest) = λ i.
+      asks_so d Outside (G.exports call.interface call.function) (without_handles call) i >> λ answer.
+      leaves_so d answer.due i >> λ _.
+      shows (Returned (out_of_tuple answer.passed.value) ∷ []) >> λ _.
+      serves_so d rest i
+
   pub meets_without_fuel : MeetsWithoutFuel G p
   meets_without_fuel = record {
     ports = λ i. record {
@@ -64,6 +75,7 @@ module _ {S : Type 0} (G : Group) (p : Ports S) (fair : Fair p) where
     making = λ d. deep_same _ _ (λ b. same_all G p fair b (runs G p b) (running G p) (runs_agree G p fair b) d G.stages);
     asking = λ d call. asks_so d Outside (G.exports call.interface call.function) (without_handles call);
     leaving = leaves_so;
+    serving = serves_so;
   }
 
   begins : (d : Nesting) (k f : ℕ) (args : List CoreValue) → running G p d k f args ≡ (store_of k >> λ store. driving G p d k f args (store_at d store) [])
@@ -85,3 +97,17 @@ module _ {S : Type 0} (G : Group) (p : Ports S) (fair : Fair p) where
   pub running_here : (d : Nesting) (k f : ℕ) (args : List CoreValue) (w : World S) (n : ℕ) → running G p d k f args w n ≡ driving G p d k f args (store_at d (w.configs k).store) [] w n
   unfolding ◌>>◌ store_of
   running_here d k f args w n = ap (λ (x : Act (World S) (List CoreValue)). x w n) (begins d k f args) ∙ nothing_before (driving G p d k f args (store_at d (w.configs k).store) [] w n)
+
+-- below nothing is done
+below_nothing : {S A : Type 0} → (f : Unit {0} → Act (World S) A) (w : World S) (n : ℕ) → (below (gives tt) >> f) w n ≡ f tt w n
+unfolding ◌>>◌ below gives
+below_nothing f w n = nothing_before (f tt w n)
+
+made_alone : {S : Type 0} → (h : HostStep S) (d : Nesting) (G : Group) → (below {S = S} {A = Unit {0}} (gives tt) >> λ _. is_made G (hosted h) d) ≡ does_all G (hosted h) (running G (hosted h)) d G.stages
+made_alone {S} h d G = (λ i w n. below_nothing (λ _. is_made G (hosted h) d) w n i) ∙ (meets_without_fuel G (hosted h) (host_fair h)).making d
+
+pub runs_serve : {S : Type 0} → (h : HostStep S) → RunsServe h
+unfolding runs_calls
+runs_serve {S} h d G s list n =
+    ap (λ (x : Act (World S) (Unit {0})). (x >> λ _. makes_calls G (hosted h) d list) (first_state (G ∷ []) s) n) (made_alone h d G)
+    ∙ ap (λ (x : Act (World S) (Unit {0})). (does_all G (hosted h) (running G (hosted h)) d G.stages >> λ _. x) (first_state (G ∷ []) s) n) ((meets_without_fuel G (hosted h) (host_fair h)).serving d list)

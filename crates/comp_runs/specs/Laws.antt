@@ -7,12 +7,14 @@ use Rattle.core_eval.specs.Eval.{eval}
 use Rattle.wit_types.specs.Plain.{Plain}
 use Rattle.abi_layout.specs.Storing.{Step, Lowered}
 use Rattle.core_interp.specs.Session.{granted}
+use Rattle.host_port.specs.Hosts.{HostStep}
 use Rattle.comp_worlds.specs.Acts.{Act, ◌>>◌, with_more}
 use Rattle.comp_worlds.specs.Passing.{Passed}
 use Rattle.comp_worlds.specs.Groups.{Nesting, store_at, Options, Target, Func, Owner, Stage, Group, Due, Origin, Outside, Ports}
 use Rattle.comp_worlds.specs.Calls.{core, store_of, stores, lowers_closed, lowers_params, lowers_result, post_returns, answers, leaves, calls, destructs, drops, performs, goes_on, runs, answers_if, group, does_all, is_made}
-use Rattle.comp_worlds.specs.Observed.{Call, without_handles, asks_export, leaves_export}
-use Rattle.comp_runs.specs.Running.{Rest, IsRest, comes_to, running, driving, going, meeting}
+use Rattle.comp_worlds.specs.Hosts.{hosted}
+use Rattle.comp_worlds.specs.Observed.{first_state, Call, without_handles, asks_export, leaves_export, makes_calls, runs_calls}
+use Rattle.comp_runs.specs.Running.{Rest, IsRest, comes_to, running, driving, going, meeting, serves}
 
 -- acts that do the same in less than b steps
 abbrev pub SameBelow : {W A : Type 0} → ℕ → Act W A → Act W A → Type 0
@@ -40,6 +42,13 @@ pub record MeetsWithoutFuel {S : Type 0} (G : Group) (p : Ports S) : Type 0 wher
   pub making : (d : Nesting) → is_made G p d ≡ does_all G p (running G p) d G.stages
   pub asking : (d : Nesting) (call : Call) → asks_export G p d call ≡ answers_if G p (running G p) d Outside (G.exports call.interface call.function) (without_handles call)
   pub leaving : (d : Nesting) (due : Due) → leaves_export G p d due ≡ leaves G p (running G p) d due
+  pub serving : (d : Nesting) (list : List Call) → makes_calls G p d list ≡ serves G p d list
+
+-- What is observed of a group over a host: it is made, and then serves the calls.
+abbrev pub RunsServe : {S : Type 0} → HostStep S → Type 0
+RunsServe {S} h =
+    (d : Nesting) (G : Group) (s : S) (list : List Call) (n : ℕ) →
+    runs_calls d G [] h s list n ≡ (does_all G (hosted h) (running G (hosted h)) d G.stages >> λ _. serves G (hosted h) d list) (first_state (G ∷ []) s) n
 
 -- Core code runs from its beginning to its end or its next question, has that answered, and begins again with one reply more.
 pub record Unfolds {S : Type 0} (G : Group) (p : Ports S) : Type 0 where

@@ -7,11 +7,11 @@ use Rattle.core_eval.specs.Config.{Reply}
 use Rattle.core_interp.specs.declared.machine.Machine.{Machine}
 use Rattle.core_interp.specs.declared.machine.Pause.{Pause}
 use Rattle.core_interp.specs.declared.machine.Pause.TheVariants as pauses
-use Rattle.core_interp.specs.Session.{IsAnswer, awaited, resumed, Follows, Pauses}
+use Rattle.core_interp.specs.Session.{goes_on, IsAnswer, awaited, resumed, Follows, Pauses}
 use Rattle.comp_worlds.specs.Acts.{Trapped, TooDeep, Next, Over, Spent, Act, ◌>>◌, with_more}
 use Rattle.comp_worlds.specs.Groups.{Nesting, deeper, at_depth, store_at, Group, World, Ports}
 use Rattle.comp_worlds.specs.Calls.{store_of, begins_call, performs}
-use Rattle.comp_runs.specs.Running.{stored, running, driving}
+use Rattle.comp_runs.specs.Running.{IsRest, stored, running, driving, going}
 
 module _ {S : Type 0} (G : Group) (p : Ports S) (d : Nesting) (k : ℕ) where
   -- This act is what is left of core code of the instance k that the machine runs: of a call that began in `first`, these replies
@@ -51,3 +51,5 @@ pub record PausesLead {S : Type 0} (G : Group) (p : Ports S) : Type 0 where
       IsRunBy G p d k m s act → Pauses m s b pause m' s' left → LeadsTo G p d k act b left pause m' s'
   -- the store that stands in the world meanwhile is not looked at
   pub aside : (d : Nesting) (k : ℕ) (m : Machine) (s : State) (act : Act (World S) (List CoreValue)) → IsRunBy G p d k m s act → (store : State) (w : World S) (n : ℕ) → act (stored w k store) n ≡ act w n
+  -- what is left depends on the machine and the store alone, where the machine's rest leaves no more steps than it gets
+  pub by_rest : (d : Nesting) (k : ℕ) (m : Machine) (s : State) (act : Act (World S) (List CoreValue)) → IsRunBy G p d k m s act → IsRest (goes_on m s) → act ≡ going G p d k (goes_on m s)

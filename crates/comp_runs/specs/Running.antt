@@ -4,10 +4,13 @@ use Rattle.core_store.specs.State.{State}
 use Rattle.core_store.specs.declared.value.CoreValue.{CoreValue}
 use Rattle.core_eval.specs.Config.{Reply, Outcome}
 use Rattle.core_eval.specs.Laws.{Within}
-use Rattle.comp_worlds.specs.Acts.{Act, ◌>>◌, spent}
-use Rattle.comp_worlds.specs.Groups.{Nesting, Group, World, Ports}
+use Rattle.host_port.specs.Calls.{Returned}
+use Rattle.comp_worlds.specs.Acts.{Act, ◌>>◌, gives, spent, shows}
+use Rattle.comp_worlds.specs.Passing.{out_of_tuple}
+use Rattle.comp_worlds.specs.Groups.{Nesting, Group, World, Outside, Ports}
 use Rattle.comp_worlds.specs.Locals.{with_store}
 use Rattle.comp_worlds.specs.Calls.{with_config, Pause, core_end, Run, answers_if, leaves, drops_given, goes_on, drives, runs, deep_enough}
+use Rattle.comp_worlds.specs.Observed.{Call, without_handles}
 
 -- what core code does with the replies that it is still given, in so many steps more
 abbrev pub Rest : Type 0
@@ -50,3 +53,12 @@ module _ {S : Type 0} (G : Group) (p : Ports S) where
     leave = λ d due. leaves G p running d due;
     drop = λ d resource x. drops_given G p running d x (G.given resource);
   }
+
+  -- calls from outside, one after the other
+  abbrev pub serves : Nesting → List Call → Act (World S) (Unit {0})
+  serves d [] = gives tt
+  serves d (call ∷ rest) =
+      answers_if G p running d Outside (G.exports call.interface call.function) (without_handles call) >> λ answer.
+      leaves G p running d answer.due >> λ _.
+      shows (Returned (out_of_tuple answer.passed.value) ∷ []) >> λ _.
+      serves d rest
