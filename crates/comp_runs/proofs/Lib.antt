@@ -7,3 +7,4 @@ pub mod Pausing
 pub mod Heads
 pub mod Hosting
 pub mod Machines
+pub mod Resting

@@ -18,10 +18,11 @@ use Rattle.comp_worlds.specs.Calls.{pick, set, with_config, Finished, Question, 
 use Rattle.comp_worlds.proofs.Joint.{set_here}
 use Rattle.comp_parts.proofs.Fair.{Fair}
 use Rattle.comp_parts.proofs.Whole.{nothing_before}
-use Rattle.comp_runs.specs.Running.{Rest, IsRest, stored, running, driving, going}
+use Rattle.comp_runs.specs.Running.{Rest, stored, running, driving, going}
 use Rattle.comp_runs.specs.Pausing.{IsRunBy, LeadsTo, PausesLead}
 use Rattle.comp_runs.proofs.Unfolding.{unfolds}
 use Rattle.comp_runs.proofs.Going.{goes_by_its_rest}
+use Rattle.comp_runs.proofs.Resting.{machines_rest}
 
 -- ---- the store in the world is not looked at
 
@@ -121,13 +122,13 @@ module _ {S : Type 0} (G : Group) (p : Ports S) (fair : Fair p) (d : Nesting) (k
         due zero lt = absurd (omega arith)
         due (suc n) lt = refl
 
-by_rest : {S : Type 0} → (G : Group) (p : Ports S) (fair : Fair p) (d : Nesting) (k : ℕ) (m : Machine) (s : State) (act : Act (World S) (List CoreValue)) → IsRunBy G p d k m s act → IsRest (machine.goes_on m s) → act ≡ going G p d k (machine.goes_on m s)
-by_rest G p fair d k m s act by rest =
+by_rest : {S : Type 0} → (G : Group) (p : Ports S) (fair : Fair p) (d : Nesting) (k : ℕ) (m : Machine) (s : State) (act : Act (World S) (List CoreValue)) → IsRunBy G p d k m s act → act ≡ going G p d k (machine.goes_on m s)
+by_rest G p fair d k m s act by =
     let l = goes_by_its_rest G p fair in
     let X : Rest = λ replies n. eval by.first by.function by.args (by.used ++ replies) n in
     by.is
     ∙ ap (with_more by.taken) (l.begun d k by.function by.args by.first by.used)
-    ∙ l.taken d k X by.taken (λ replies n. within by.first by.function by.args (by.used ++ replies) n) (λ replies n. subst (Within n) (sym (by.follows.so_far replies n)) (rest replies n))
+    ∙ l.taken d k X by.taken (λ replies n. within by.first by.function by.args (by.used ++ replies) n) (λ replies n. subst (Within n) (sym (by.follows.so_far replies n)) (machines_rest m s replies n))
     ∙ l.alike d k (granted X by.taken) (machine.goes_on m s) by.follows.so_far
 
 pub pauses_lead : {S : Type 0} → (G : Group) (p : Ports S) (fair : Fair p) → PausesLead G p

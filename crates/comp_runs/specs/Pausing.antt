@@ -51,5 +51,9 @@ pub record PausesLead {S : Type 0} (G : Group) (p : Ports S) : Type 0 where
       IsRunBy G p d k m s act → Pauses m s b pause m' s' left → LeadsTo G p d k act b left pause m' s'
   -- the store that stands in the world meanwhile is not looked at
   pub aside : (d : Nesting) (k : ℕ) (m : Machine) (s : State) (act : Act (World S) (List CoreValue)) → IsRunBy G p d k m s act → (store : State) (w : World S) (n : ℕ) → act (stored w k store) n ≡ act w n
-  -- what is left depends on the machine and the store alone, where the machine's rest leaves no more steps than it gets
-  pub by_rest : (d : Nesting) (k : ℕ) (m : Machine) (s : State) (act : Act (World S) (List CoreValue)) → IsRunBy G p d k m s act → IsRest (goes_on m s) → act ≡ going G p d k (goes_on m s)
+  -- what is left depends on the machine and the store alone
+  pub by_rest : (d : Nesting) (k : ℕ) (m : Machine) (s : State) (act : Act (World S) (List CoreValue)) → IsRunBy G p d k m s act → act ≡ going G p d k (goes_on m s)
+
+-- The rest of a machine's run leaves no more steps than it gets.
+abbrev pub MachinesRest : Type 0
+MachinesRest = (m : Machine) (s : State) → IsRest (goes_on m s)

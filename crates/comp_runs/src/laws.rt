@@ -3,7 +3,7 @@ ghost use Rattle.comp_worlds.specs.Groups.{Group};
 ghost use Rattle.comp_worlds.specs.Hosts.{hosted};
 ghost use Rattle.comp_worlds.specs.Observed.{stack};
 ghost use Rattle.comp_runs.specs.Laws.{NeedsNoFuel, MeetsWithoutFuel, Unfolds, GoesByItsRest, RunsServe};
-ghost use Rattle.comp_runs.specs.Pausing.{PausesLead};
+ghost use Rattle.comp_runs.specs.Pausing.{PausesLead, MachinesRest};
 
 use host_port::Host;
 
@@ -21,7 +21,8 @@ pub fn core_code_goes_from_question_to_question<H: Host>()
     ensures rests { (G : Group) (below : List Group) → GoesByItsRest G (stack below (hosted H.step)) }
 {}
 
-/// A machine that runs core code of a group leads it from pause to pause.
+/// A machine that runs core code of a group leads it from pause to pause, and leaves no more steps than it gets.
 pub fn pauses_lead_core_code<H: Host>()
-    ensures { (G : Group) (below : List Group) → PausesLead G (stack below (hosted H.step)) }
+    ensures leads { (G : Group) (below : List Group) → PausesLead G (stack below (hosted H.step)) }
+    ensures rests { MachinesRest }
 {}
