@@ -10,16 +10,15 @@ use Rattle.comp_worlds.specs.Calls.{owned_by, owns}
 use Rattle.comp_parts.specs.Parts.{target_to, func_to, owner_to, stages_to, IsImportOf, DropsSome, Joins}
 use Rattle.comp_link.specs.Linking.{Placed, Owned, canon_in, owner_in, linked, group_of}
 use Rattle.comp_renames.specs.Renaming.{target_with, canon_with}
-use Rattle.comp_inside.specs.Linked.{target_in, canon_in as canon_at, givens_in, placed_in, owned_in}
-use Rattle.comp_joins.specs.Joining.{Joint, joining, or_else, or_nowhere, Meets, IsKnown, known_by, behind_own, made_second, Fits, owned_with, over_host, Agree}
+use Rattle.comp_inside.specs.Linked.{target_in, canon_in as canon_at, placed_in, owned_in}
+use Rattle.comp_joins.specs.Joining.{Joint, joining, or_else, or_nowhere, Meets, IsKnown, known_by, behind_own, Fits, owned_with, over_host, Agree}
 use Rattle.comp_joins.specs.Laws.{in_a_step}
 use Rattle.comp_joins.proofs.Places.{left_once, right_once, apart}
-use Rattle.comp_joins.proofs.Lists.{or_none, cond_some, canon_append, owner_append, unlike, alike, canons_mapped, canons_elsewhere, targets_in}
-use Rattle.comp_joins.proofs.Finding.{targets_alike}
+use Rattle.comp_joins.proofs.Lists.{or_none, cond_some, canon_append, owner_append, unlike, alike, canons_mapped, canons_elsewhere}
 use Rattle.comp_joins.proofs.Held.{dropped_known}
 use Rattle.comp_joins.proofs.Numbers.{owned_below, owned_behind}
 use Rattle.comp_joins.proofs.Renamed.{renamed, owned_was, import_was, drop_was, owner_of_renamed, imported_of_renamed}
-use Rattle.comp_joins.proofs.Made.{count, lefts, rights, first_at, second_at, meets, there, second_is, whole_is}
+use Rattle.comp_joins.proofs.Made.{count, lefts, rights, first_at, second_at, meets, there, exports_there, whole_is}
 
 module _ (j : Joint) (first second : Tree) (from to : ℕ → ℕ) (fits : Fits j first second from to) (agree : Agree (joining j first second) first second from to) where
   abbrev pub W : Group
@@ -195,10 +194,7 @@ module _ (j : Joint) (first second : Tree) (from to : ℕ → ℕ) (fits : Fits 
 
   exports_are : (interface name : Name) → W.exports interface name ≡ option_map (target_to right import) (B.exports interface name)
   exports_are interface name =
-      fits.exports interface name
-      ∙ targets_alike (givens_in (second_at j first second from to) (linked second).exports) (made_second j first second).exports (second_is j first second from to fits agree).exports interface name
-      ∙ targets_in (second_at j first second from to) (linked second).exports interface name
-      ∙ target_there ((group_of second).exports interface name)
+      exports_there j first second from to fits agree interface name ∙ target_there ((group_of second).exports interface name)
 
   stages_are : W.stages ≡ stages_to left (Begins ∷ A.stages) ++ stages_to right (Begins ∷ B.stages)
   stages_are = ap (λ w. w.stages) (whole_is j first second from to fits agree) ∙ append_assoc (Begins ∷ stages_to left A.stages) (Begins ∷ []) (stages_to right B.stages)

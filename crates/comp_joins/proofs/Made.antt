@@ -1,5 +1,5 @@
 -- What is made in the whole: what each of the two makes alone, at other numbers.
-use Rattle.std.proofs.Common.{◌≡◌, ℕ, ◌+◌, ◌≤◌, List, [], ◌∷◌, ◌++◌, Option, Some, None, refl, sym, ◌∙◌, ap, subst, arith, append-nil}
+use Rattle.std.proofs.Common.{◌≡◌, inl, inr, ◌⊎◌, ℕ, ◌+◌, ◌≤◌, List, [], ◌∷◌, ◌++◌, Option, Some, None, refl, sym, ◌∙◌, ap, subst, arith, append-nil}
 use Rattle.std.specs.Option.{option_map}
 use Rattle.std.proofs.Math.Path.{ap₂}
 use Rattle.wit_types.specs.Plain.{Name, Plain, Parts, PlainFunc, BoolType, SignedType, UnsignedType, CharType, StringType, ListType, RecordType, VariantType, FlagsType, OwnType, BorrowType, End as NoParts, More as Part, Bare}
@@ -9,18 +9,18 @@ use Rattle.comp_grammar.specs.Trees.{Tree}
 use Rattle.comp_worlds.specs.Groups.{Import, Lifting, Target, Mine, Theirs, Stage, Begins}
 use Rattle.comp_parts.specs.Parts.{target_to}
 use Rattle.comp_link.specs.Plans.{no_scope, plan_of}
-use Rattle.comp_link.specs.Linking.{Givens, GivenFunc, GivenInstance, Nothing, Giving, Placed, Owned, Whole, Making, begun, and_stage, link, all_outside, outside, target_in as target_of, exported, linked, group_of}
+use Rattle.comp_link.specs.Linking.{Given, Givens, GivenFunc, GivenInstance, Nothing, Giving, Placed, Owned, Whole, Making, begun, and_stage, link, all_outside, outside, target_in as target_of, exported, linked, group_of}
 use Rattle.comp_renames.specs.Renaming.{lifting_with, import_with, target_with}
 use Rattle.comp_inside.specs.Linked.{Standing, target_in, given_in, givens_in, whole_in, making_in, unmade}
 use Rattle.comp_inside.proofs.Made.{more_made}
 use Rattle.comp_inside.proofs.Components.{components_inside}
-use Rattle.comp_joins.specs.Joining.{Joint, joining, before_first, before_second, one_scope, first_plan, second_plan, made_front, given_first, made_first, made_between, given_second, made_second, or_else, or_nowhere, met, all_met, imports_of, hosted, first_own, behind_own, Fits, over_host, Agree, itself}
-use Rattle.comp_joins.specs.Alike.{Alike, MadeAlike}
+use Rattle.comp_joins.specs.Joining.{Joint, joining, before_first, before_second, one_scope, first_plan, second_plan, made_front, given_first, made_first, made_between, given_second, made_second, or_else, or_nowhere, met, all_met, imports_of, hosted, first_own, behind_own, asked, found_with, GivesJust, GivesMore, Fits, over_host, Agree, itself}
+use Rattle.comp_joins.specs.Alike.{AlikeBut, IsNothing, IsAny, MadeAlike}
 use Rattle.comp_joins.proofs.Places.{left, right, left_here, right_here}
 use Rattle.comp_joins.proofs.Front.{front_whole, between_whole, joined_whole}
 use Rattle.comp_joins.proofs.Lists.{targets_in}
-use Rattle.comp_joins.proofs.Finding.{alike_itself, targets_alike}
-use Rattle.comp_joins.proofs.Regiven.{plan_linked}
+use Rattle.comp_joins.proofs.Finding.{alike_itself, targets_alike, found_there}
+use Rattle.comp_joins.proofs.Regiven.{linked_alike, linked_among}
 
 -- ---- resources of the same numbers
 
@@ -58,8 +58,8 @@ target_itself (Mine k l) = ap (Mine k) (lifting_itself l)
 target_itself (Theirs f) = ap (λ ty. Theirs (record { interface = f.interface; function = f.function; ty = ty })) (func_itself f.ty)
 
 -- what begins where it is given something alike
-begun_alike : (w : Whole) (gs gs' : Givens) → Alike gs gs' → MadeAlike (begun w gs) (begun w gs')
-begun_alike w gs gs' h = record { is = refl; given = h; instances = tt; exports = alike_itself Nothing }
+begun_alike : (Beyond : Option Given → Type 0) → Beyond None → (w : Whole) (gs gs' : Givens) → AlikeBut Beyond gs gs' → MadeAlike Beyond (begun w gs) (begun w gs')
+begun_alike Beyond none w gs gs' h = record { is = refl; given = h; instances = tt; exports = alike_itself Beyond none Nothing; names = λ name is. is }
 
 -- ---- where the two stand
 
@@ -134,13 +134,13 @@ module _ (j : Joint) (first second : Tree) (from to : ℕ → ℕ) where
         ∙ ap (λ k. first_begun k (from (first_own first)) first_imports) (sym (left_here (count first) (count second) 0 (some_made first)))
         ∙ ap (first_begun (lefts 0) (from (first_own first))) (sym (all_outside_in [] (imports_of first)))
 
-    pub first_is : MadeAlike (making_in first_at (linked first)) (made_first j first second)
+    pub first_is : MadeAlike IsNothing (making_in first_at (linked first)) (made_first j first second)
     first_is =
-        subst (λ z. MadeAlike z (made_first j first second))
+        subst (λ z. MadeAlike IsNothing z (made_first j first second))
         (ap (link (first_plan j first second)) first_begins
         ∙ components_inside (before_first j first second ∷ []) (no_scope ∷ []) first_at first agree.first_stays (left_here (count first) (count second)) agree.first_knows)
-        (plan_linked (first_plan j first second) (begun (and_stage (made_front j first second).whole Begins) first_imports) (begun (and_stage (made_front j first second).whole Begins) (given_first j first second))
-        (begun_alike (and_stage (made_front j first second).whole Begins) first_imports (given_first j first second) fits.first_given))
+        (linked_alike (first_plan j first second) (begun (and_stage (made_front j first second).whole Begins) first_imports) (begun (and_stage (made_front j first second).whole Begins) (given_first j first second))
+        (begun_alike IsNothing refl (and_stage (made_front j first second).whole Begins) first_imports (given_first j first second) fits.first_given))
 
     -- ---- the second
 
@@ -222,13 +222,47 @@ module _ (j : Joint) (first second : Tree) (from to : ℕ → ℕ) where
         ∙ ap (λ l. second_begun (rights 0) (to (first_own second)) (base.stages ++ []) l base.owners imported) (sym (append-nil base.canons))
         ∙ ap (λ l. second_begun (rights 0) (to (first_own second)) (base.stages ++ []) (base.canons ++ []) l imported) (sym (append-nil base.owners))
 
-    pub second_is : MadeAlike (making_in second_at (linked second)) (made_second j first second)
-    second_is =
-        subst (λ z. MadeAlike z (made_second j first second))
-        (ap (link (second_plan j first second)) second_begins
-        ∙ components_inside (before_second j first second ∷ []) (one_scope j first second ∷ []) second_at second agree.second_stays (right_here (count first) (count second)) agree.second_knows)
-        (plan_linked (second_plan j first second) (begun (and_stage (made_between j first second).whole Begins) (all_met (made_first j first second).exports (hosted (joining j first second)) to [] (imports_of second))) (begun (and_stage (made_between j first second).whole Begins) (given_second j first second))
-        (begun_alike (and_stage (made_between j first second).whole Begins) (all_met (made_first j first second).exports (hosted (joining j first second)) to [] (imports_of second)) (given_second j first second) fits.second_given))
+    abbrev second_start : Making
+    second_start = begun (and_stage (made_between j first second).whole Begins) (asked j first second to)
+
+    second_made : link (second_plan j first second) second_start ≡ making_in second_at (linked second)
+    second_made =
+        ap (link (second_plan j first second)) second_begins
+        ∙ components_inside (before_second j first second ∷ []) (one_scope j first second ∷ []) second_at second agree.second_stays (right_here (count first) (count second)) agree.second_knows
+
+    just_is : GivesJust j first second to → MadeAlike IsNothing (making_in second_at (linked second)) (made_second j first second)
+    just_is just =
+        subst (λ z. MadeAlike IsNothing z (made_second j first second)) second_made
+        (linked_alike (second_plan j first second) second_start (begun (and_stage (made_between j first second).whole Begins) (given_second j first second))
+        (begun_alike IsNothing refl (and_stage (made_between j first second).whole Begins) (asked j first second to) (given_second j first second) just.given))
+
+    more_is : GivesMore j first second to → MadeAlike IsAny (making_in second_at (linked second)) (made_second j first second)
+    more_is more =
+        subst (λ z. MadeAlike IsAny z (made_second j first second)) second_made
+        (linked_among (second_plan j first second) second_start (begun (and_stage (made_between j first second).whole Begins) (given_second j first second))
+        (begun_alike IsAny tt (and_stage (made_between j first second).whole Begins) (asked j first second to) (given_second j first second) more.given)
+        more.finds)
+
+    second_whole : GivesJust j first second to ⊎ GivesMore j first second to → (made_second j first second).whole ≡ whole_in second_at (linked second).whole
+    second_whole (inl just) = ap (λ m. m.whole) (just_is just).is
+    second_whole (inr more) = ap (λ m. m.whole) (more_is more).is
 
     pub whole_is : (linked (joining j first second)).whole ≡ whole_in second_at (linked second).whole
-    whole_is = joined_whole j first second fits.front fits.between fits.behind ∙ ap (λ m. m.whole) second_is.is
+    whole_is = joined_whole j first second fits.front fits.between fits.behind ∙ second_whole fits.second_given
+
+    -- what the whole exports leads where it leads as the second stands there
+    export_is : GivesJust j first second to ⊎ GivesMore j first second to → (interface name : Name) → target_of (exported (linked (joining j first second)).exports interface name) ≡ option_map (target_in second_at) ((group_of second).exports interface name)
+    export_is (inl just) interface name =
+        just.exports interface name
+        ∙ targets_alike (givens_in second_at (linked second).exports) (made_second j first second).exports (just_is just).exports interface name
+        ∙ targets_in second_at (linked second).exports interface name
+    export_is (inr more) interface name = more.exports interface name ∙ go ((group_of second).exports interface name) refl
+      where
+        go : (o : Option Target) → (group_of second).exports interface name ≡ o → found_with o (target_of (exported (made_second j first second).exports interface name)) ≡ option_map (target_in second_at) o
+        go None is = refl
+        go (Some t) is =
+            found_there IsAny tt (givens_in second_at (linked second).exports) (made_second j first second).exports (more_is more).exports interface name (target_in second_at t)
+            (targets_in second_at (linked second).exports interface name ∙ ap (option_map (target_in second_at)) is)
+
+    pub exports_there : (interface name : Name) → target_of (exported (linked (joining j first second)).exports interface name) ≡ option_map (target_in second_at) ((group_of second).exports interface name)
+    exports_there = export_is fits.second_given

@@ -18,7 +18,7 @@ use Rattle.comp_link.specs.Linking.{Given, Givens, GivenFunc, GivenInstance, Giv
 use Rattle.comp_renames.specs.Renaming.{target_with, canon_with}
 use Rattle.comp_inside.specs.Later.{StaysWhole}
 use Rattle.comp_inside.specs.Linked.{PlanKnows, unmade}
-use Rattle.comp_joins.specs.Alike.{Alike}
+use Rattle.comp_joins.specs.Alike.{Alike, IsAmong, PlanFinds, IsThere}
 
 -- ---- sections that only import, name what instances export, and export
 
@@ -169,6 +169,30 @@ imports_of tree = (after_tree [] root tree).imports
 abbrev pub hosted : Tree → Givens
 hosted tree = all_outside [] (imports_of tree)
 
+-- what is found, if anything is found there
+abbrev pub found_with : {A : Type 0} → Option A → Option A → Option A
+found_with None y = None
+found_with (Some x) y = y
+
+module _ (j : Joint) (first second : Tree) (to : ℕ → ℕ) where
+  -- what meets the imports of the second
+  abbrev pub asked : Givens
+  asked = all_met (made_first j first second).exports (hosted (joining j first second)) to [] (imports_of second)
+
+  -- The second is given just what it imports, and what the whole exports leads where the exports of the second lead;
+  pub record GivesJust : Type 0 where
+    pub given : Alike asked (given_second j first second)
+    pub exports : (interface name : Name) → target_in (exported (linked (joining j first second)).exports interface name) ≡ target_in (exported (made_second j first second).exports interface name)
+
+  -- or it is given that with more beside, where it finds by itself all that it looks up; and the whole exports what the second exports
+  -- by itself, and nothing else.
+  pub record GivesMore : Type 0 where
+    pub given : IsAmong asked (given_second j first second)
+    pub finds : PlanFinds IsThere (second_plan j first second) (begun (and_stage (made_between j first second).whole Begins) asked)
+    pub exports :
+        (interface name : Name) → target_in (exported (linked (joining j first second)).exports interface name)
+        ≡ found_with (target_in (exported (linked second).exports interface name)) (target_in (exported (made_second j first second).exports interface name))
+
 -- It gives the first what the whole imports, where the first's resources get these numbers; it gives the second what the first exports,
 -- or else what the whole imports; and what it exports leads where the exports of the second lead.
 pub record Fits (j : Joint) (first second : Tree) (from to : ℕ → ℕ) : Type 0 where
@@ -176,8 +200,7 @@ pub record Fits (j : Joint) (first second : Tree) (from to : ℕ → ℕ) : Type
   pub between : JoinOnly (one_scope j first second) (after_part [] (with_first j first second) (instance_of 0 j.first_args)) j.between
   pub behind : JoinOnly (both_scope j first second) (behind_second j first second) j.behind
   pub first_given : Alike (all_outside [] (entries_with from (imports_of first))) (given_first j first second)
-  pub second_given : Alike (all_met (made_first j first second).exports (hosted (joining j first second)) to [] (imports_of second)) (given_second j first second)
-  pub exports : (interface name : Name) → target_in (exported (linked (joining j first second)).exports interface name) ≡ target_in (exported (made_second j first second).exports interface name)
+  pub second_given : GivesJust j first second to ⊎ GivesMore j first second to
 
 -- ---- the first over the whole's host
 

@@ -1,4 +1,4 @@
-ghost use Rattle.comp_joins.specs.Alike.{LinkedAlike};
+ghost use Rattle.comp_joins.specs.Alike.{LinkedAlike, LinkedAmong};
 ghost use Rattle.comp_joins.specs.Laws.{StepsMore, JoinedDoSame, PluggedDoSame};
 
 use host_port::Host;
@@ -6,6 +6,13 @@ use host_port::Host;
 /// What a plan makes depends on what is found by its names in what it is given, and on no order.
 pub fn plans_find_what_they_are_given()
     ensures { LinkedAlike }
+{}
+
+/// What a plan makes does not depend on what is given beside what it looks up: where it finds all of that, and is given more, also in
+/// instances that it hands on, it makes the same, and finds more only in what it exports (Component Model, Explainer.md, "Instance and
+/// Component Definitions": an argument may have more exports than are asked for).
+pub fn plans_need_no_more_than_they_look_up()
+    ensures { LinkedAmong }
 {}
 
 /// Two groups, one over the other, that are each made in a step more do what they do without, in two steps more.

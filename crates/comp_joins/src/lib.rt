@@ -5,5 +5,6 @@ mod laws;
 
 pub use laws::{
     joined_components_do_what_their_parts_do, plans_find_what_they_are_given,
-    plugged_components_do_what_their_parts_do, steps_of_making_are_counted,
+    plans_need_no_more_than_they_look_up, plugged_components_do_what_their_parts_do,
+    steps_of_making_are_counted,
 };
