@@ -83,12 +83,12 @@ pub fn lift(
     passed: &PassedType,
     flat: &Items<CoreValue>,
 ) -> Result<Value, HandleFault>
-    requires memory { needs_memory passed.now.most (plain passed.now.ty) ≡ true → IsInStore options.memory instance.old.store }
+    requires memory { needs_memory passed.now.most (plain passed.now.ty) ≡ true → IsInStore options.memory instance.old.code.store }
     ensures lifts { LiftsAs (plain passed.now.ty) (lifts passed.now.most (plain passed.now.ty) (options_of options) (words flat.now) (config_of instance.old)) (config_of instance.new) loans.old.items loans.new.items result }
     ensures typed { IfOk result (λ v. HasType v passed.now.ty) }
-    ensures store { instance.new.store ≡ instance.old.store }
+    ensures code { instance.new.code ≡ instance.old.code }
 {
-    match lift_value(alloc, &instance.store, options, passed, flat) {
+    match lift_value(alloc, instance.code.store(), options, passed, flat) {
         Err(fault) => Err(handle_fault(fault)),
         Ok(value) => exchange_out(
             &mut instance.handles,

@@ -33,7 +33,7 @@ fn lower(
 ) -> Result<StorePlan, HandleFault>
     requires flat { target ≡ ToFlats → length (flat_of passed.now.ty) ≤ 16 }
     ensures lowers { LowersAs (plain passed.now.ty) (blank (plain passed.now.ty) (plain_value value)) (plan_for target (plain passed.now.ty)) (adds_handles (plain_for owners.now into) (handles_of (plain passed.now.ty) (passed_by (plain passed.now.ty) (plain_value value))) (config_of instance.old)) (config_of instance.new) result }
-    ensures store { instance.new.store ≡ instance.old.store }
+    ensures code { instance.new.code ≡ instance.old.code }
 {
     let indexed = exchange_in(
         alloc,
@@ -68,7 +68,7 @@ pub fn lower_params(
 ) -> Result<StorePlan, HandleFault>
     requires most { passed.now.most ≡ most_params }
     ensures lowers { LowersAs (plain passed.now.ty) (blank (plain passed.now.ty) (plain_value value)) (params_plan (plain passed.now.ty)) (adds_handles (plain_for owners.now (Some into)) (handles_of (plain passed.now.ty) (passed_by (plain passed.now.ty) (plain_value value))) (config_of instance.old)) (config_of instance.new) result }
-    ensures store { instance.new.store ≡ instance.old.store }
+    ensures code { instance.new.code ≡ instance.old.code }
 {
     let target = if passed.spills {
         Target::Spill
@@ -104,7 +104,7 @@ pub fn lower_result(
 ) -> Result<StorePlan, HandleFault>
     requires most { passed.now.most ≡ most_results }
     ensures lowers { LowersAs (plain passed.now.ty) (blank (plain passed.now.ty) (plain_value value)) (result_plan (plain passed.now.ty) place) (adds_handles (plain_for owners.now None) (handles_of (plain passed.now.ty) (passed_by (plain passed.now.ty) (plain_value value))) (config_of instance.old)) (config_of instance.new) result }
-    ensures store { instance.new.store ≡ instance.old.store }
+    ensures code { instance.new.code ≡ instance.old.code }
 {
     let target = if passed.spills {
         Target::At(place)
