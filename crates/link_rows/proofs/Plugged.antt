@@ -7,7 +7,8 @@ use Rattle.comp_worlds.specs.Hosts.{reacts, loses, stays}
 use Rattle.comp_worlds.specs.Observed.{runs_calls}
 use Rattle.comp_parts.specs.Parts.{IsImportOf}
 use Rattle.comp_link.specs.Linking.{all_outside, group_of}
-use Rattle.comp_joins.specs.Joining.{imports_of, hosted, made_first, all_met, over_host, Meets, Fits, Agree, itself}
+use Rattle.comp_joins.specs.Alike.{IsNothing}
+use Rattle.comp_joins.specs.Joining.{imports_of, asked, over_host, Meets, Fits, Agree, itself}
 use Rattle.comp_joins.proofs.Finding.{alike_itself}
 use Rattle.link_rows.specs.Trees.{reader}
 use Rattle.link_rows.specs.Plugged.{adapter, joint, plugged, PluggedExamples, PluggedPremises}
@@ -22,9 +23,8 @@ fits = record {
   front = ((tt, refl, ((tt, tt), refl, tt)));
   between = ((tt, tt), refl, tt);
   behind = ((tt, tt), refl, ((tt, tt), refl, tt));
-  first_given = alike_itself (all_outside [] (imports_of adapter));
-  second_given = alike_itself (all_met (made_first joint adapter reader).exports (hosted plugged) itself [] (imports_of reader));
-  exports = λ interface name. refl;
+  first_given = alike_itself IsNothing refl (all_outside [] (imports_of adapter));
+  second_given = inl (record { given = alike_itself IsNothing refl (asked joint adapter reader itself); exports = λ interface name. refl });
 }
 
 -- the one function that the reader lowers

@@ -1,5 +1,5 @@
 -- The component that takes imports from both computes, and meets the premises of the law.
-use Rattle.std.proofs.Common.{◌≡◌, inl, inr, ◌&&◌, nat_eq, cond, [], Option, Some, None, Bool, true, false, refl, ap, subst, arith}
+use Rattle.std.proofs.Common.{◌≡◌, inl, inr, ◌&&◌, nat_eq, cond, Option, Some, None, Bool, true, false, refl, ap, subst, arith}
 use Rattle.comp_worlds.specs.Acts.{◌>>◌, gives, traps, spent, takes_step, with_more, shows}
 use Rattle.comp_worlds.specs.Calls.{on, below, core, store_of, finds_room, deep_enough}
 use Rattle.comp_worlds.specs.Groups.{Import, Theirs, Func, LoweredFunc}
@@ -7,7 +7,8 @@ use Rattle.comp_worlds.specs.Hosts.{reacts, loses, stays}
 use Rattle.comp_worlds.specs.Observed.{runs_calls}
 use Rattle.comp_parts.specs.Parts.{IsImportOf}
 use Rattle.comp_link.specs.Linking.{Nothing, group_of}
-use Rattle.comp_joins.specs.Joining.{imports_of, hosted, made_first, all_met, over_host, Meets, Fits, Agree, itself}
+use Rattle.comp_joins.specs.Alike.{IsNothing}
+use Rattle.comp_joins.specs.Joining.{asked, over_host, Meets, Fits, Agree, itself}
 use Rattle.comp_joins.proofs.Finding.{alike_itself}
 use Rattle.link_rows.specs.Sharing.{still, teller, sharing, shared, SharingExamples, SharingPremises}
 use Rattle.link_rows.proofs.Taking.{not_theirs}
@@ -21,9 +22,8 @@ fits = record {
   front = ((tt, refl, ((tt, tt), refl, tt)));
   between = ((tt, (tt, tt)), refl, ((tt, tt), refl, tt));
   behind = ((tt, tt), refl, ((tt, tt), refl, tt));
-  first_given = alike_itself Nothing;
-  second_given = alike_itself (all_met (made_first sharing still teller).exports (hosted shared) itself [] (imports_of teller));
-  exports = λ interface name. refl;
+  first_given = alike_itself IsNothing refl Nothing;
+  second_given = inl (record { given = alike_itself IsNothing refl (asked sharing still teller itself); exports = λ interface name. refl });
 }
 
 abbrev import_of : Option Func → Import → Import
@@ -40,7 +40,7 @@ types_agree f (inl (k, n, options, is)) = go (nat_eq 0 k && nat_eq 0 n) (nat_eq 
     go false false is' = absurd (let q : None ≡ Some (LoweredFunc (Theirs f) options) = is' in cc)
 types_agree f (inr (interface, name, is)) = absurd (not_theirs _ _ interface name f is)
 
-agree : Agree shared still teller itself itself
+pub agree : Agree shared still teller itself itself
 agree = record {
   first_stays = (tt, ((tt, tt), ((tt, tt), ((tt, tt), ((tt, tt), ((tt, tt), ((tt, tt), tt)))))));
   second_stays = (((tt, (tt, tt)), tt), ((tt, tt), (((tt, (tt, tt)), tt), ((tt, tt), ((tt, (tt, tt)), ((tt, (tt, tt)), ((tt, tt), (tt, ((tt, tt), ((tt, tt), ((tt, tt), ((tt, tt), ((tt, tt), tt)))))))))))));

@@ -10,7 +10,8 @@ use Rattle.comp_worlds.specs.Hosts.{reacts, loses, stays}
 use Rattle.comp_worlds.specs.Observed.{runs_calls}
 use Rattle.comp_parts.specs.Parts.{IsImportOf}
 use Rattle.comp_link.specs.Linking.{GivenFunc, Nothing, Giving, target_in, instance_in, find, exported, group_of}
-use Rattle.comp_joins.specs.Joining.{joining, imports_of, hosted, made_first, all_met, over_host, IsKnown, known_by, Meets, Fits, Agree, itself}
+use Rattle.comp_joins.specs.Alike.{IsNothing}
+use Rattle.comp_joins.specs.Joining.{joining, asked, over_host, IsKnown, known_by, Meets, Fits, Agree, itself}
 use Rattle.comp_joins.proofs.Finding.{alike_itself}
 use Rattle.link_rows.specs.Taking.{keeper, taker, taking, one_later, TakingExamples, TakingPremises}
 
@@ -23,9 +24,8 @@ fits = record {
   front = tt;
   between = ((tt, tt), refl, tt);
   behind = ((tt, tt), refl, ((tt, tt), refl, tt));
-  first_given = alike_itself Nothing;
-  second_given = alike_itself (all_met (made_first taking keeper taker).exports (hosted (joining taking keeper taker)) one_later [] (imports_of taker));
-  exports = λ interface name. refl;
+  first_given = alike_itself IsNothing refl Nothing;
+  second_given = inl (record { given = alike_itself IsNothing refl (asked taking keeper taker one_later); exports = λ interface name. refl });
 }
 
 -- what is exported as f alone, and is no import

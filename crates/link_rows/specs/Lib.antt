@@ -4,3 +4,4 @@ pub mod Rows
 pub mod Plugged
 pub mod Taking
 pub mod Sharing
+pub mod GivingMore

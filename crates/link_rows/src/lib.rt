@@ -5,6 +5,7 @@ ghost use Rattle.link_rows.specs.Rows.{ReaderExamples, NestedExamples, ResourceE
 ghost use Rattle.link_rows.specs.Plugged.{PluggedExamples, PluggedPremises};
 ghost use Rattle.link_rows.specs.Taking.{TakingExamples, TakingPremises};
 ghost use Rattle.link_rows.specs.Sharing.{SharingExamples, SharingPremises};
+ghost use Rattle.link_rows.specs.GivingMore.{GivingMoreExamples, GivingMorePremises};
 
 /// A component reads a clock, with its steps counted. It does nothing when it runs.
 #[tactic(auto, using(crate::proofs::Compute::reader_examples))]
@@ -86,4 +87,16 @@ pub fn imports_are_shared()
 #[tactic(auto, using(crate::proofs::Sharing::premises_hold))]
 pub fn sharing_premises_are_met()
     ensures { SharingPremises }
+{}
+
+/// A component is given an export as it is, with more in it than the component imports. It does nothing when it runs.
+#[tactic(auto, using(crate::proofs::GivingMore::giving_more_examples))]
+pub fn more_is_given()
+    ensures { GivingMoreExamples }
+{}
+
+/// The premises of the law of joined components can be met where the second is given more than it imports. It does nothing when it runs.
+#[tactic(auto, using(crate::proofs::GivingMore::more_premises_hold))]
+pub fn more_given_premises_are_met()
+    ensures { GivingMorePremises }
 {}
