@@ -14,7 +14,10 @@ use Rattle.wasm_ast.specs.declared.component.TypeItem.TheVariants as items
 use Rattle.wasm_ast.specs.declared.component.Canon.TheVariants as canons
 use Rattle.host_port.specs.Calls.{Returned}
 use Rattle.comp_grammar.specs.Trees.{Tree, CoreInstances, Instances, Aliases, Types, Canons, Imports, Exports}
+use Rattle.comp_wraps.specs.Wrapping.{Handed}
 use Rattle.comp_joins.specs.Joining.{Joint, joining, Fits, Agree, itself}
+use Rattle.comp_agrees.specs.Numbers.{Partners}
+use Rattle.comp_agrees.specs.Handing.{HandsOn}
 use Rattle.link_rows.specs.Trees.{tree, somewhere, a_number, one_param, core_type, from_h, module_of, instance_type, import_h, func_of, core_func_of, core_named, given_core, with_core, exports_f}
 use Rattle.link_rows.specs.Rows.{told, runs}
 
@@ -72,3 +75,11 @@ pub record SharingExamples : Type 0 where
 pub record SharingPremises : Type 0 where
   pub fits : Fits sharing still teller itself itself
   pub agree : Agree shared still teller itself itself
+
+-- and those of the laws by which such premises are met
+abbrev pub handed : List Handed
+handed = record { name = codes "f"; sort = sorts.Func } ∷ []
+
+pub record SharingHands : Type 0 where
+  pub hands : HandsOn sharing still teller 0 handed
+  pub partners : Partners shared still teller [] []

@@ -4,7 +4,7 @@
 ghost use Rattle.link_rows.specs.Rows.{ReaderExamples, NestedExamples, ResourceExamples, StartExamples, EnteredExamples, BorrowExamples, InsideExamples};
 ghost use Rattle.link_rows.specs.Plugged.{PluggedExamples, PluggedPremises};
 ghost use Rattle.link_rows.specs.Taking.{TakingExamples, TakingPremises};
-ghost use Rattle.link_rows.specs.Sharing.{SharingExamples, SharingPremises};
+ghost use Rattle.link_rows.specs.Sharing.{SharingExamples, SharingHands, SharingPremises};
 ghost use Rattle.link_rows.specs.GivingMore.{GivingMoreExamples, GivingMorePremises};
 
 /// A component reads a clock, with its steps counted. It does nothing when it runs.
@@ -99,4 +99,10 @@ pub fn more_is_given()
 #[tactic(auto, using(crate::proofs::GivingMore::more_premises_hold))]
 pub fn more_given_premises_are_met()
     ensures { GivingMorePremises }
+{}
+
+/// What hands on the second's exports, and the numbers of both, are as the laws on these ask. It does nothing when it runs.
+#[tactic(auto, using(crate::proofs::Sharing::handing_holds))]
+pub fn handing_premises_are_met()
+    ensures { SharingHands }
 {}
