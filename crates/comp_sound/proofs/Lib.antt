@@ -1,0 +1,9 @@
+pub mod Core
+pub mod Names
+pub mod Given
+pub mod Imports
+pub mod Flat
+pub mod Canons
+pub mod Kept
+pub mod Steps
+pub mod Made

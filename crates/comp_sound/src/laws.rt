@@ -1,0 +1,12 @@
+ghost use Rattle.comp_sound.specs.Sound.{LinkedIsSound, LinkingIsSound};
+
+/// Each step of the plan of a valid component finds what it needs: modules are given what they import, core functions have the flattened
+/// types, options fit.
+pub fn linking_is_sound()
+    ensures { LinkingIsSound }
+{}
+
+/// A linked component is sound where its plan is that of a valid component.
+pub fn linked_components_are_sound()
+    ensures { LinkedIsSound }
+{}
