@@ -249,7 +249,11 @@ fn what_fits_stays_after_a_write_without_room(rt: HostRuntime) -> Result<(), Fai
         ("p", b"slots = 3".as_slice()),
         ("o", &SEVEN_OUT[..50]),
     ] {
-        assert_eq!(rt; files.file(&Text::from_str(alloc, name)?), Some(bytes), "{name}");
+        assert_eq!(rt;
+            files.file(&Text::from_str(alloc, name)?),
+            Some(bytes),
+            "{name}"
+        );
     }
     Ok(())
 }

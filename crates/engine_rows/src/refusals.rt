@@ -55,17 +55,16 @@ fn imports_and_handles_are_refused(rt: HostRuntime) -> Result<(), Fail> {
     let mistyped = random_with(alloc, 0x79)?;
     let listed = random_with(alloc, 0x77)?;
     // an instance type without entries, and two imports of it
-    let twice = b"\0asm\x0D\0\x01\0\x07\x03\x01\x42\x00\x0A\x2D\x02\x00\x12wasi:io/poll@0.2.0\x05\x00\x00\x12wasi:io/poll@0.2.3\x05\x00";
+    let twice =
+        b"\0asm\x0D\0\x01\0\x07\x03\x01\x42\x00\x0A\x2D\x02\x00\x12wasi:io/poll@0.2.0\x05\x00\x00\x12wasi:io/poll@0.2.3\x05\x00";
     // a resource and an owned handle of it, and an export of the handle's type
     let owned =
         b"\0asm\x0D\0\x01\0\x07\x06\x02\x3F\x7F\x00\x69\x00\x0B\x07\x01\x00\x01o\x03\x01\x00";
     // a resource in an instance, and an export of the instance
-    let inside = b"\0asm\x0D\0\x01\0\x07\x04\x01\x3F\x7F\x00\x05\x08\x01\x01\x01\x00\x01r\x03\x00\x0B\x07\x01\x00\x01i\x05\x00\x00";
+    let inside =
+        b"\0asm\x0D\0\x01\0\x07\x04\x01\x3F\x7F\x00\x05\x08\x01\x01\x01\x00\x01r\x03\x00\x0B\x07\x01\x00\x01i\x05\x00\x00";
     for (app, line) in [
-        (
-            mistyped.as_slice(),
-            "wrong-type wasi:random/random@0.2.0",
-        ),
+        (mistyped.as_slice(), "wrong-type wasi:random/random@0.2.0"),
         (listed.as_slice(), "unlisted wasi:random/random@0.2.0"),
         (twice.as_slice(), "two-versions wasi:io/poll@0.2.3"),
         (owned.as_slice(), "handle-export o"),
