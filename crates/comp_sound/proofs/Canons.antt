@@ -1,7 +1,7 @@
 -- The core functions and options of canonical definitions fit.
 use Rattle.std.proofs.Common.{◌≡◌, ◌∙◌, ℕ, List, [], ◌∷◌, length, Bool, true, false, is_some, Option, Some, None, refl, sym, ap, subst}
 use Rattle.std.proofs.lemmas.Bool.{false≢true, and_parts}
-use Rattle.std.specs.Prelude.{nat_lt, ◌&&◌, ◌||◌, not, slice_get}
+use Rattle.std.specs.Prelude.{nat_lt, ◌&&◌}
 use Rattle.std.specs.List.{list_all, list_any}
 use Rattle.std.specs.Option.{option_map}
 use Rattle.wasm_ast.specs.declared.module.CoreFunc.{CoreFunc}
@@ -24,7 +24,7 @@ use Rattle.comp_worlds.specs.Groups.{Options}
 use Rattle.comp_link.specs.Linking.{Making, place_at, memory_in, realloc_in, post_in, options_in, lifting_of}
 use Rattle.comp_exports.proofs.Items.{get_there}
 use Rattle.comp_sound.specs.Fits.{HasCode, HasCodeIfAny, HasMemoryIfAny, OptionsFit, LiftingFits, LoweringFits}
-use Rattle.comp_sound.proofs.Core.{CoreFits, places_in, core_of, memory_below, item_at_index, CodeAt, code_at_index}
+use Rattle.comp_sound.proofs.Core.{CoreFits, places_in, core_of, memory_below, item_at_index, code_at_index}
 use Rattle.comp_sound.proofs.Flat.{lifted_with, post_with, memory_with, lift_realloc_with}
 use Rattle.comp_sound.proofs.Imports.{func_same}
 

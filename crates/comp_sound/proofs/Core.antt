@@ -1,6 +1,6 @@
 -- What core items stand at each index of a component as it is made: each is in the store of its instance, of the type that the index
 -- spaces have for it.
-use Rattle.std.proofs.Common.{◌≡◌, ◌∙◌, ℕ, ◌+◌, ◌<◌, ◌≤◌, List, [], ◌∷◌, ◌++◌, length, Option, Some, None, Bool, true, false, cond, refl, sym, ap, subst, arith}
+use Rattle.std.proofs.Common.{◌≡◌, ◌∙◌, ℕ, ◌<◌, List, [], ◌∷◌, ◌++◌, length, Option, Some, None, true, refl, sym, ap, subst, arith}
 use Rattle.std.specs.Prelude.{nat_lt, slice_get}
 use Rattle.std.specs.Option.{option_and_then}
 use Rattle.std.proofs.lemmas.List.{append-nil}
@@ -21,11 +21,10 @@ use Rattle.core_instance.specs.declared.external.Extern.TheVariants.{Func, Table
 use Rattle.core_instance.specs.declared.external.NamedExtern.{NamedExtern}
 use Rattle.core_instance.specs.Exported.{IsGiven, AreGiven}
 use Rattle.core_instance.specs.Matching.{IsOfType}
-use Rattle.core_instance.specs.Spaces.{IsThere}
 use Rattle.comp_rules.specs.Spaces.{Space, core_item_at, core_type_of, core_func_at}
 use Rattle.comp_rules.specs.Rules.{lengths_of, core_item_stands}
 use Rattle.comp_link.specs.Linking.{Making, place_at, core_item}
-use Rattle.comp_exports.proofs.Items.{Both, both_and, both_get, get_there}
+use Rattle.comp_exports.proofs.Items.{Both, both_get, get_there}
 use Rattle.comp_sound.specs.Fits.{HasCode}
 
 -- ---- the core items of a component as it is made, and their types

@@ -1,11 +1,11 @@
 -- With other numbers of resources a function has the same flattened type, and needs the same options.
-use Rattle.std.proofs.Common.{◌≡◌, ◌∙◌, ℕ, List, [], ◌∷◌, ◌++◌, length, Bool, cond, Option, Some, None, refl, ap}
+use Rattle.std.proofs.Common.{◌≡◌, ℕ, List, [], ◌∷◌, ◌++◌, length, cond, Option, Some, None, refl, ap}
 use Rattle.std.specs.Prelude.{nat_lt, ◌||◌}
 use Rattle.virt_base.specs.declared.core_type.CoreType.{CoreType}
 use Rattle.virt_base.specs.declared.core_type.CoreType.TheVariants.{I32}
 use Rattle.wasm_ast.specs.declared.module.CoreFunc.{CoreFunc}
-use Rattle.wit_types.specs.Plain.{Plain, Parts, PlainFunc, StringType, ListType, RecordType, VariantType, End, More, Bare}
-use Rattle.wit_types.specs.Layout.{flat, flat_fields}
+use Rattle.wit_types.specs.Plain.{Plain, Parts, PlainFunc, ListType, RecordType, VariantType, End, More, Bare}
+use Rattle.wit_types.specs.Layout.{flat_fields}
 use Rattle.abi_layout.specs.Functions.{flat_result}
 use Rattle.comp_facts.specs.Needs.{is_pointed, is_pointed_in, is_pointed_answer, needs_memory, lift_needs_realloc}
 use Rattle.comp_types.specs.Substitution.{value_with, parts_with, answer_with, func_with}

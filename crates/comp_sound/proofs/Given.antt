@@ -1,10 +1,10 @@
 -- What a module gives in the store in which its items are allocated, and its start function there.
-use Rattle.std.proofs.Common.{◌≡◌, ◌∙◌, ℕ, zero, suc, ◌<◌, List, [], ◌∷◌, ◌++◌, length, map, Bool, true, false, Option, Some, None, refl, sym, ap, subst, arith}
+use Rattle.std.proofs.Common.{◌≡◌, ◌∙◌, ℕ, ◌<◌, List, [], ◌∷◌, ◌++◌, length, map, true, Option, Some, None, refl, sym, ap, subst, arith}
 use Rattle.std.proofs.lemmas.Bool.{and_parts, eqb-true, ltb-true}
 use Rattle.std.proofs.lemmas.Option.{get_or_from_slice_get}
-use Rattle.std.specs.Prelude.{nat_lt, ◌==◌, slice_get}
+use Rattle.std.specs.Prelude.{◌==◌, slice_get}
 use Rattle.std.specs.List.{All}
-use Rattle.std.specs.Option.{option_map, option_and_then, option_map_or, option_to_list}
+use Rattle.std.specs.Option.{option_map, option_map_or, option_to_list}
 use Rattle.wasm_ast.specs.declared.module.CoreFunc.{CoreFunc}
 use Rattle.wasm_ast.specs.declared.module.Limits.{Limits}
 use Rattle.wasm_ast.specs.declared.module.TableType.{TableType}
@@ -14,7 +14,7 @@ use Rattle.wasm_ast.specs.declared.module.ExportItem.{ExportItem}
 use Rattle.wasm_ast.specs.declared.module.ExportItem.TheVariants as exported
 use Rattle.wasm_ast.specs.declared.module.Module.{Module}
 use Rattle.virt_base.specs.declared.core_type.CoreType.{CoreType}
-use Rattle.core_body.specs.Context.{Context, arrow, function_type}
+use Rattle.core_body.specs.Context.{arrow, function_type}
 use Rattle.core_body.specs.Conditions.{rule_of, is_met, takes_nothing}
 use Rattle.core_validate.specs.Gather.{with_earlier}
 use Rattle.core_validate.specs.Items.{AnExport, AStart, export_condition, first_items, later_items, export_items, plain_items}

@@ -1,9 +1,9 @@
 -- What a module of a component is given is what it imports.
-use Rattle.std.proofs.Common.{◌≡◌, ◌∙◌, ℕ, zero, suc, ◌<◌, List, [], ◌∷◌, ◌++◌, length, map, Bool, true, false, cond, is_some, Option, Some, None, refl, sym, ap, subst, arith}
+use Rattle.std.proofs.Common.{◌≡◌, ◌∙◌, ℕ, List, [], ◌∷◌, ◌++◌, length, map, Bool, true, false, cond, is_some, Option, Some, None, refl, sym, ap, subst, arith}
 use Rattle.std.proofs.lemmas.Bool.{false≢true, and_parts, ltb-true}
 use Rattle.std.proofs.lemmas.List.Elements.{All-cons}
 use Rattle.std.proofs.lemmas.Option.{slice_get_within}
-use Rattle.std.specs.Prelude.{nat_lt, ◌&&◌, slice_get}
+use Rattle.std.specs.Prelude.{nat_lt, slice_get}
 use Rattle.std.specs.List.{All, list_all, flat_map}
 use Rattle.std.specs.Option.{option_and_then}
 use Rattle.std.specs.Cmp.Lexicographic.{pointwise}
@@ -15,7 +15,6 @@ use Rattle.wasm_ast.specs.declared.module.ImportItem.{ImportItem}
 use Rattle.wasm_ast.specs.declared.module.ImportItem.TheVariants as imported
 use Rattle.wasm_ast.specs.declared.module.Module.{Module}
 use Rattle.wasm_ast.specs.declared.component.CoreArg.{CoreArg}
-use Rattle.core_body.specs.Context.{Context}
 use Rattle.core_validate.specs.Gather.{with_earlier}
 use Rattle.core_validate.specs.Items.{AnImport, import_items, first_items, later_items}
 use Rattle.core_validate.specs.Spaces.{context, imported_memories}
@@ -24,7 +23,6 @@ use Rattle.core_validate.specs.Validity.{Holds, AllHold, IsValidModule}
 use Rattle.core_validate.specs.declared.item.CoreItem.{CoreItem}
 use Rattle.core_validate.specs.declared.item.CoreItem.TheVariants as item
 use Rattle.core_validate.specs.declared.item.CoreExport.{CoreExport}
-use Rattle.core_validate.specs.declared.item.CoreImport.{CoreImport}
 use Rattle.core_store.specs.State.{State}
 use Rattle.core_eval.proofs.Growing.{get_within}
 use Rattle.core_instance.specs.declared.external.Extern.{Extern}

@@ -1,8 +1,7 @@
 -- Which definitions leave the core items of a component, and its modules, as they are.
-use Rattle.std.proofs.Common.{◌≡◌, ◌∙◌, sym, refl, ap, subst, ℕ, List, [], ◌∷◌, Option, Some, None}
+use Rattle.std.proofs.Common.{◌≡◌, ◌∙◌, sym, refl, subst, ℕ, List, ◌∷◌, Option, Some, None}
 use Rattle.std.specs.Prelude.{slice_get}
 use Rattle.std.specs.Option.{option_and_then}
-use Rattle.wasm_ast.specs.declared.module.Module.{Module}
 use Rattle.wasm_ast.specs.declared.component.CoreSort.{CoreSort}
 use Rattle.wasm_ast.specs.declared.component.Sort.{Sort}
 use Rattle.wasm_ast.specs.declared.component.Sort.TheVariants as sorts
@@ -10,9 +9,7 @@ use Rattle.wasm_ast.specs.declared.component.Instance.{Instance}
 use Rattle.wasm_ast.specs.declared.component.Instance.TheVariants as instances
 use Rattle.wasm_ast.specs.declared.component.OuterSort.{OuterSort}
 use Rattle.wasm_ast.specs.declared.component.OuterSort.TheVariants as outer_sorts
-use Rattle.wasm_ast.specs.declared.component.Alias.{Alias}
 use Rattle.wasm_ast.specs.declared.component.Alias.TheVariants as aliases
-use Rattle.wasm_ast.specs.declared.component.TypeAlias.{TypeAlias}
 use Rattle.wasm_ast.specs.declared.component.TypeAlias.TheVariants as type_aliases
 use Rattle.wasm_ast.specs.declared.component.TypeDef.{TypeDef}
 use Rattle.wasm_ast.specs.declared.component.TypeDef.TheVariants as defs
@@ -27,10 +24,10 @@ use Rattle.core_validate.specs.declared.item.ModuleType.{ModuleType}
 use Rattle.wit_types.specs.Plain.{Name}
 use Rattle.comp_types.specs.Items.{Item, Entries, FuncItem, InstanceItem, KindItem, look_up}
 use Rattle.comp_rules.specs.Declarations.{Declaration, ATypeDef, AnInstanceType, ATypeAlias, ATypeExport}
-use Rattle.comp_rules.specs.Spaces.{Space, TypeEntry, NestedComponent, and_core_item, and_type, entry_of, and_item, item_at}
+use Rattle.comp_rules.specs.Spaces.{Space, TypeEntry, NestedComponent, and_type, entry_of, and_item, item_at}
 use Rattle.comp_rules.specs.Types.{kind_of}
 use Rattle.comp_rules.specs.CoreMatching.{core_look_up}
-use Rattle.comp_rules.specs.Definitions.{ACoreInstance, AnInstance, AnAlias, AType, ACanon, AnImport, AnExport}
+use Rattle.comp_rules.specs.Definitions.{AnInstance, AnAlias, AType, ACanon, AnImport, AnExport}
 use Rattle.comp_rules.specs.Added.{and_again, and_export_index, and_instantiated, and_some_item, and_some_core_item, and_some_type, and_some_module, and_some_component, and_outer, and_index, and_resource, after, named_items}
 use Rattle.comp_link.specs.Linking.{Given, GivenFunc, GivenInstance, GivenResource, GivenType, Making, and_item as and_made, and_export}
 use Rattle.comp_sound.proofs.Core.{Places, places_in, CoreTypes, core_of, CoreFits}

@@ -1,7 +1,6 @@
 -- The plan of a valid component is sound.
-use Rattle.std.proofs.Common.{◌≡◌, ◌∙◌, ℕ, zero, suc, List, [], ◌∷◌, ◌++◌, Option, Some, None, refl, sym, ap, subst}
+use Rattle.std.proofs.Common.{◌≡◌, ℕ, zero, suc, List, [], ◌∷◌, Option, Some, None, refl, sym, subst}
 use Rattle.std.specs.Prelude.{slice_get}
-use Rattle.wasm_ast.specs.declared.module.Module.{Module}
 use Rattle.wasm_ast.specs.declared.component.OuterSort.{OuterSort}
 use Rattle.wasm_ast.specs.declared.component.OuterSort.TheVariants as outer_sorts
 use Rattle.wasm_ast.specs.declared.component.Alias.TheVariants as aliases
@@ -11,20 +10,18 @@ use Rattle.comp_types.specs.Items.{Entries}
 use Rattle.comp_grammar.specs.Trees.{Part, Tree, CoreModule, Nested, CoreInstances, Instances, Aliases, Types, Canons, Imports, Exports, Custom, End as NoParts, More as Section}
 use Rattle.comp_rules.specs.Declarations.{grouped}
 use Rattle.comp_rules.specs.Definitions.{Definition, ACoreInstance, AnInstance, AnAlias, AType, ACanon, AnImport, AnExport, definitions}
-use Rattle.comp_rules.specs.Spaces.{Space, NestedComponent}
+use Rattle.comp_rules.specs.Spaces.{Space}
 use Rattle.comp_rules.specs.Added.{and_outer, and_some_module, after, after_all, after_part, after_tree, entered, nested_of, root}
 use Rattle.comp_rules.specs.Validity.{AreValid, IsValidPart, IsValidTree}
 use Rattle.comp_link.specs.Plans.{Plan, End, Then, Scope, no_scope, and_module, and_plan, followed, planned_by, and_outer as scope_and_outer, scope_after, plan_all, plan_part, plan_tree, plan_of}
 use Rattle.comp_link.specs.Linking.{Givens, Whole, Making, begun, link_item, link}
-use Rattle.comp_plans.specs.declared.linked.Linked.{Linked}
-use Rattle.comp_plans.specs.Planned.{plan_in}
 use Rattle.comp_exports.specs.Sections.{DefinesIn, DefinesTypes}
 use Rattle.comp_exports.proofs.Shapes.{Has}
 use Rattle.comp_exports.proofs.Kept.{Within, all_within, tree_within, then_within}
 use Rattle.comp_exports.proofs.Items.{Both, both_and, both_get, both_none, Fits}
 use Rattle.comp_exports.proofs.Made.{link_followed, IsPlanOf, ScopeIs, DefineAll, define_map, define_types, defined_fits, module_scope, scope_stays, outside_has}
 use Rattle.comp_sound.specs.Counts.{CountsHoldIn, CountsHold}
-use Rattle.comp_sound.specs.Sound.{IsSoundPlan, IsSound, at_first, LinkingIsSound, LinkedIsSound}
+use Rattle.comp_sound.specs.Sound.{IsSoundPlan, at_first, LinkingIsSound, LinkedIsSound}
 use Rattle.comp_sound.proofs.Core.{places_in, core_of, CoreFits, both_map}
 use Rattle.comp_sound.proofs.Kept.{with_outer_type, with_outer_component, with_instance, with_alias, core_alias_modules, canon_modules, with_import, with_export, with_declaration}
 use Rattle.comp_sound.proofs.Steps.{IsModuleOf, IsSoundOf, defined_step}

@@ -1,12 +1,11 @@
 -- Core items by their names: what is found in the type of an instance is found in the instance.
-use Rattle.std.proofs.Common.{◌≡◌, ◌∙◌, ℕ, List, [], ◌∷◌, ◌++◌, Option, Some, None, Bool, true, false, cond, is_some, refl, sym, ap, subst}
+use Rattle.std.proofs.Common.{◌≡◌, ◌∙◌, List, [], ◌∷◌, Some, None, Bool, true, false, cond, refl, sym, ap, subst}
 use Rattle.std.proofs.lemmas.Bool.{false≢true, and_parts}
-use Rattle.std.specs.Prelude.{slice_get, nat_lt, length}
+use Rattle.std.specs.Prelude.{slice_get}
 use Rattle.std.specs.List.{list_all}
 use Rattle.std.specs.Option.{option_and_then}
 use Rattle.std.proofs.lemmas.Slice.Eq.{bytes_eq-Decides}
 use Rattle.wasm_ast.specs.declared.component.CoreArg.{CoreArg}
-use Rattle.wasm_ast.specs.declared.component.CoreSort.{CoreSort}
 use Rattle.wasm_ast.specs.declared.component.CoreExport.{CoreExport as CoreNamed}
 use Rattle.core_validate.specs.declared.item.CoreItem.{CoreItem}
 use Rattle.core_validate.specs.declared.item.CoreItem.TheVariants as item
@@ -20,11 +19,11 @@ use Rattle.wit_types.specs.Plain.{Name}
 use Rattle.comp_types.specs.Items.{same_name}
 use Rattle.comp_types.proofs.ValueLaws.{name-sound, name-same}
 use Rattle.comp_rules.specs.CoreMatching.{same_text, core_look_up}
-use Rattle.comp_rules.specs.Spaces.{Space, core_item_at, and_core_item}
-use Rattle.comp_rules.specs.Added.{and_core_named, core_named, and_some_core_item, and_core_instance}
+use Rattle.comp_rules.specs.Spaces.{Space, and_core_item}
+use Rattle.comp_rules.specs.Added.{and_core_named, core_named}
 use Rattle.comp_rules.specs.Rules.{lengths_of, core_item_stands}
 use Rattle.comp_cores.specs.Arguments.{instance_named}
-use Rattle.comp_link.specs.Linking.{Making, core_find, core_item, named_core, arg_instance, and_core_item as and_made}
+use Rattle.comp_link.specs.Linking.{Making, core_find, named_core, arg_instance, and_core_item as and_made}
 use Rattle.comp_exports.proofs.Shapes.{some_same}
 use Rattle.comp_exports.proofs.Items.{both_and}
 use Rattle.comp_sound.proofs.Core.{places_in, core_of, FuncGiven, TableGiven, MemoryGiven, GlobalGiven, CoreFits, item_at_index}

@@ -1,10 +1,9 @@
 -- Each definition of a valid component plans a sound step, behind which core items fit as before.
-use Rattle.std.proofs.Common.{◌≡◌, ◌∙◌, ℕ, List, [], ◌∷◌, ◌++◌, length, map, Bool, true, false, Option, Some, None, refl, sym, ap, subst}
+use Rattle.std.proofs.Common.{◌≡◌, ◌∙◌, ℕ, List, [], ◌∷◌, ◌++◌, length, true, Option, Some, None, refl, sym, ap, subst}
 use Rattle.std.proofs.lemmas.Bool.{false≢true, and_parts}
-use Rattle.std.specs.Prelude.{nat_lt, ◌&&◌, slice_get}
+use Rattle.std.specs.Prelude.{nat_lt, slice_get}
 use Rattle.std.specs.List.{list_all}
 use Rattle.std.specs.Option.{option_map, option_and_then}
-use Rattle.virt_base.specs.declared.core_type.CoreType.TheVariants.{I32}
 use Rattle.wasm_ast.specs.declared.module.CoreFunc.{CoreFunc}
 use Rattle.wasm_ast.specs.declared.module.Module.{Module}
 use Rattle.wasm_ast.specs.declared.component.CoreArg.{CoreArg}
@@ -40,28 +39,26 @@ use Rattle.core_instance.specs.Exported.{AreGiven}
 use Rattle.core_instance.specs.Instantiation.{allocated, instance_of}
 use Rattle.core_instance.specs.Matching.{HasCounts, IsOfType}
 use Rattle.core_instance.proofs.FineLemmas.{grows}
-use Rattle.core_instance.proofs.RangeLemmas.{get_behind}
-use Rattle.wit_types.specs.Plain.{Name, PlainFunc}
-use Rattle.comp_types.specs.Items.{Item, Kind, Entries, FuncItem, InstanceItem, KindItem, ResourceKind, ValueKind, FuncKind, InstanceKind, look_up}
+use Rattle.wit_types.specs.Plain.{Name}
+use Rattle.comp_types.specs.Items.{Item, Kind, Entries, ResourceKind, ValueKind, FuncKind, InstanceKind, look_up}
 use Rattle.comp_rules.specs.Declarations.{Declaration, ATypeDef, AnInstanceType, ATypeAlias, ATypeExport}
 use Rattle.comp_rules.specs.Definitions.{Definition, ACoreInstance, AnInstance, AnAlias, AType, ACanon, AnImport, AnExport}
-use Rattle.comp_rules.specs.CoreMatching.{same_func, core_look_up}
+use Rattle.comp_rules.specs.CoreMatching.{core_look_up}
 use Rattle.comp_rules.specs.Flat.{lowered_type}
-use Rattle.comp_rules.specs.Spaces.{Space, TypeEntry, NestedComponent, core_func_at, kind_at, item_at, and_core_item}
-use Rattle.comp_rules.specs.Types.{func_in, resource_in}
+use Rattle.comp_rules.specs.Spaces.{Space, TypeEntry, NestedComponent, core_func_at, kind_at, and_core_item}
+use Rattle.comp_rules.specs.Types.{resource_in}
 use Rattle.comp_rules.specs.Added.{exports_in, and_core_instance, and_some_core_item, lowered_at, takes_one, takes_and_gives, named_items, described, after}
-use Rattle.comp_rules.specs.Rules.{if_there, lengths_of, item_stands, desc_stands, option_stands, core_item_stands, core_import_given, core_import_met, has_item, has_core_item, is_of_sort, is_of_core_sort, exports_sort, is_resource, is_destructor, lower_options, MeetsComponent}
+use Rattle.comp_rules.specs.Rules.{if_there, lengths_of, item_stands, desc_stands, option_stands, core_import_given, core_import_met, has_item, has_core_item, is_of_sort, is_of_core_sort, exports_sort, is_resource, is_destructor, lower_options, MeetsComponent}
 use Rattle.comp_rules.specs.Validity.{IsValidDefinition, AllHold}
 use Rattle.comp_types.specs.Substitution.{partner_in}
 use Rattle.comp_worlds.specs.Groups.{Target, Begins, LoweredFunc, ResourceNew, ResourceDrop, ResourceRep, Func as Canonical}
-use Rattle.comp_link.specs.Plans.{Plan, End, Then, OfModule, OfComponent, Lowers, MakesResource, DropsResource, ReadsResource, Imports, Exports, Scope, if_some, just, named_by, named_args, of_core_instance, own_numbers, of_instance, of_alias, of_type, of_canon, planned_by}
-use Rattle.comp_link.specs.Linking.{Given, Givens, find, Whole, Making, begun, and_stage, place_at, core_find, externs_for, with_canon, with_lowered, given_at, givens_of, item_in, options_in, link_item, link, and_core_item as and_made_core}
-use Rattle.comp_exports.specs.Exports.{IsOf}
+use Rattle.comp_link.specs.Plans.{Plan, End, OfModule, OfComponent, Lowers, MakesResource, DropsResource, ReadsResource, Imports, Exports, Scope, if_some, just, named_by, named_args, of_core_instance, own_numbers, of_instance, of_alias, of_type, of_canon, planned_by}
+use Rattle.comp_link.specs.Linking.{Givens, find, Whole, Making, begun, and_stage, place_at, core_find, externs_for, with_canon, with_lowered, given_at, givens_of, item_in, options_in, link, and_core_item as and_made_core}
 use Rattle.comp_exports.proofs.Shapes.{Has, found, has_given, has_exports}
 use Rattle.comp_exports.proofs.Kept.{Within, found_new}
 use Rattle.comp_exports.proofs.Items.{Both, both_and, both_get, get_there, IsFunc, Fits, item_there, given_there, named_fit}
 use Rattle.comp_exports.proofs.Made.{ScopeIs}
-use Rattle.comp_sound.specs.Fits.{HasCode, HasCodeIfAny, ModuleFits}
+use Rattle.comp_sound.specs.Fits.{HasCode, HasCodeIfAny}
 use Rattle.comp_sound.specs.Sound.{IsThere, AreThere, IsSoundPlan}
 use Rattle.comp_sound.proofs.Core.{Places, places_in, CoreTypes, core_of, CoreFits, FuncGiven, InstanceGiven, functions_later, tables_later, memories_later, globals_later, instances_later, grew_function}
 use Rattle.comp_sound.proofs.Names.{found_given, extern_fits, items_given}
