@@ -12,3 +12,4 @@ pub mod Closed
 pub mod InStep
 pub mod Gains
 pub mod Same
+pub mod There

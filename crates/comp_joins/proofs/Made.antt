@@ -12,14 +12,17 @@ use Rattle.comp_link.specs.Plans.{no_scope, plan_of}
 use Rattle.comp_link.specs.Linking.{Given, Givens, GivenFunc, GivenInstance, Nothing, Giving, Placed, Owned, Whole, Making, begun, and_stage, link, all_outside, outside, target_in as target_of, exported, linked, group_of}
 use Rattle.comp_renames.specs.Renaming.{lifting_with, import_with, target_with}
 use Rattle.comp_inside.specs.Linked.{Standing, target_in, given_in, givens_in, whole_in, making_in, unmade}
+use Rattle.comp_inside.specs.Later.{plan_later}
 use Rattle.comp_inside.proofs.Made.{more_made}
+use Rattle.comp_inside.proofs.Planned.{planned_inside}
 use Rattle.comp_inside.proofs.Components.{components_inside}
 use Rattle.comp_joins.specs.Joining.{Joint, joining, before_first, before_second, one_scope, first_plan, second_plan, made_front, given_first, made_first, made_between, given_second, made_second, or_else, or_nowhere, met, all_met, imports_of, hosted, first_own, behind_own, asked, found_with, GivesJust, GivesMore, Fits, over_host, Agree, itself}
-use Rattle.comp_joins.specs.Alike.{AlikeBut, IsNothing, IsAny, MadeAlike}
+use Rattle.comp_joins.specs.Alike.{AlikeBut, IsNothing, IsAny, MadeAlike, IsThere, PlanFinds}
 use Rattle.comp_joins.proofs.Places.{left, right, left_here, right_here}
 use Rattle.comp_joins.proofs.Front.{front_whole, between_whole, joined_whole}
 use Rattle.comp_joins.proofs.Lists.{targets_in}
 use Rattle.comp_joins.proofs.Finding.{alike_itself, targets_alike, found_there}
+use Rattle.comp_joins.proofs.There.{plan_found}
 use Rattle.comp_joins.proofs.Regiven.{linked_alike, linked_among}
 
 -- ---- resources of the same numbers
@@ -236,12 +239,19 @@ module _ (j : Joint) (first second : Tree) (from to : ℕ → ℕ) where
         (linked_alike (second_plan j first second) second_start (begun (and_stage (made_between j first second).whole Begins) (given_second j first second))
         (begun_alike IsNothing refl (and_stage (made_between j first second).whole Begins) (asked j first second to) (given_second j first second) just.given))
 
+    -- what it finds alone it finds there
+    second_finds : PlanFinds IsThere (plan_of second) (unmade second) → PlanFinds IsThere (second_plan j first second) second_start
+    second_finds finds =
+        subst (λ p. PlanFinds IsThere p second_start) (sym (planned_inside (before_second j first second ∷ []) (one_scope j first second ∷ []) (before_second j first second).next second agree.second_stays))
+        (subst (PlanFinds IsThere (plan_later (before_second j first second).next (plan_of second))) (sym second_begins)
+        (plan_found second_at (plan_of second) (unmade second) (right_here (count first) (count second)) agree.second_knows finds))
+
     more_is : GivesMore j first second to → MadeAlike IsAny (making_in second_at (linked second)) (made_second j first second)
     more_is more =
         subst (λ z. MadeAlike IsAny z (made_second j first second)) second_made
         (linked_among (second_plan j first second) second_start (begun (and_stage (made_between j first second).whole Begins) (given_second j first second))
         (begun_alike IsAny tt (and_stage (made_between j first second).whole Begins) (asked j first second to) (given_second j first second) more.given)
-        more.finds)
+        (second_finds more.finds))
 
     second_whole : GivesJust j first second to ⊎ GivesMore j first second to → (made_second j first second).whole ≡ whole_in second_at (linked second).whole
     second_whole (inl just) = ap (λ m. m.whole) (just_is just).is

@@ -188,7 +188,7 @@ module _ (j : Joint) (first second : Tree) (to : ℕ → ℕ) where
   -- by itself, and nothing else.
   pub record GivesMore : Type 0 where
     pub given : IsAmong asked (given_second j first second)
-    pub finds : PlanFinds IsThere (second_plan j first second) (begun (and_stage (made_between j first second).whole Begins) asked)
+    pub finds : PlanFinds IsThere (plan_of second) (unmade second)
     pub exports :
         (interface name : Name) → target_in (exported (linked (joining j first second)).exports interface name)
         ≡ found_with (target_in (exported (linked second).exports interface name)) (target_in (exported (made_second j first second).exports interface name))
