@@ -9,7 +9,6 @@ use Rattle.call_targets.specs.declared.target.Target.TheVariants.{Mine, Theirs}
 use Rattle.call_targets.specs.declared.canon.Canon.{Canon}
 use Rattle.call_targets.specs.declared.canon.Canon.TheVariants as canons
 
-
 abbrev pub lifting_of : Lifting → GroupLifting
 lifting_of l = record { code = l.code; ty = l.ty; options = options_of l.options; post = l.post }
 

@@ -21,7 +21,6 @@ pub struct CallType {
 impl Model for CallType {
     ghost use Rattle.wit_types.specs.Plain.{PlainFunc};
     ghost use Rattle.call_targets.specs.Calls.{IsCallOf};
-
     ghost use Rattle.comp_types.specs.Codes.{func_code};
 
     ghost Value = { PlainFunc };

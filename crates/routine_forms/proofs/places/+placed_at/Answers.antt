@@ -38,9 +38,9 @@ one_at-returns-in_ok-other-in-If t c =
     let first = c.in_ok-first-in-If.ensures ∙ ap (λ l. placed places (code_of l)) c.deref.ensures.value in
     let other = c.in_ok-other-in-If.ensures ∙ ap (λ l. placed places (code_of l)) c.deref-in-If.ensures.value in
     λ rest. c.choose.ensures rest ∙ ap (λ i. Choose i (code_of c.in_ok-first-in-If.first.items) (code_of c.in_ok-other-in-If.other.items) rest) c.at.ensures
-        ∙ ap (λ f. Choose (place_in places c.in-If.test) f (code_of c.in_ok-other-in-If.other.items) rest) first
-        ∙ ap (λ o. Choose (place_in places c.in-If.test) (placed places (code_of c.in-If.yes.items)) o rest) other
-        ∙ sym (ap (λ q. followed_by q rest) whole)
+    ∙ ap (λ f. Choose (place_in places c.in-If.test) f (code_of c.in_ok-other-in-If.other.items) rest) first
+    ∙ ap (λ o. Choose (place_in places c.in-If.test) (placed places (code_of c.in-If.yes.items)) o rest) other
+    ∙ sym (ap (λ q. followed_by q rest) whole)
 
 pub one_at-returns-in_ok-body-in-Repeat : goal.one_at-returns-in_ok-body-in-Repeat
 one_at-returns-in_ok-body-in-Repeat t c =
@@ -48,8 +48,8 @@ one_at-returns-in_ok-body-in-Repeat t c =
     let whole = ap (λ st. placed places (before st Stop)) c.in-Repeat.is ∙ placed_repeat places c.in-Repeat.name c.in-Repeat.count c.in-Repeat.body in
     let body = c.in_ok-body-in-Repeat.ensures ∙ ap (λ l. placed places (code_of l)) c.deref-in-Repeat.ensures.value in
     λ rest. c.repeat.ensures rest ∙ ap (λ i. Turns c.in-Repeat.name i (code_of c.in_ok-body-in-Repeat.body.items) rest) c.at-in-Repeat.ensures
-        ∙ ap (λ b. Turns c.in-Repeat.name (place_in places c.in-Repeat.count) b rest) body
-        ∙ sym (ap (λ q. followed_by q rest) whole)
+    ∙ ap (λ b. Turns c.in-Repeat.name (place_in places c.in-Repeat.count) b rest) body
+    ∙ sym (ap (λ q. followed_by q rest) whole)
 
 pub placed_at-one_at-requires : goal.placed_at-one_at-requires
 placed_at-one_at-requires t c =
