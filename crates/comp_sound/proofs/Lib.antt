@@ -7,3 +7,4 @@ pub mod Canons
 pub mod Kept
 pub mod Steps
 pub mod Made
+pub mod Spelled

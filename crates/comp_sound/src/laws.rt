@@ -1,3 +1,4 @@
+ghost use Rattle.comp_sound.specs.Counts.{SpelledCount};
 ghost use Rattle.comp_sound.specs.Sound.{LinkedIsSound, LinkingIsSound};
 
 /// Each step of the plan of a valid component finds what it needs: modules are given what they import, core functions have the flattened
@@ -9,4 +10,9 @@ pub fn linking_is_sound()
 /// A linked component is sound where its plan is that of a valid component.
 pub fn linked_components_are_sound()
     ensures { LinkedIsSound }
+{}
+
+/// Of a component that bytes spell, each module has its counts.
+pub fn spelled_components_have_counts()
+    ensures { SpelledCount }
 {}

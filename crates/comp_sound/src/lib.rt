@@ -3,4 +3,4 @@
 
 mod laws;
 
-pub use laws::{linked_components_are_sound, linking_is_sound};
+pub use laws::{linked_components_are_sound, linking_is_sound, spelled_components_have_counts};
