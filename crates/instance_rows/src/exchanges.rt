@@ -40,7 +40,6 @@ fn values_come(rt: HostRuntime) -> Result<(), Fail> {
     let owners = owners(alloc)?;
     let mut handles = table(alloc, &[])?;
     let mut room = Room::new(alloc);
-    let holds = has_handles(&ty);
     for (into, wanted) in [
         (
             4,
@@ -52,6 +51,7 @@ fn values_come(rt: HostRuntime) -> Result<(), Fail> {
         ),
     ] {
         let value = handles_value(alloc, [80, 81, 82, 83])?;
+        let holds = has_handles(&ty);
         match exchange_in(
             alloc,
             &mut handles,
