@@ -1,5 +1,5 @@
 use Rattle.tree_halves.proofs.Searching as laws
-use Rattle.tree_halves.proofs.halves_find_the_child.Goals as goal
+use Rattle.tree_halves.proofs.halves.halves_find_the_child.Goals as goal
 
 pub returns-clause-finds : goal.returns-clause-finds
 returns-clause-finds c = laws.finds
