@@ -161,7 +161,8 @@ impl CoreRuns {
 
     /// The innermost call goes on until it ends, traps or asks, or until no step is left in the budget. One that awaits results traps.
     pub fn go_on(&mut self, alloc: Global, budget: &mut u64) -> Result<Pause, NoMemory>
-        ensures { IfOk result (λ pause. Goes self.old budget.old pause self.new budget.new) }
+        ensures goes { IfOk result (λ pause. Goes self.old budget.old pause self.new budget.new) }
+        ensures budget { IfOk result (λ _. budget.new ≤ budget.old) }
     {
         if !self.going {
             return Ok(Pause::Trapped);

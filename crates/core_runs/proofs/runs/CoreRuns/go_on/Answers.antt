@@ -22,8 +22,8 @@ invariant_of-self-in-Ok c =
       counts_on c.self.inside.store c.run_call.new.store c.self.inside.counts c.in-Ok.ensures.pauses.scene c.self.invariant.2,
     )
 
-pub returns-in-Ok : goal.returns-in-Ok
-returns-in-Ok c outer call e going =
+pub returns-in-Ok-clause-goes : goal.returns-in-Ok-clause-goes
+returns-in-Ok-clause-goes c outer call e going =
     let same : (c.pop.new.self.items ≡ outer) × (c.in-Some.call ≡ call) = one_last c.pop.new.self.items outer c.in-Some.call call (sym c.in-Some.ensures.items ∙ (ap (λ v. v.calls) c.self.view_is ∙ e)) in (
       subst (λ s. Ran outer call s c.args.budget.now c.in-Ok.pause c.run_call.new.calls.items c.run_call.new.store c.run_call.new.budget) (ap (λ v. v.store) c.self.view_is)
           (subst (λ o. Ran o call c.self.inside.store c.args.budget.now c.in-Ok.pause c.run_call.new.calls.items c.run_call.new.store c.run_call.new.budget) same.0
