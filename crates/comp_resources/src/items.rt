@@ -92,10 +92,13 @@ pub fn resources_of_kind(alloc: Global, kind: &TypeItem) -> Result<Resources, No
     Ok(found)
 }
 
-/// The resources that entries name, in the order in which they stand in them.
+/// The resources that entries name, in the order in which they stand in them: `NoMemory` at once where the walk is too long.
 pub fn resources_of_entries(alloc: Global, entries: &InstanceEntries) -> Result<Resources, NoMemory>
     ensures { IfOk result (λ rs. rs ≡ distinct (named_in entries.now)) }
 {
+    if entries.is_too_large() {
+        return Err(NoMemory);
+    }
     let mut found = Resources::none(alloc);
     add_slice(alloc, &mut found, entries.as_slice())?;
     Ok(found)

@@ -81,7 +81,8 @@ pub fn substitute(alloc: Global, ty: &ItemType, by: &Substitution) -> Result<Ite
     item_with(alloc, ty, by)
 }
 
-/// What an instance exports, with other resources. What speaks of no resource stays shared where it stands.
+/// What an instance exports, with other resources. What speaks of no resource stays shared where it stands; all else is made anew,
+/// as often as it stands there: `NoMemory` at once where that is too much.
 pub fn entries_with(
     alloc: Global,
     entries: &InstanceEntries,
@@ -89,5 +90,8 @@ pub fn entries_with(
 ) -> Result<InstanceEntries, NoMemory>
     ensures { IfOk result (λ new. new ≡ entries_with (partner_in by.now) entries.now) }
 {
+    if entries.is_too_large() {
+        return Err(NoMemory);
+    }
     slice_with(alloc, entries.as_slice(), by)
 }

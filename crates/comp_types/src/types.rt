@@ -61,7 +61,17 @@ pub struct InstanceEntries {
     /// 1,000,001 stands for more than 1,000,000.
     parts: u32,
     has_resource: bool,
+    /// How many parts a walk that makes other resources of theirs comes by, and how many instances stand in one another: no
+    /// answer but `NoMemory` rests on either.
+    walked: u32,
+    levels: u32,
 }
+
+/// More parts than these, each made anew, would take more than two gigabytes.
+const MOST_WALKED: u32 = 4_194_304;
+
+/// In more instances in one another a walk would run out of stack.
+const MOST_LEVELS: u32 = 4_096;
 
 impl Model for InstanceEntries {
     ghost use Rattle.std.specs.Prelude.{◌≡◌, min};
@@ -104,6 +114,8 @@ impl InstanceEntries {
             depth: 0,
             parts: 0,
             has_resource: false,
+            walked: 0,
+            levels: 0,
         }
     }
 
@@ -135,6 +147,12 @@ impl InstanceEntries {
         self.has_resource
     }
 
+    /// Whether memory can't be thought to suffice for a walk that makes each part with a resource anew, as often as it stands in
+    /// them.
+    pub fn is_too_large(&self) -> bool {
+        self.walked > MOST_WALKED
+    }
+
     /// The first entry of that name.
     pub fn look_up(&self, name: &Text) -> Option<&ItemType>
         ensures { option_map (λ ty. item_of ty.now) result ≡ look_up name.now self.now }
@@ -145,11 +163,16 @@ impl InstanceEntries {
         }
     }
 
-    /// One entry more, behind the others. Where memory runs out nothing changes.
+    /// One entry more, behind the others. Where memory runs out, or the stack would for instances in one another, nothing changes.
     pub fn push(&mut self, name: Text, ty: ItemType) -> Result<(), NoMemory>
         ensures ok { OnOk result (self.new ≡ and_entry self.old name (item_of ty)) }
         ensures err { OnErr result (self.new ≡ self.old) }
     {
+        let levels = u32::max(self.levels, ty.levels());
+        if levels > MOST_LEVELS {
+            return Err(NoMemory);
+        }
+        let walked = self.walked.saturating_add(ty.walked());
         let depth = u32::max(self.depth, ty.depth());
         let parts = u32::min(self.parts + ty.parts(), 1_000_001);
         let has_resource = self.has_resource | ty.has_resource();
@@ -162,6 +185,8 @@ impl InstanceEntries {
         self.depth = depth;
         self.parts = parts;
         self.has_resource = has_resource;
+        self.walked = walked;
+        self.levels = levels;
         Ok(())
     }
 }
@@ -231,6 +256,24 @@ impl TypeItem {
         }
     }
 
+    fn walked(&self) -> u32 {
+        match self {
+            TypeItem::Resource(_) => 1,
+            TypeItem::Value(ty) => ty.facts().parts,
+            TypeItem::Func(ty) => ty.facts().parts(),
+            TypeItem::Instance(ty) => ty.instance.entries.walked.saturating_add(1),
+        }
+    }
+
+    fn levels(&self) -> u32 {
+        match self {
+            TypeItem::Resource(_) => 0,
+            TypeItem::Value(_) => 0,
+            TypeItem::Func(_) => 0,
+            TypeItem::Instance(ty) => ty.instance.entries.levels.saturating_add(1),
+        }
+    }
+
     /// An equal type, which shares what is behind it: the only want is that of one owner more.
     pub fn copy(&self) -> Result<TypeItem, NoMemory>
         ensures { IfOk result (λ copy. kind_of copy ≡ kind_of self.now) }
@@ -279,6 +322,26 @@ impl ItemType {
             ItemType::Func(ty) => ty.facts().has_handle(),
             ItemType::Instance(ty) => ty.entries.has_resource(),
             ItemType::Kind(kind) => kind.has_resource(),
+        }
+    }
+
+    /// What speaks of no resource stays shared, and is one step.
+    fn walked(&self) -> u32 {
+        if !self.has_resource() {
+            return 1;
+        }
+        match self {
+            ItemType::Func(ty) => ty.facts().parts(),
+            ItemType::Instance(ty) => ty.entries.walked.saturating_add(1),
+            ItemType::Kind(kind) => kind.walked(),
+        }
+    }
+
+    fn levels(&self) -> u32 {
+        match self {
+            ItemType::Func(_) => 0,
+            ItemType::Instance(ty) => ty.entries.levels.saturating_add(1),
+            ItemType::Kind(kind) => kind.levels(),
         }
     }
 
