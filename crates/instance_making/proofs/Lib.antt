@@ -1,0 +1,11 @@
+pub mod NameLemmas
+pub mod CoreLemmas
+pub mod CanonLemmas
+pub mod PushLemmas
+pub mod MakingLemmas
+pub mod MoreLemmas
+pub mod FoundLemmas
+pub mod PartnerLemmas
+pub mod BoundLemmas
+pub mod KeepLemmas
+pub mod KnownLemmas
