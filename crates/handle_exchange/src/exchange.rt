@@ -6,9 +6,10 @@ ghost use Rattle.comp_worlds.specs.Passing.{named_in, lift_handles, add_handles,
 ghost use Rattle.comp_worlds.specs.Hosts.{passed_by};
 ghost use Rattle.value_handles.specs.Whether.{has_handles};
 ghost use Rattle.instance_handles.specs.Owning.{plain_for};
+ghost use Rattle.instance_handles.specs.Loans.{indexes_of};
 ghost use Rattle.handle_exchange.specs.Exchanges.{GoesOut, GoesIn};
 
-use instance_handles::{HandleFault, Handles, Owners};
+use instance_handles::{HandleFault, Handles, Loan, Owners};
 use std::alloc::Global;
 use value_handles::{ValueHandles, collect_handles};
 use value_numbers::renumber;
@@ -32,7 +33,7 @@ impl Room {
 }
 
 /// Takes the own handles of a value out of the table, and lends the borrowed ones: the value with that for which they stand, and behind
-/// other loans the indexes that are lent. `holds` says whether values of the type may hold handles.
+/// other loans those of the indexes that are lent. `holds` says whether values of the type may hold handles.
 ///
 /// # Errors
 ///
@@ -41,13 +42,13 @@ impl Room {
 pub fn exchange_out(
     handles: &mut Handles,
     room: &mut Room,
-    loans: &mut Vec<u32>,
+    loans: &mut Vec<Loan>,
     holds: bool,
     ty: &WitType,
     value: Value,
 ) -> Result<Value, HandleFault>
     requires { has_handles (plain ty.now) ≡ holds }
-    ensures { GoesOut (plain ty.now) (plain_value value) (lift_handles (named_in (handles_in (plain ty.now) (plain_value value))) handles.old) handles.new loans.old.items loans.new.items result }
+    ensures { GoesOut (plain ty.now) (plain_value value) (lift_handles (named_in (handles_in (plain ty.now) (plain_value value))) handles.old) handles.new (indexes_of loans.old.items) (indexes_of loans.new.items) result }
 {
     if !holds {
         return Ok(value);

@@ -1,12 +1,11 @@
 -- How many handles of a table are borrowed, after each call.
-use Rattle.std.proofs.Common.{◌≡◌, ◌≤◌, ◌<◌, ◌^◌, ℕ, zero, suc, ◌+◌, ◌-◌, ◌==◌, ◌||◌, nat_lt, Bool, true, false, not, true≢false, List, [], ◌∷◌, ◌++◌, length, get_or, set, Option, Some, None, IsSome, cond, refl, sym, ap, ◌∙◌, subst, arith, length-set}
+use Rattle.std.proofs.Common.{◌≡◌, ◌≤◌, ◌<◌, ◌^◌, ℕ, zero, suc, ◌+◌, ◌==◌, ◌||◌, nat_lt, Bool, true, false, not, List, [], ◌∷◌, ◌++◌, length, get_or, set, Option, Some, None, cond, refl, sym, ap, ◌∙◌, subst, arith, length-set}
 use Rattle.std.specs.List.{count_by, list_any}
 use Rattle.std.specs.Option.{option_map}
-use Rattle.std.specs.Int.{w32}
-use Rattle.std.proofs.lemmas.List.{get_or_past, length-append}
+use Rattle.std.proofs.lemmas.List.{length-append}
 use Rattle.std.proofs.lemmas.List.Sums.{sum_by-cons, sum_by-set, sum_by-append, count_by-le-length}
 use Rattle.std.proofs.lemmas.Bool.Decides.{nat_tests}
-use Rattle.handle_space.specs.HandleMap.{Entry, HandleMap, Answered, Held, most_live, empty, own_entry, borrow_entry, held, answered, entry_at, with_entry, without, added, add, lent_less, lend, IsLent, unlend, take, take_own}
+use Rattle.handle_space.specs.HandleMap.{Entry, HandleMap, Answered, Held, most_live, empty, own_entry, answered, entry_at, with_entry, without, added, add, lent_less, lend, IsLent, unlend, take, take_own}
 use Rattle.handle_space.proofs.MapLaws.{entry_of_is, lend_is, take_is, take_own_is}
 use Rattle.comp_worlds.specs.Passing.{is_borrow, has_borrow}
 use Rattle.instance_handles.specs.Counted.{IsCounted, AreBelow}

@@ -1,9 +1,8 @@
 -- The turns of the loops over the handles of a value.
 use Rattle.std.proofs.Common.{◌≡◌, ℕ, suc, ◌+◌, ◌<◌, length, get_or, arith, drop-cons, List, [], ◌∷◌, ◌++◌, map, drop, Bool, true, false, Option, Some, None, refl, sym, ap, ◌∙◌, append_assoc, append-nil}
 use Rattle.std.specs.Option.{option_map, option_and_then}
-use Rattle.wit_types.specs.Plain.{OwnType, BorrowType}
 use Rattle.handle_space.specs.HandleMap.{HandleMap, Answered, Held, answered, lend, take_own}
-use Rattle.comp_worlds.specs.Passing.{Handle, Own, Borrow, Lifted, and_loan, and_lifted, lift_handles, named_in, reps_in, rep_in, OwnAt, BorrowAt, add_handle, and_index, add_handles}
+use Rattle.comp_worlds.specs.Passing.{Handle, Own, Borrow, Lifted, and_loan, and_lifted, lift_handles, named_in, reps_in, rep_in, add_handle, and_index, add_handles}
 use Rattle.value_handles.specs.declared.handle.ValueHandle.{ValueHandle}
 use Rattle.value_handles.specs.declared.handle.ValueHandle.TheVariants as values
 use Rattle.value_handles.specs.Shown.{number_of, shown}

@@ -1,6 +1,6 @@
 -- What the exchange of a value's handles did.
-use Rattle.std.specs.Prelude.{◌≡◌, ℕ, Bool, true, false, option_map, ◌++◌, List, [], ◌∷◌, map, Option, Some, None, Result, Ok, Err}
-use Rattle.handle_space.specs.HandleMap.{HandleMap, Answered, Held, IsLent, unlend, lend, take_own}
+use Rattle.std.specs.Prelude.{◌≡◌, ℕ, Bool, false, option_map, ◌++◌, List, [], ◌∷◌, Option, Some, None, Result, Ok, Err}
+use Rattle.handle_space.specs.HandleMap.{HandleMap, Answered, Held, lend, take_own}
 use Rattle.handle_space.specs.declared.table.AddFault.{AddFault}
 use Rattle.handle_space.specs.declared.table.AddFault.TheVariants.{Full, NoMemory}
 use Rattle.comp_worlds.specs.Passing.{Handle, Own, Borrow, Lifted, rep_in, reps_in, and_loan}
@@ -62,8 +62,3 @@ abbrev pub Lowers : Option (Answered ℕ (List ℕ)) → HandleMap ℕ → (inde
 Lowers due m indexes indexes' (Ok done) = IsLowered due m indexes indexes'
 Lowers due m indexes indexes' (Err faults.Trap) = due ≡ None
 Lowers due m indexes indexes' (Err faults.NoMemory) = Unit {0}
-
--- each of these indexes is lent when its loan ends, one after the other
-abbrev pub AreLent : List ℕ → HandleMap ℕ → Type 0
-AreLent [] m = Unit {0}
-AreLent (i ∷ is) m = IsLent m i × AreLent is (unlend m i)

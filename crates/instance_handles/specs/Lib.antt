@@ -1,3 +1,4 @@
 pub mod Owning
 pub mod Exchanged
 pub mod Counted
+pub mod Loans

@@ -1,14 +1,16 @@
 #![tactic(auto, using(crate::proofs::Counting::counts))]
 
-ghost use Rattle.std.specs.Prelude.{◌≡◌, ◌++◌, ◌∷◌, [], map, IfOk, OnErr, IsErrOf, Some, None, option_map};
-ghost use Rattle.handle_space.specs.HandleMap.{empty, own_entry, borrow_entry, answered, add, take, rep_of};
+ghost use Rattle.std.specs.Prelude.{◌≡◌, ◌++◌, ◌∷◌, [], map, IfOk, OnOk, OnErr, IsErrOf, Some, None, option_map};
+ghost use Rattle.handle_space.specs.HandleMap.{empty, own_entry, borrow_entry, answered, add, take, rep_of, unlend};
 ghost use Rattle.comp_worlds.specs.Passing.{named_in, lift_handles, unlend_all, lower_borrow, add_handle, add_handles, has_borrow as holds_borrow};
 ghost use Rattle.comp_worlds.specs.Locals.{what_is_owned};
 ghost use Rattle.value_handles.specs.Shown.{number_of, shown};
 ghost use Rattle.instance_handles.specs.Owning.{plain_for};
-ghost use Rattle.instance_handles.specs.Exchanged.{passing, Lifts, LiftsOne, one_due, Lowers, AreLent};
+ghost use Rattle.instance_handles.specs.Exchanged.{passing, Lifts, LiftsOne, one_due, Lowers};
+ghost use Rattle.instance_handles.specs.Loans.{indexes_of, IsLentAs, AreLent};
 
 use crate::fault::HandleFault;
+use crate::loan::Loan;
 use crate::owners::Owners;
 use handle_space::{HandleTable, Taken};
 use std::alloc::Global;
@@ -88,6 +90,7 @@ impl Handles {
     pub fn take(&mut self, index: u32, resource: u32) -> Result<Option<u32>, Trap>
         ensures taken { IfOk result (λ rep. option_map (λ a. answered (what_is_owned a.answer) a.map) (take self.old index resource) ≡ Some (answered rep self.new)) }
         ensures traps { OnErr result (take self.old index resource ≡ None) }
+        ensures same { OnErr result (self.new ≡ self.old) }
     {
         match self.table.take(index, resource)? {
             Taken::Own(rep) => Ok(Some(rep)),
@@ -99,7 +102,7 @@ impl Handles {
     }
 
     /// Takes the own handles of a value out of the table, and lends the borrowed ones: behind `reps` it puts for what each handle stands,
-    /// and behind `loans` the indexes that are lent.
+    /// and behind `loans` those of the indexes that are lent.
     ///
     /// # Errors
     ///
@@ -109,9 +112,9 @@ impl Handles {
         &mut self,
         handles: &[ValueHandle],
         reps: &mut Vec<u32>,
-        loans: &mut Vec<u32>,
+        loans: &mut Vec<Loan>,
     ) -> Result<(), HandleFault>
-        ensures { Lifts (lift_handles (named_in (shown handles.now)) self.old) self.new reps.old.items reps.new.items loans.old.items loans.new.items result }
+        ensures { Lifts (lift_handles (named_in (shown handles.now)) self.old) self.new reps.old.items reps.new.items (indexes_of loans.old.items) (indexes_of loans.new.items) result }
     {
         for handle in handles {
             self.lift_one(*handle, reps, loans)?;
@@ -123,9 +126,9 @@ impl Handles {
         &mut self,
         handle: ValueHandle,
         reps: &mut Vec<u32>,
-        loans: &mut Vec<u32>,
+        loans: &mut Vec<Loan>,
     ) -> Result<(), HandleFault>
-        ensures { LiftsOne (one_due handle self.old) (number_of handle) self.new reps.old.items reps.new.items loans.old.items loans.new.items result }
+        ensures { LiftsOne (one_due handle self.old) (number_of handle) self.new reps.old.items reps.new.items (indexes_of loans.old.items) (indexes_of loans.new.items) result }
     {
         match handle {
             ValueHandle::Own { resource, number } => {
@@ -136,7 +139,10 @@ impl Handles {
             ValueHandle::Borrow { resource, number } => {
                 match self.table.lend(number, resource)? {
                     Taken::Own(rep) => {
-                        loans.push(number)?;
+                        loans.push(Loan {
+                            index: number,
+                            resource,
+                        })?;
                         reps.push(rep)?;
                     }
                     Taken::Borrow(rep) => reps.push(rep)?,
@@ -147,12 +153,33 @@ impl Handles {
     }
 
     /// Ends loans.
-    pub fn end_loans(&mut self, loans: &[u32])
-        requires { AreLent loans.now self.old }
-        ensures { self.new ≡ unlend_all loans.now self.old }
+    ///
+    /// # Errors
+    ///
+    /// `Trap` where one of them is of no handle that is lent. Nothing is said of the handles then.
+    pub fn end_loans(&mut self, loans: &[Loan]) -> Result<(), Trap>
+        ensures ends { OnOk result (self.new ≡ unlend_all (indexes_of loans.now) self.old) }
+        ensures traps { OnErr result (AreLent loans.now self.old → ⊥) }
     {
-        for index in loans {
-            self.table.unlend(*index);
+        for loan in loans {
+            self.end_loan(*loan)?;
+        }
+        Ok(())
+    }
+
+    fn end_loan(&mut self, loan: Loan) -> Result<(), Trap>
+        ensures lent { OnOk result (IsLentAs self.old loan) }
+        ensures ends { OnOk result (self.new ≡ unlend self.old loan.index) }
+        ensures traps { OnErr result (IsLentAs self.old loan → ⊥) }
+    {
+        self.rep_of(loan.index, loan.resource)?;
+        match self.take(loan.index, loan.resource) {
+            Ok(_) => Err(Trap),
+            // it is there and does not leave, so it is lent
+            Err(_) => {
+                self.table.unlend(loan.index);
+                Ok(())
+            }
         }
     }
 

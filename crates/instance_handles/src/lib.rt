@@ -4,8 +4,10 @@
 
 mod fault;
 mod handles;
+mod loan;
 mod owners;
 
 pub use fault::HandleFault;
 pub use handles::Handles;
+pub use loan::Loan;
 pub use owners::{Owner, Owners};

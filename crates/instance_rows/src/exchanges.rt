@@ -1,6 +1,6 @@
 use crate::builders::{expect_value, handles_type, handles_value, owners, table};
 use handle_exchange::{Room, exchange_in, exchange_out};
-use instance_handles::HandleFault;
+use instance_handles::{HandleFault, Loan};
 use std::test::Fail;
 use value_handles::has_handles;
 
@@ -24,7 +24,11 @@ fn values_leave(rt: HostRuntime) -> Result<(), Fail> {
         )?,
         Err(_) => return Err(Fail::from("no value")),
     }
-    assert_eq!(&rt; loans.as_slice(), [1, 1].as_slice());
+    let loan = Loan {
+        index: 1,
+        resource: 2,
+    };
+    assert_eq!(&rt; loans.as_slice(), [loan, loan].as_slice());
     // the handles of resource 1 are gone
     let value = handles_value(alloc, [3, 1, 1, 2])?;
     let answer = exchange_out(&mut handles, &mut room, &mut loans, holds, &ty, value);

@@ -1,5 +1,5 @@
 use crate::builders::{owners, table};
-use instance_handles::{HandleFault, Handles};
+use instance_handles::{HandleFault, Handles, Loan};
 use std::alloc::Global;
 use std::process::Abort;
 use std::test::Fail;
@@ -11,7 +11,7 @@ fn lifts(
     rt: &impl Abort,
     alloc: Global,
     handles: &[ValueHandle],
-    wanted: Option<(&[u32], &[u32])>,
+    wanted: Option<(&[u32], &[Loan])>,
 ) -> Result<(), Fail> {
     let mut table = table(alloc, &[5, 5, 6])?;
     let mut reps = Vec::new(alloc);
@@ -39,12 +39,18 @@ fn handles_that_leave(rt: HostRuntime) -> Result<(), Fail> {
         resource: 5,
         number,
     };
-    lifts(&rt, alloc, &[own(1), borrow(2)], Some((&[70, 71], &[2])))?;
+    let loan = |index: u32| Loan { index, resource: 5 };
+    lifts(
+        &rt,
+        alloc,
+        &[own(1), borrow(2)],
+        Some((&[70, 71], &[loan(2)])),
+    )?;
     lifts(
         &rt,
         alloc,
         &[borrow(2), borrow(2)],
-        Some((&[71, 71], &[2, 2])),
+        Some((&[71, 71], &[loan(2), loan(2)])),
     )?;
     // another resource, an index that was never used, the index 0, one handle twice, and one that is lent
     lifts(&rt, alloc, &[own(3)], None)?;

@@ -7,6 +7,7 @@ mod lowering;
 mod options;
 mod passed_func;
 mod passed_type;
+mod ranges;
 
 pub use lifting::lift;
 pub use lowering::{lower_params, lower_result};

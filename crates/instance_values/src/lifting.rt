@@ -8,6 +8,7 @@ ghost use Rattle.abi_layout.specs.Loading.{low_word as low_bits};
 ghost use Rattle.abi_load.specs.Lifted.{words};
 ghost use Rattle.comp_worlds.specs.Passing.{lift_words};
 ghost use Rattle.comp_worlds.specs.Locals.{lifts, bytes_in};
+ghost use Rattle.instance_handles.specs.Loans.{indexes_of};
 ghost use Rattle.instance_state.specs.Shown.{config_of};
 ghost use Rattle.instance_values.specs.Passed.{options_of, needs_memory, IsInStore, fault_of, LiftsAs};
 
@@ -16,7 +17,7 @@ use crate::passed_type::PassedType;
 use abi_load::{LoadFault, lift_flat, load};
 use core_store::{CoreValue, Store};
 use handle_exchange::{Room, exchange_out};
-use instance_handles::HandleFault;
+use instance_handles::{HandleFault, Loan};
 use instance_state::Instance;
 use std::alloc::Global;
 use virt_base::Items;
@@ -68,7 +69,7 @@ fn lift_value(
 }
 
 /// The value that an instance passes by flat values: its own handles are taken out of the instance's table, borrowed ones are lent,
-/// and the value has that for which they stand. Behind other loans are the indexes that are lent.
+/// and the value has that for which they stand. Behind other loans are those of the indexes that are lent.
 ///
 /// # Errors
 ///
@@ -78,13 +79,13 @@ pub fn lift(
     alloc: Global,
     instance: &mut Instance,
     room: &mut Room,
-    loans: &mut Vec<u32>,
+    loans: &mut Vec<Loan>,
     options: CallOptions,
     passed: &PassedType,
     flat: &Items<CoreValue>,
 ) -> Result<Value, HandleFault>
     requires memory { needs_memory passed.now.most (plain passed.now.ty) ≡ true → IsInStore options.memory instance.old.code.store }
-    ensures lifts { LiftsAs (plain passed.now.ty) (lifts passed.now.most (plain passed.now.ty) (options_of options) (words flat.now) (config_of instance.old)) (config_of instance.new) loans.old.items loans.new.items result }
+    ensures lifts { LiftsAs (plain passed.now.ty) (lifts passed.now.most (plain passed.now.ty) (options_of options) (words flat.now) (config_of instance.old)) (config_of instance.new) (indexes_of loans.old.items) (indexes_of loans.new.items) result }
     ensures typed { IfOk result (λ v. HasType v passed.now.ty) }
     ensures code { instance.new.code ≡ instance.old.code }
 {

@@ -5,7 +5,9 @@ ghost use Rattle.wit_types.specs.Plain.{plain};
 ghost use Rattle.wit_types.specs.Limits.{IsSmall, parts};
 ghost use Rattle.comp_worlds.specs.Passing.{most_params, most_results, spills_over};
 ghost use Rattle.value_handles.specs.Whether.{has_handles as may_hold};
+ghost use Rattle.instance_values.specs.Passed.{needs_memory};
 
+use crate::ranges::has_ranges;
 use abi_layout::flatten;
 use value_handles::has_handles;
 use wit_types::WitType;
@@ -18,11 +20,14 @@ pub struct PassedType {
     pub most: u8,
     /// Its values go through memory.
     pub spills: bool,
+    /// Its values go through memory, or hold what lies there.
+    pub in_memory: bool,
     /// Its values may hold handles.
     pub holds: bool,
     pub ghost small: { parts (plain ty) ≤ 1000000 },
     pub ghost few: { most ≤ 16 },
     pub ghost spilled: { spills_over most (plain ty) ≡ spills },
+    pub ghost needed: { needs_memory most (plain ty) ≡ in_memory },
     pub ghost held: { may_hold (plain ty) ≡ holds },
 }
 
@@ -42,11 +47,13 @@ fn passed_type(ty: WitType, most: u8) -> PassedType
     ensures most { result.most ≡ most }
 {
     let spills = spills(&ty, most);
+    let in_memory = has_ranges(&ty) || spills;
     let holds = has_handles(&ty);
     PassedType {
         ty,
         most,
         spills,
+        in_memory,
         holds,
     }
 }

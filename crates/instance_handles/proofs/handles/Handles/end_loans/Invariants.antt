@@ -1,12 +1,10 @@
 use Rattle.std.proofs.Common.{◌≡◌, drop}
 use Rattle.comp_worlds.specs.Passing.{unlend_all}
-use Rattle.instance_handles.specs.Counted.{IsCounted}
-use Rattle.instance_handles.specs.Exchanged.{AreLent}
+use Rattle.instance_handles.specs.Loans.{indexes_of, AreLent}
 use Rattle.instance_handles.proofs.handles.Handles.end_loans.Given as goal
 
-abbrev pub invariant-loop-index : goal.invariant-loop-index
-invariant-loop-index l = record {
-  lent : AreLent (drop l.index-index l.loans) l.self-inside.table;
-  due : unlend_all (drop l.index-index l.loans) l.self-inside.table ≡ unlend_all l.loans l.fn.self;
-  counted : IsCounted l.self-inside.table l.self-inside.borrows;
+abbrev pub invariant-loop-loan : goal.invariant-loop-loan
+invariant-loop-loan l = record {
+  lent : AreLent l.loans l.fn.self → AreLent (drop l.loan-index l.loans) l.self;
+  due : unlend_all (indexes_of (drop l.loan-index l.loans)) l.self ≡ unlend_all (indexes_of l.loans) l.fn.self;
 }
