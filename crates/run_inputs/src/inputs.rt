@@ -1,0 +1,65 @@
+ghost use Rattle.run_inputs.specs.Inputs.{FetchesComponent, FetchesScript, FetchesInputs};
+
+use crate::fetching::fetch;
+use crate::unready::Unready;
+use comp_signature::ComponentType;
+use host_script::Script;
+use outside::Files;
+use run_judge::{Judged, judge_component, judge_script};
+use std::alloc::Global;
+use virt_base::Text;
+
+/// A component has at most so many bytes.
+const COMPONENT_LIMIT: u64 = 201_326_592;
+
+/// A script has at most so many bytes.
+const SCRIPT_LIMIT: u64 = 67_108_864;
+
+/// What a run begins with.
+#[derive(Drop)]
+pub struct Inputs {
+    pub judged: Judged,
+    pub script: Script,
+}
+
+/// The component of a file. Its bytes are let go.
+fn fetch_component<F: Files>(alloc: Global, name: &Text, files: &mut F) -> Result<Judged, Unready>
+    ensures { FetchesComponent name.now (F.state files.old) (F.state files.new) result }
+{
+    let bytes = fetch(alloc, name, "component-bytes", COMPONENT_LIMIT, files)?;
+    match judge_component(alloc, bytes.as_slice()) {
+        Ok(judged) => Ok(judged),
+        Err(refusal) => Err(Unready::Refused(refusal)),
+    }
+}
+
+/// The script of a file, for a component of this type. Its bytes are let go.
+fn fetch_script<F: Files>(
+    alloc: Global,
+    name: &Text,
+    ty: &ComponentType,
+    files: &mut F,
+) -> Result<Script, Unready>
+    ensures { FetchesScript ty.now.exports name.now (F.state files.old) (F.state files.new) result }
+{
+    let json = fetch(alloc, name, "script-bytes", SCRIPT_LIMIT, files)?;
+    match judge_script(alloc, ty, json.as_slice()) {
+        Ok(script) => Ok(script),
+        Err(refusal) => Err(Unready::Refused(refusal)),
+    }
+}
+
+/// Reads a component and a script for it, and refuses what can not be run: first the component's file, then what it holds, then the
+/// script's file, and then the script.
+pub fn fetch_inputs<F: Files>(
+    alloc: Global,
+    component: &Text,
+    script: &Text,
+    files: &mut F,
+) -> Result<Inputs, Unready>
+    ensures { FetchesInputs component.now script.now (F.state files.old) (F.state files.new) result }
+{
+    let judged = fetch_component(alloc, component, files)?;
+    let script = fetch_script(alloc, script, &judged.ty, files)?;
+    Ok(Inputs { judged, script })
+}
