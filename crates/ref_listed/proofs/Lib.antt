@@ -1,0 +1,4 @@
+mod NameLaws
+mod KindLaws
+mod SmallLaw
+mod TableLaws
