@@ -28,8 +28,8 @@ fn func_with(
     let own = ItemType::Func(ty.clone()?);
     match substitute(alloc, &own, by)? {
         ItemType::Func(new) => Ok(new),
-        ItemType::Instance(_) => Err(NoMemory),
-        ItemType::Kind(_) => Err(NoMemory),
+        ItemType::Instance(_) => unreachable!(),
+        ItemType::Kind(_) => unreachable!(),
     }
 }
 
