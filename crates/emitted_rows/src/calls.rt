@@ -21,7 +21,8 @@ pub struct Question {
     pub args: CoreValues,
 }
 
-/// How a call ended: with these values, or by a trap; what it asked before, and the steps that it took.
+/// How a call ended: with these values, or by a trap or a question that got no answer; what it asked, and the steps that
+/// it took.
 #[derive(Drop)]
 pub struct Ran {
     pub values: Option<CoreValues>,
@@ -73,14 +74,15 @@ fn go_on(
                     machine.resume(answer);
                     go_on(alloc, store, machine, rest, ran)
                 }
-                [] => Err(Fail::from("a question more")),
+                // the embedder refuses
+                [] => Ok(()),
             }
         }
         _ => Err(Fail::from("the call does not end")),
     }
 }
 
-/// Calls the function at a place, whose questions get these answers.
+/// Calls the function at a place, whose questions get these answers, one after another; one more is refused.
 pub fn call(
     alloc: Global,
     store: &mut Store,

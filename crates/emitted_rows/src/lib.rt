@@ -8,6 +8,8 @@ mod bytes;
 #[cfg(test)]
 mod calls;
 #[cfg(test)]
+mod handles;
+#[cfg(test)]
 mod stubs;
 #[cfg(test)]
 mod tables;
