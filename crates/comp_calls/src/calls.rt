@@ -1,0 +1,156 @@
+#![tactic(auto, using(crate::proofs::Working::works))]
+
+ghost use Rattle.std.specs.Prelude.{◌≡◌, ◌≤◌, ◌<◌, ◌+◌, OnOk, IfOk};
+ghost use Rattle.wit_types.specs.PlainValue.{plain_value};
+ghost use Rattle.host_port.specs.Calls.{plain_call};
+ghost use Rattle.host_port.specs.Hosts.{answer_of, reacts};
+ghost use Rattle.comp_calls.specs.Asking.{called, Asks, WithMemory};
+ghost use Rattle.comp_calls.specs.Work.{work};
+
+use crate::depth::Depth;
+use crate::end::Stop;
+use crate::frames::{Call, Caller, Due, Flow};
+use crate::lowering::lift_in;
+use crate::tuples::{in_tuple, out_of_tuple, values_in};
+use crate::words::word_at;
+use crate::world::World;
+use call_targets::{Canon, Import, Target};
+use core_slots::CoreValues;
+use host_port::{Answer, Host, HostCall};
+use instance_values::CallOptions;
+use std::alloc::Global;
+use virt_base::NoMemory;
+use wit_types::{FuncType, Value, Values, copy_func};
+
+/// The call of an import.
+fn host_call(alloc: Global, import: &Import, args: Value) -> Result<HostCall, NoMemory>
+    ensures { IfOk result (λ call. plain_call call ≡ called import.now (plain_value args)) }
+{
+    let FuncType { params, result } = copy_func(alloc, import.ty.func().ty())?;
+    Ok(HostCall {
+        interface: import.interface.copy(alloc)?,
+        function: import.function.copy(alloc)?,
+        params,
+        args: values_in(alloc, args),
+        result,
+    })
+}
+
+impl<H: Host> World<H> {
+    /// Core code of an instance asks for a canonical call, where so many calls are in progress.
+    pub(crate) fn answer(
+        &mut self,
+        alloc: Global,
+        number: u32,
+        calls: u32,
+        asked: u32,
+        args: CoreValues,
+    ) -> Result<Flow, Stop>
+        ensures less { OnOk result (work self.new.budget self.new.frames.items < work self.old.budget self.old.frames.items) }
+    {
+        let depth = self.begin_call(calls)?;
+        match self.group.canon(number, asked)? {
+            None => Err(Stop::Trapped),
+            Some(Canon::New(resource)) => self.new_resource(alloc, number, resource, &args),
+            Some(Canon::Rep(resource)) => self.resource_rep(alloc, number, resource, &args),
+            Some(Canon::Drop(resource)) => self.drop_resource(
+                alloc, number, depth, resource, &args,
+            ),
+            Some(Canon::Lowered { target, options }) => {
+                self.call(alloc, number, depth, target, options, &args)
+            }
+        }
+    }
+
+    /// A lowered function is called.
+    fn call(
+        &mut self,
+        alloc: Global,
+        number: u32,
+        depth: Depth,
+        target: Target,
+        options: CallOptions,
+        args: &CoreValues,
+    ) -> Result<Flow, Stop>
+        ensures less { OnOk result (work self.new.budget self.new.frames.items ≤ work self.old.budget self.old.frames.items) }
+    {
+        let Some(instance) = self.instances.get_mut(number as usize) else {
+            return Err(Stop::Trapped);
+        };
+        instance.is_open()?;
+        let mut loans = Vec::new(alloc);
+        let ty = target.ty();
+        let params = &ty.passed().params;
+        let value = lift_in(
+            alloc,
+            instance,
+            &mut self.room,
+            &mut loans,
+            options,
+            params,
+            args,
+        )?;
+        let place = word_at(args, ty.flat_params());
+        match target.share()? {
+            Target::Theirs(import) => {
+                let value = self.ask_host(alloc, &import, value)?;
+                let call = Call {
+                    target,
+                    options,
+                    place,
+                    loans,
+                };
+                self.lower_result(alloc, number, call, Due::Host, depth, value)
+            }
+            Target::Mine {
+                instance: callee,
+                lifting,
+            } => {
+                let caller = Caller::Inside(Call {
+                    target,
+                    options,
+                    place,
+                    loans,
+                });
+                self.call_lifted(alloc, callee, lifting, caller, depth, value)
+            }
+        }
+    }
+
+    fn ask_host(&mut self, alloc: Global, import: &Import, args: Value) -> Result<Value, Stop>
+        ensures answer { Asks (answer_of H.step (H.kept self.old.host) (called import.now (plain_value args))) result }
+        ensures next { WithMemory result (H.kept self.new.host ≡ reacts H.step (H.kept self.old.host) (called import.now (plain_value args))) }
+        ensures work { OnOk result (work self.new.budget self.new.frames.items ≡ work self.old.budget self.old.frames.items) }
+    {
+        let call = host_call(alloc, import, args)?;
+        match self.host.call(alloc, &call)? {
+            Answer::Value(value) => Ok(in_tuple(alloc, value)?),
+            Answer::Trap => Err(Stop::Trapped),
+            Answer::Ended => Err(Stop::ScriptEnded),
+            Answer::Bad => Err(Stop::BadAnswer),
+        }
+    }
+
+    /// A function is called from outside.
+    pub fn call_from_outside(
+        &mut self,
+        alloc: Global,
+        target: Target,
+        args: Values,
+    ) -> Result<Option<Value>, Stop> {
+        let args = Value::Record(args);
+        match target {
+            Target::Theirs(import) => {
+                self.begin_call(0)?;
+                Ok(out_of_tuple(self.ask_host(alloc, &import, args)?))
+            }
+            Target::Mine { instance, lifting } => {
+                let depth = Depth::none();
+                match self.call_lifted(alloc, instance, lifting, Caller::Outside, depth, args)? {
+                    Flow::Done(value) => Ok(value.and_then(out_of_tuple)),
+                    Flow::Goes => Ok(self.go_on(alloc)?.and_then(out_of_tuple)),
+                }
+            }
+        }
+    }
+}

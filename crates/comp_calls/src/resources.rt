@@ -1,0 +1,137 @@
+#![tactic(auto, using(crate::proofs::Working::works))]
+
+ghost use Rattle.std.specs.Prelude.{◌≡◌, ◌≤◌, ◌<◌, ◌+◌, nat_eq, OnOk};
+ghost use Rattle.indexmap.specs.IndexMap.{get};
+ghost use Rattle.comp_calls.specs.Work.{work};
+ghost use Rattle.comp_calls.specs.Resources.{IsDropped, destroying};
+
+use crate::depth::Depth;
+use crate::end::Stop;
+use crate::frames::{Flow, Purpose, Visit};
+use crate::words::{one_word, only_word};
+use crate::world::World;
+use core_slots::CoreValues;
+use host_port::Host;
+use instance_handles::Owner;
+use std::alloc::Global;
+use virt_base::Items;
+
+impl<H: Host> World<H> {
+    /// `resource.new`.
+    pub(crate) fn new_resource(
+        &mut self,
+        alloc: Global,
+        number: u32,
+        resource: u32,
+        args: &CoreValues,
+    ) -> Result<Flow, Stop>
+        ensures work { OnOk result (work self.new.budget self.new.frames.items ≡ work self.old.budget self.old.frames.items) }
+    {
+        let owns = self.group.owners.owns(number, resource);
+        let rep = only_word(args).ok_or(Stop::Trapped)?;
+        let Some(instance) = self.instances.get_mut(number as usize) else {
+            return Err(Stop::Trapped);
+        };
+        let index = instance.make_resource(alloc, owns, resource, rep)?;
+        self.resume(&one_word(alloc, index)?)
+    }
+
+    /// `resource.rep`.
+    pub(crate) fn resource_rep(
+        &mut self,
+        alloc: Global,
+        number: u32,
+        resource: u32,
+        args: &CoreValues,
+    ) -> Result<Flow, Stop>
+        ensures work { OnOk result (work self.new.budget self.new.frames.items ≡ work self.old.budget self.old.frames.items) }
+    {
+        let owns = self.group.owners.owns(number, resource);
+        let index = only_word(args).ok_or(Stop::Trapped)?;
+        let Some(instance) = self.instances.get(number as usize) else {
+            return Err(Stop::Trapped);
+        };
+        let rep = instance.rep_of(owns, resource, index)?;
+        self.resume(&one_word(alloc, rep)?)
+    }
+
+    /// `resource.drop`, where so many calls are in progress.
+    pub(crate) fn drop_resource(
+        &mut self,
+        alloc: Global,
+        number: u32,
+        depth: Depth,
+        resource: u32,
+        args: &CoreValues,
+    ) -> Result<Flow, Stop>
+        ensures less { OnOk result (work self.new.budget self.new.frames.items ≤ work self.old.budget self.old.frames.items) }
+    {
+        let index = only_word(args).ok_or(Stop::Trapped)?;
+        let Some(instance) = self.instances.get_mut(number as usize) else {
+            return Err(Stop::Trapped);
+        };
+        let Some(rep) = instance.remove(resource, index)? else {
+            return self.resume(&Items::empty(alloc));
+        };
+        match self.group.owners.owner(resource) {
+            None => self.drop_at_host(alloc, resource, rep),
+            Some(owner) => self.destroy(alloc, number, depth, owner, rep),
+        }
+    }
+
+    fn drop_at_host(&mut self, alloc: Global, resource: u32, rep: u32) -> Result<Flow, Stop>
+        ensures dropped { OnOk result (IsDropped H.step (H.kept self.old.host) (get nat_eq self.old.group.imported resource) rep (H.kept self.new.host)) }
+        ensures work { OnOk result (work self.new.budget self.new.frames.items ≡ work self.old.budget self.old.frames.items) }
+    {
+        let Some(name) = self.group.imported.get(&resource) else {
+            return Err(Stop::Trapped);
+        };
+        self.host.drop_handle(alloc, name, rep)?;
+        self.resume(&Items::empty(alloc))
+    }
+
+    /// The destructor of a resource runs, if it has one. An instance other than the one that dropped the handle is entered for it.
+    fn destroy(
+        &mut self,
+        alloc: Global,
+        number: u32,
+        depth: Depth,
+        owner: Owner,
+        rep: u32,
+    ) -> Result<Flow, Stop>
+        ensures runs { OnOk result (self.new.frames.items ≡ destroying owner.destructor number owner.instance self.old.frames.items) }
+        ensures less { OnOk result (work self.new.budget self.new.frames.items ≤ work self.old.budget self.old.frames.items) }
+    {
+        let visit = if owner.instance == number {
+            Visit::Own
+        } else {
+            self.enter(owner.instance)?;
+            Visit::Other
+        };
+        let Some(destructor) = owner.destructor else {
+            return self.destroyed(alloc, owner.instance, visit);
+        };
+        let depth = self.begin_call(depth.calls)?;
+        let args = one_word(alloc, rep)?;
+        let purpose = Purpose::Destroys(visit);
+        self.begin_code(alloc, owner.instance, destructor, &args, depth, purpose)?;
+        Ok(Flow::Goes)
+    }
+
+    /// A destructor is over, or there was none.
+    pub(crate) fn destroyed(
+        &mut self,
+        alloc: Global,
+        number: u32,
+        visit: Visit,
+    ) -> Result<Flow, Stop>
+        ensures frames { OnOk result (self.new.frames.items ≡ self.old.frames.items) }
+        ensures work { OnOk result (work self.new.budget self.new.frames.items ≡ work self.old.budget self.old.frames.items) }
+    {
+        match visit {
+            Visit::Own => {}
+            Visit::Other => self.exit(number)?,
+        }
+        self.resume(&Items::empty(alloc))
+    }
+}

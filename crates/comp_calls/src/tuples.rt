@@ -1,0 +1,53 @@
+#![tactic(auto, using(wit_types::proofs::ValueLemmas::values))]
+
+ghost use Rattle.std.specs.Prelude.{◌≡◌, IfOk};
+ghost use Rattle.wit_types.specs.PlainValue.{plain_value, plain_values};
+ghost use Rattle.host_port.specs.Calls.{plain_option};
+ghost use Rattle.comp_worlds.specs.Passing.{in_tuple as tuple_of, values_in as values_of};
+
+use std::alloc::Global;
+use virt_base::NoMemory;
+use wit_types::{Value, Values};
+
+/// The values of a tuple.
+pub fn values_in(alloc: Global, value: Value) -> Values
+    ensures { plain_values result ≡ values_of (plain_value value) }
+{
+    match value {
+        Value::Record(values) => values,
+        Value::Bool(_) | Value::Int(_) | Value::Char(_) => Values::Each(Vec::new(alloc)),
+        Value::Str(_) | Value::List(_) | Value::Variant(_, _) => Values::Each(Vec::new(alloc)),
+        Value::Flags(_) | Value::Handle(_) => Values::Each(Vec::new(alloc)),
+    }
+}
+
+/// A tuple of the value, if there is one.
+pub fn in_tuple(alloc: Global, value: Option<Value>) -> Result<Value, NoMemory>
+    ensures { IfOk result (λ tuple. plain_value tuple ≡ tuple_of (plain_option value)) }
+{
+    let mut values = Vec::new(alloc);
+    if let Some(value) = value {
+        values.push(value)?;
+    }
+    Ok(Value::Record(Values::Each(values)))
+}
+
+fn first_in(values: Values) -> Option<Value> {
+    match values {
+        Values::Each(values) => values.into_iter().next(),
+        Values::Bytes(bytes) => match bytes.as_slice().first() {
+            None => None,
+            Some(byte) => Some(Value::Int(*byte as i128)),
+        },
+    }
+}
+
+/// The first value of a tuple, if it has one.
+pub fn out_of_tuple(value: Value) -> Option<Value> {
+    match value {
+        Value::Record(values) => first_in(values),
+        Value::Bool(_) | Value::Int(_) | Value::Char(_) => None,
+        Value::Str(_) | Value::List(_) | Value::Variant(_, _) => None,
+        Value::Flags(_) | Value::Handle(_) => None,
+    }
+}
