@@ -1,3 +1,4 @@
 pub mod Begins
 pub mod Own
 pub mod Answers
+pub mod Worlds
