@@ -1,0 +1,6 @@
+mod NodeLemmas
+mod SeenLemmas
+mod LedLemmas
+mod RangeLemmas
+mod SameLemmas
+mod ReadLemmas
