@@ -1,3 +1,4 @@
 pub mod ValueLemmas
 pub mod PollLemmas
 pub mod SeenLaws
+mod PassLemmas

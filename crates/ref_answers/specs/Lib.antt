@@ -2,3 +2,4 @@ pub mod Seen
 pub mod Shown
 pub mod Found
 pub mod Polled
+pub mod Passed

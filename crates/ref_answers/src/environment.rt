@@ -26,7 +26,7 @@ fn variable_value(alloc: Global, variable: &Variable) -> Result<Value, NoMemory>
     pair(alloc, name, value)
 }
 
-fn variable_values(alloc: Global, variables: &[Variable]) -> Result<Vec<Value>, NoMemory>
+pub fn variable_values(alloc: Global, variables: &[Variable]) -> Result<Vec<Value>, NoMemory>
     ensures { IfOk result (λ vs. map plain_value vs.items ≡ map variable_value variables.now) }
 {
     let mut values = Vec::new(alloc);

@@ -5,6 +5,7 @@
 mod clocks;
 mod environment;
 mod nodes;
+mod passing;
 mod pollables;
 mod row;
 mod stdio;
@@ -13,6 +14,7 @@ mod values;
 pub use clocks::{monotonic_row, wall_row};
 pub use environment::environment_row;
 pub use nodes::{bytes_from, entry_value, has_flag, hash_value, stat_value};
+pub use passing::passed_variables;
 pub use pollables::{block, poll, ready};
 pub use row::{Effect, Row, fails, gives, gives_ok, moves, returns};
 pub use stdio::{stderr_row, stdin_row, stdout_row, terminal_row};
