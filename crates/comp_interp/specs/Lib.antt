@@ -1,0 +1,3 @@
+pub mod Sound
+pub mod Parts
+pub mod Levels

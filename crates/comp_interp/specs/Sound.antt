@@ -1,0 +1,28 @@
+-- Which plans can be made: each module in them is valid, and has as many bodies and data segments as it counts.
+use Rattle.std.specs.Prelude.{◌≡◌, ℕ, List, []}
+use Rattle.core_validate.specs.Validity.{IsValidModule}
+use Rattle.core_instance.specs.Matching.{HasCounts}
+use Rattle.comp_grammar.specs.Trees.{Tree}
+use Rattle.comp_grammar.specs.Components.{SpellsComponent}
+use Rattle.comp_rules.specs.Added.{after_tree, root}
+use Rattle.comp_rules.specs.Validity.{IsValidComponent}
+use Rattle.comp_link.specs.Plans.{Plan, Planned, End, Then, OfModule, OfComponent, plan_of}
+use Rattle.comp_plans.specs.declared.linked.Linked.{Linked}
+use Rattle.comp_plans.specs.Planned.{plan_in}
+
+abbrev mutual
+  pub HasSoundModule : Planned → Type 0
+  HasSoundModule (OfModule module' args) = IsValidModule module' × HasCounts module'
+  HasSoundModule (OfComponent plan own args) = HasSoundModules plan
+  HasSoundModule _ = Unit {0}
+
+  pub HasSoundModules : Plan → Type 0
+  HasSoundModules End = Unit {0}
+  HasSoundModules (Then item rest) = HasSoundModule item × HasSoundModules rest
+
+abbrev pub CanBeMade : Linked → Type 0
+CanBeMade linked = HasSoundModules (plan_in linked)
+
+-- the law: of a valid component that bytes spell
+abbrev pub LinkedCanBeMade : Type 0
+LinkedCanBeMade = (c : Tree) (bytes : List ℕ) (linked : Linked) → SpellsComponent c bytes → IsValidComponent c → plan_in linked ≡ plan_of c → linked.imports ≡ (after_tree [] root c).imports → CanBeMade linked

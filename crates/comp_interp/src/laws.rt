@@ -1,0 +1,6 @@
+ghost use Rattle.comp_interp.specs.Sound.{LinkedCanBeMade};
+
+/// What linking answers for a valid component that bytes spell can be made.
+pub fn spelled_components_can_be_made()
+    ensures { LinkedCanBeMade }
+{}
