@@ -1,5 +1,5 @@
 -- What is sound of a plan is sound of its items, and of the components that it names.
-use Rattle.std.proofs.Common.{◌≡◌, ◌∙◌, ◌<◌, ap, sym, subst, refl, ℕ, zero, suc, List, [], ◌∷◌, ◌++◌, length, take, Option, Some, None, slice_get}
+use Rattle.std.proofs.Common.{◌≡◌, ◌∙◌, ◌<◌, sym, subst, refl, ℕ, zero, suc, List, [], ◌∷◌, ◌++◌, Option, Some, None, slice_get}
 use Rattle.std.specs.Prelude.{option_map}
 use Rattle.std.proofs.Math.Seq.{take-length}
 use Rattle.wasm_ast.specs.Boxed.{Held as HeldValue}
@@ -25,7 +25,7 @@ use Rattle.comp_interp.specs.declared.part.Part.{Part}
 use Rattle.comp_interp.specs.declared.part.Part.TheVariants.{Whole, Held}
 use Rattle.comp_interp.specs.declared.level.Level.{Level}
 use Rattle.comp_interp.specs.Sound.{HasSoundModule, HasSoundModules, CanBeMade, LinkedCanBeMade}
-use Rattle.comp_interp.specs.Parts.{items_if, part_items, part_limit, named_below, part_plan, IsSoundPart, IsSoundItem}
+use Rattle.comp_interp.specs.Parts.{items_if, part_items, part_limit, named_below, IsSoundPart, IsSoundItem}
 use Rattle.comp_interp.specs.Levels.{AreSound, Begun}
 
 -- ---- items

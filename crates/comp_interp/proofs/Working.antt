@@ -1,5 +1,5 @@
 -- The work that is left gets less with each item.
-use Rattle.std.proofs.Common.{◌≡◌, ◌∙◌, ◌+◌, ◌<◌, ◌≤◌, ap, sym, subst, refl, ℕ, zero, suc, List, [], ◌∷◌, ◌++◌, drop, Option, Some, None, slice_get, arith}
+use Rattle.std.proofs.Common.{◌≡◌, ◌∙◌, ◌+◌, ◌<◌, ◌≤◌, ap, refl, ℕ, zero, suc, List, [], ◌∷◌, ◌++◌, drop, Option, Some, None, slice_get, arith}
 use Rattle.std.specs.Prelude.{sum_by}
 use Rattle.std.proofs.lemmas.List.Sums.{sum_by_push, sum_by-cons}
 use Rattle.comp_plans.specs.declared.items.PlanItem.{PlanItem}
@@ -9,7 +9,7 @@ use Rattle.comp_interp.specs.declared.part.Part.{Part}
 use Rattle.comp_interp.specs.declared.part.Part.TheVariants.{Held}
 use Rattle.comp_interp.specs.declared.level.Level.{Level}
 use Rattle.comp_interp.specs.Parts.{part_items, part_limit}
-use Rattle.comp_interp.specs.Levels.{item_work, level_work, work, Begun, BegunIf, Follows}
+use Rattle.comp_interp.specs.Levels.{item_work, level_work, work, Begun, BegunIf}
 
 drop_at : {A : Type 0} (xs : List A) (i : ℕ) (p : A) → slice_get xs i ≡ Some p → drop i xs ≡ p ∷ drop (i + 1) xs
 drop_at [] i p e = absurd (cc)

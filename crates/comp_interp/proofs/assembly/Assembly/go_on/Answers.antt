@@ -1,8 +1,7 @@
 use Rattle.std.proofs.Common.{◌≡◌, ◌∙◌, ap, sym, subst, refl, length, slice_get, Some}
 use Rattle.std.proofs.lemmas.Option.{slice_get_read}
-use Rattle.comp_plans.specs.declared.items.PlanItem.{PlanItem}
-use Rattle.comp_interp.specs.Parts.{part_items, part_limit, IsSoundPart, IsSoundItem}
-use Rattle.comp_interp.specs.Levels.{AreSound, BegunIf, work, level_work}
+use Rattle.comp_interp.specs.Parts.{part_items, part_limit, IsSoundPart}
+use Rattle.comp_interp.specs.Levels.{AreSound, BegunIf}
 use Rattle.comp_interp.proofs.Sounding.{item_sound, begun_sound, sound_push}
 use Rattle.comp_interp.proofs.Working.{goes, goes_in}
 use Rattle.comp_interp.proofs.assembly.Assembly.go_on.Goals as goal

@@ -1,4 +1,4 @@
-use Rattle.std.proofs.Common.{◌++◌, ◌∷◌, [], subst}
+use Rattle.std.proofs.Common.{subst}
 use Rattle.comp_interp.specs.Levels.{AreSound}
 use Rattle.comp_interp.proofs.Sounding.{sound_pop}
 use Rattle.comp_interp.proofs.assembly.Assembly.make.Goals as goal
