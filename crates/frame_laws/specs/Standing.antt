@@ -25,14 +25,16 @@ with_calls calls k cs m = pick (m == k) cs (calls m)
 abbrev pub with_store : (ℕ → State) → ℕ → State → ℕ → State
 with_store stores k s m = pick (m == k) s (stores m)
 
-module _ {S : Type 0} (h : HostStep S) (G : Group) (d : ℕ) (stores : ℕ → State) where
+module _ {S : Type 0} (h : HostStep S) (G : Group) (stores : ℕ → State) where
   -- this call awaits results for the frame, since its store was this, which only grew and came back
   pub record Stands (f : Frame) (c : CoreCall) (a : Awaiting S) : Type 0 where
     pub instance : a.instance ≡ f.instance
     pub purpose : a.purpose ≡ purpose_of f.purpose
     pub now : a.now ≡ c.nesting
+    -- as it began so many calls were in progress
+    pub begun : ℕ
     pub since : State
-    pub resumes : AwaitsSince h G (nested d) f.instance c.machine since a.resume
+    pub resumes : AwaitsSince h G (nested begun) f.instance c.machine since a.resume
     pub back : CameBack since (record (stores f.instance) { nesting = c.nesting })
 
   -- each frame has the innermost call of its instance that no frame inside it has
@@ -46,6 +48,7 @@ module _ {S : Type 0} (h : HostStep S) (G : Group) (d : ℕ) (stores : ℕ → S
   pub record Goes (calls : Calls) (f : Frame) (fs : List Frame) (code : Act (World S) (List CoreValue)) (waiting : List (Awaiting S)) : Type 0 where
     pub rest : List CoreCall
     pub call : CoreCall
+    pub begun : ℕ
     pub last : calls f.instance ≡ rest ++ call ∷ []
-    pub runs : IsRunBy G (hosted h) (nested d) f.instance call.machine (stores f.instance) code
+    pub runs : IsRunBy G (hosted h) (nested begun) f.instance call.machine (stores f.instance) code
     pub others : AllStand (with_calls calls f.instance rest) fs waiting

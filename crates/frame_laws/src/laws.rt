@@ -1,5 +1,5 @@
 ghost use Rattle.comp_worlds.specs.Groups.{Group};
-ghost use Rattle.frame_laws.specs.Laws.{ResultsComeBack};
+ghost use Rattle.frame_laws.specs.Laws.{ResultsComeBack, CodeBeginsInside};
 
 use host_port::Host;
 
@@ -7,4 +7,9 @@ use host_port::Host;
 /// as before.
 pub fn results_come_back<H: Host>()
     ensures { (G : Group) → ResultsComeBack H.step G }
+{}
+
+/// Code that an instance begins, while all others await, is the innermost that goes on, and they stand as before.
+pub fn code_begins_inside<H: Host>()
+    ensures { (G : Group) → CodeBeginsInside H.step G }
 {}

@@ -4,4 +4,4 @@
 
 mod laws;
 
-pub use laws::results_come_back;
+pub use laws::{code_begins_inside, results_come_back};
