@@ -14,9 +14,9 @@ use Rattle.comp_worlds.specs.Hosts.{call_of, passed_by, answered_by, reacts, hos
 use Rattle.value_numbers.proofs.Twice.{twice}
 use Rattle.call_targets.specs.declared.target.Import.{Import}
 use Rattle.call_targets.specs.Targets.{import_of}
-use Rattle.comp_calls.specs.declared.end.Stop.{Stop}
-use Rattle.comp_calls.specs.declared.end.Stop.TheVariants as stops
-use Rattle.comp_calls.specs.Asking.{called, Asks}
+use Rattle.call_frames.specs.declared.end.Stop.{Stop}
+use Rattle.call_frames.specs.declared.end.Stop.TheVariants as stops
+use Rattle.call_frames.specs.Asking.{called, Asks}
 use Rattle.call_laws.specs.Laws.{ComesOut, HostsAnswer}
 use Rattle.call_laws.proofs.Own.{numbers, own_numbers}
 

@@ -10,11 +10,11 @@ use Rattle.comp_worlds.specs.Calls.{below, begins_call}
 use Rattle.comp_worlds.specs.Hosts.{passed_by, hosted}
 use Rattle.call_targets.specs.declared.target.Import.{Import}
 use Rattle.call_targets.specs.Targets.{import_of}
-use Rattle.comp_calls.specs.declared.end.Stop.{Stop}
-use Rattle.comp_calls.specs.declared.end.Stop.TheVariants as stops
-use Rattle.comp_calls.specs.declared.depth.Depth.{Depth}
-use Rattle.comp_calls.specs.Steps.{BeginsCall}
-use Rattle.comp_calls.specs.Asking.{called, Asks}
+use Rattle.call_frames.specs.declared.end.Stop.{Stop}
+use Rattle.call_frames.specs.declared.end.Stop.TheVariants as stops
+use Rattle.call_frames.specs.declared.depth.Depth.{Depth}
+use Rattle.call_frames.specs.Steps.{BeginsCall}
+use Rattle.call_frames.specs.Asking.{called, Asks}
 
 -- of at most 65,536 calls so many are in progress
 abbrev pub nested : ℕ → Nesting

@@ -1,40 +1,21 @@
 #![tactic(auto, using(crate::proofs::Working::works))]
 
-ghost use Rattle.std.specs.Prelude.{◌≡◌, ◌≤◌, ◌<◌, ◌+◌, OnOk, IfOk};
+ghost use Rattle.std.specs.Prelude.{◌≡◌, ◌≤◌, ◌<◌, ◌+◌, OnOk};
 ghost use Rattle.wit_types.specs.PlainValue.{plain_value};
-ghost use Rattle.host_port.specs.Calls.{plain_call};
 ghost use Rattle.host_port.specs.Hosts.{answer_of, reacts};
-ghost use Rattle.comp_calls.specs.Asking.{called, Asks, WithMemory};
+ghost use Rattle.call_frames.specs.Asking.{called, Asks, WithMemory};
 ghost use Rattle.comp_calls.specs.Work.{work};
 
-use crate::depth::Depth;
-use crate::end::Stop;
-use crate::frames::{Call, Caller, Due, Flow};
-use crate::lowering::lift_in;
-use crate::tuples::{in_tuple, out_of_tuple, values_in};
-use crate::words::word_at;
 use crate::world::World;
+use call_frames::{
+    Call, Caller, Depth, Due, Flow, Stop, host_call, in_tuple, lift_in, out_of_tuple, word_at,
+};
 use call_targets::{Canon, Import, Target};
 use core_slots::CoreValues;
-use host_port::{Answer, Host, HostCall};
+use host_port::{Answer, Host};
 use instance_values::CallOptions;
 use std::alloc::Global;
-use virt_base::NoMemory;
-use wit_types::{FuncType, Value, Values, copy_func};
-
-/// The call of an import.
-fn host_call(alloc: Global, import: &Import, args: Value) -> Result<HostCall, NoMemory>
-    ensures { IfOk result (λ call. plain_call call ≡ called import.now (plain_value args)) }
-{
-    let FuncType { params, result } = copy_func(alloc, import.ty.func().ty())?;
-    Ok(HostCall {
-        interface: import.interface.copy(alloc)?,
-        function: import.function.copy(alloc)?,
-        params,
-        args: values_in(alloc, args),
-        result,
-    })
-}
+use wit_types::{Value, Values};
 
 impl<H: Host> World<H> {
     /// Core code of an instance asks for a canonical call, where so many calls are in progress.

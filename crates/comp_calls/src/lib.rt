@@ -4,21 +4,10 @@
 #![tactic(auto)]
 
 mod calls;
-mod depth;
-mod end;
-mod frames;
-mod group;
 mod lowering;
 mod resources;
 mod serving;
-mod tuples;
-mod words;
 mod world;
 
-pub use depth::Depth;
-pub use end::{RunEnd, Stop};
-pub use frames::{
-    Back, Call, Caller, Due, Frame, Purpose, Served, Service, Stored, Storing, Visit,
-};
-pub use group::Group;
+pub use call_frames::{Group, RunEnd, Stop};
 pub use world::World;

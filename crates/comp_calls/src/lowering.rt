@@ -1,140 +1,18 @@
-#![tactic(auto, using(crate::proofs::Plans::plans, crate::proofs::Working::works))]
+#![tactic(auto, using(crate::proofs::Working::works))]
 
-ghost use Rattle.std.specs.Prelude.{◌≡◌, ◌≤◌, ◌<◌, ◌+◌, OnOk, IfOk, IfSome, IsTrue, Some, None, true, false, length};
-ghost use Rattle.wit_types.specs.Plain.{plain};
-ghost use Rattle.wit_types.specs.HasType.{HasType};
-ghost use Rattle.abi_load.specs.Lifted.{words};
-ghost use Rattle.wit_types.specs.PlainValue.{plain_value};
-ghost use Rattle.abi_store.specs.Plan.{is_due};
-ghost use Rattle.comp_worlds.specs.Hosts.{passed_by};
-ghost use Rattle.comp_worlds.specs.Locals.{lifts, adds_handles};
-ghost use Rattle.comp_worlds.specs.Passing.{blank, handles_of, most_params, most_results};
-ghost use Rattle.instance_handles.specs.Owning.{plain_for};
-ghost use Rattle.instance_handles.specs.Loans.{indexes_of};
-ghost use Rattle.instance_state.specs.Shown.{config_of};
-ghost use Rattle.instance_values.specs.Passed.{options_of, needs_memory, IsInStore, IsLiftedAs, params_plan, result_plan};
-ghost use Rattle.comp_calls.specs.Stores.{BeginsToStore, without_loans};
+ghost use Rattle.std.specs.Prelude.{◌≡◌, ◌≤◌, ◌<◌, ◌+◌, OnOk};
 ghost use Rattle.comp_calls.specs.Work.{work, weight_behind};
 
-use crate::depth::Depth;
-use crate::end::Stop;
-use crate::frames::{Back, Call, Due, Flow, Purpose, Service, Stored, Storing};
-use crate::words::{only_word, request};
 use crate::world::World;
-use abi_store::{StorePlan, StoreStep};
-use core_runs::CoreRuns;
+use abi_store::StoreStep;
+use call_frames::{
+    Back, Call, Depth, Due, Flow, Purpose, Service, Stop, Stored, Storing, begin_params,
+    begin_result, memory_for, only_word, request,
+};
 use core_slots::CoreValues;
-use handle_exchange::Room;
 use host_port::Host;
-use instance_handles::{Loan, Owners};
-use instance_state::Instance;
-use instance_values::{CallOptions, PassedFunc, PassedType, lift, lower_params, lower_result};
 use std::alloc::Global;
 use wit_types::Value;
-
-/// The memory that a canonical function names.
-fn memory_in(code: &CoreRuns, options: CallOptions) -> Option<u32>
-    ensures { IfSome result (λ at. (options.memory ≡ Some at) × (at < length code.now.store.memories)) }
-{
-    let at = options.memory?;
-    if code.has_memory(at) { Some(at) } else { None }
-}
-
-/// The memory to which storing goes on; where it does not come to memory, any.
-fn memory_for(code: &CoreRuns, options: CallOptions, writes: bool) -> Option<u32>
-    ensures { IfSome result (λ at. writes ≡ true → at < length code.now.store.memories) }
-{
-    match memory_in(code, options) {
-        Some(at) => Some(at),
-        None => { if writes { None } else { Some(0) } }
-    }
-}
-
-/// The memory is there in which values of a type lie, if they do.
-fn has_memory_for(code: &CoreRuns, options: CallOptions, passed: &PassedType) -> bool
-    ensures { IsTrue result → needs_memory passed.now.most (plain passed.now.ty) ≡ true → IsInStore options.memory code.now.store }
-{
-    if !passed.in_memory {
-        return true;
-    }
-    match memory_in(code, options) {
-        Some(_) => true,
-        None => false,
-    }
-}
-
-/// The value that an instance passes by flat values.
-///
-/// # Errors
-///
-/// `Trapped` as `lift` traps, and where the memory is not there in which values of the type lie.
-pub fn lift_in(
-    alloc: Global,
-    instance: &mut Instance,
-    room: &mut Room,
-    loans: &mut Vec<Loan>,
-    options: CallOptions,
-    passed: &PassedType,
-    flat: &CoreValues,
-) -> Result<Value, Stop>
-    ensures lifts { IfOk result (λ value. IsLiftedAs (plain passed.now.ty) (lifts passed.now.most (plain passed.now.ty) (options_of options) (words flat.now) (config_of instance.old)) (config_of instance.new) (indexes_of loans.old.items) (indexes_of loans.new.items) value) }
-    ensures typed { IfOk result (λ value. HasType value passed.now.ty) }
-    ensures code { instance.new.code ≡ instance.old.code }
-{
-    if !has_memory_for(&instance.code, options, passed) {
-        return Err(Stop::Trapped);
-    }
-    let value = lift(alloc, instance, room, loans, options, passed, flat)?;
-    Ok(value)
-}
-
-/// The handles of parameters are added to the table of the instance that is called, which is closed while they are stored.
-fn begin_params(
-    alloc: Global,
-    callee: &mut Instance,
-    room: &mut Room,
-    owners: &Owners,
-    number: u32,
-    passed: &PassedFunc,
-    value: Value,
-) -> Result<StorePlan, Stop>
-    requires { passed.now.params.most ≡ most_params }
-    ensures lowers { IfOk result (λ plan. BeginsToStore (plain passed.now.params.ty) (blank (plain passed.now.params.ty) (plain_value value)) (params_plan (plain passed.now.params.ty)) (adds_handles (plain_for owners.now (Some number)) (handles_of (plain passed.now.params.ty) (passed_by (plain passed.now.params.ty) (plain_value value))) (config_of callee.old)) (config_of callee.new) plan) }
-    ensures waits { IfOk result (λ plan. is_due plan.due ≡ false) }
-{
-    let plan = lower_params(alloc, callee, room, owners, number, &passed.params, value)?;
-    callee.close();
-    Ok(plan)
-}
-
-/// The loans of a call end, and the handles of its result are added to the table of the instance that called, which is closed while the
-/// result is stored.
-fn begin_result(
-    alloc: Global,
-    caller: &mut Instance,
-    room: &mut Room,
-    owners: &Owners,
-    passed: &PassedFunc,
-    call: &Call,
-    value: Value,
-) -> Result<StorePlan, Stop>
-    requires { passed.now.result.most ≡ most_results }
-    ensures lowers { IfOk result (λ plan. BeginsToStore (plain passed.now.result.ty) (blank (plain passed.now.result.ty) (plain_value value)) (result_plan (plain passed.now.result.ty) call.now.place) (adds_handles (plain_for owners.now None) (handles_of (plain passed.now.result.ty) (passed_by (plain passed.now.result.ty) (plain_value value))) (without_loans (indexes_of call.now.loans.items) (config_of caller.old))) (config_of caller.new) plan) }
-    ensures comes { IfOk result (λ plan. is_due plan.due ≡ passed.now.result.spills) }
-{
-    caller.handles.end_loans(&call.loans)?;
-    let plan = lower_result(
-        alloc,
-        caller,
-        room,
-        owners,
-        &passed.result,
-        call.place,
-        value,
-    )?;
-    caller.close();
-    Ok(plan)
-}
 
 impl<H: Host> World<H> {
     /// The parameters of a lifted function are lowered into its instance, and then it runs.

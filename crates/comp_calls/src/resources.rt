@@ -5,11 +5,8 @@ ghost use Rattle.indexmap.specs.IndexMap.{get};
 ghost use Rattle.comp_calls.specs.Work.{work};
 ghost use Rattle.comp_calls.specs.Resources.{IsDropped, destroying};
 
-use crate::depth::Depth;
-use crate::end::Stop;
-use crate::frames::{Flow, Purpose, Visit};
-use crate::words::{one_word, only_word};
 use crate::world::World;
+use call_frames::{Depth, Flow, Purpose, Stop, Visit, one_word, only_word};
 use core_slots::CoreValues;
 use host_port::Host;
 use instance_handles::Owner;

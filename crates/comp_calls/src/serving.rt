@@ -3,11 +3,8 @@
 ghost use Rattle.std.specs.Prelude.{◌≡◌, ◌≤◌, ◌<◌, ◌+◌, OnOk};
 ghost use Rattle.comp_calls.specs.Work.{work};
 
-use crate::depth::Depth;
-use crate::end::Stop;
-use crate::frames::{Back, Caller, Due, Flow, Purpose, Served, Service};
-use crate::lowering::lift_in;
 use crate::world::World;
+use call_frames::{Back, Caller, Depth, Due, Flow, Purpose, Served, Service, Stop, lift_in};
 use call_targets::Lifting;
 use core_slots::CoreValues;
 use host_port::Host;

@@ -1,13 +1,10 @@
 #![tactic(auto, using(crate::proofs::Working::works))]
 
 ghost use Rattle.std.specs.Prelude.{◌≡◌, ◌≤◌, ◌<◌, ◌+◌, ◌++◌, ◌∷◌, [], OnOk, IfOk};
-ghost use Rattle.comp_calls.specs.Steps.{TakesStep, BeginsCall};
+ghost use Rattle.call_frames.specs.Steps.{TakesStep, BeginsCall};
 ghost use Rattle.comp_calls.specs.Work.{work, weight};
 
-use crate::depth::Depth;
-use crate::end::Stop;
-use crate::frames::{Flow, Frame, Purpose};
-use crate::group::Group;
+use call_frames::{Depth, Flow, Frame, Group, Purpose, Stop};
 use core_interp::Pause;
 use core_slots::CoreValues;
 use handle_exchange::Room;

@@ -15,7 +15,7 @@ use Rattle.comp_worlds.specs.Hosts.{hosted}
 use Rattle.comp_runs.specs.Pausing.{IsRunBy}
 use Rattle.comp_frames.specs.Frames.{Awaiting, instance_in, comes_back, gets, resumes, ends_in}
 use Rattle.comp_frames.specs.Frames as defined
-use Rattle.comp_calls.specs.declared.frames.Frame.{Frame}
+use Rattle.call_frames.specs.declared.frames.Frame.{Frame}
 use Rattle.code_laws.specs.Laws.{nested, HasResults}
 use Rattle.code_laws.proofs.Coding.{code_gets_results}
 use Rattle.frame_laws.specs.Shown.{purpose_of}

@@ -11,7 +11,7 @@ use Rattle.comp_worlds.specs.Acts.{Act, ◌>>◌}
 use Rattle.comp_worlds.specs.Groups.{Group, World}
 use Rattle.comp_worlds.specs.Hosts.{hosted}
 use Rattle.comp_frames.specs.Frames.{Awaiting, resumes, ends_in}
-use Rattle.comp_calls.specs.declared.frames.Frame.{Frame}
+use Rattle.call_frames.specs.declared.frames.Frame.{Frame}
 use Rattle.code_laws.specs.Laws.{nested, HasBegun}
 use Rattle.frame_laws.specs.Shown.{purpose_of}
 use Rattle.frame_laws.specs.Standing.{Calls, with_calls, with_store, AllStand, Goes}

@@ -8,22 +8,22 @@ use Rattle.call_targets.specs.Targets.{target_of, lifting_of}
 use Rattle.instance_handles.specs.Loans.{indexes_of}
 use Rattle.instance_values.specs.Passed.{options_of}
 use Rattle.comp_frames.specs.Frames as defined
-use Rattle.comp_calls.specs.declared.depth.Depth.{Depth}
-use Rattle.comp_calls.specs.declared.frames.Call.{Call}
-use Rattle.comp_calls.specs.declared.frames.Caller.{Caller}
-use Rattle.comp_calls.specs.declared.frames.Caller.TheVariants as callers
-use Rattle.comp_calls.specs.declared.frames.Service.{Service}
-use Rattle.comp_calls.specs.declared.frames.Storing.{Storing}
-use Rattle.comp_calls.specs.declared.frames.Stored.{Stored}
-use Rattle.comp_calls.specs.declared.frames.Stored.TheVariants as stored
-use Rattle.comp_calls.specs.declared.frames.Due.{Due}
-use Rattle.comp_calls.specs.declared.frames.Due.TheVariants as dues
-use Rattle.comp_calls.specs.declared.frames.Back.{Back}
-use Rattle.comp_calls.specs.declared.frames.Back.TheVariants as backs
-use Rattle.comp_calls.specs.declared.frames.Visit.{Visit}
-use Rattle.comp_calls.specs.declared.frames.Visit.TheVariants as visits
-use Rattle.comp_calls.specs.declared.frames.Purpose.{Purpose}
-use Rattle.comp_calls.specs.declared.frames.Purpose.TheVariants as purposes
+use Rattle.call_frames.specs.declared.depth.Depth.{Depth}
+use Rattle.call_frames.specs.declared.frames.Call.{Call}
+use Rattle.call_frames.specs.declared.frames.Caller.{Caller}
+use Rattle.call_frames.specs.declared.frames.Caller.TheVariants as callers
+use Rattle.call_frames.specs.declared.frames.Service.{Service}
+use Rattle.call_frames.specs.declared.frames.Storing.{Storing}
+use Rattle.call_frames.specs.declared.frames.Stored.{Stored}
+use Rattle.call_frames.specs.declared.frames.Stored.TheVariants as stored
+use Rattle.call_frames.specs.declared.frames.Due.{Due}
+use Rattle.call_frames.specs.declared.frames.Due.TheVariants as dues
+use Rattle.call_frames.specs.declared.frames.Back.{Back}
+use Rattle.call_frames.specs.declared.frames.Back.TheVariants as backs
+use Rattle.call_frames.specs.declared.frames.Visit.{Visit}
+use Rattle.call_frames.specs.declared.frames.Visit.TheVariants as visits
+use Rattle.call_frames.specs.declared.frames.Purpose.{Purpose}
+use Rattle.call_frames.specs.declared.frames.Purpose.TheVariants as purposes
 
 abbrev pub depth_of : Depth → Nesting
 depth_of d = Nested 65536 d.calls

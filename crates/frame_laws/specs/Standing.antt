@@ -11,7 +11,7 @@ use Rattle.comp_worlds.specs.Calls.{pick}
 use Rattle.comp_worlds.specs.Hosts.{hosted}
 use Rattle.comp_runs.specs.Pausing.{IsRunBy}
 use Rattle.comp_frames.specs.Frames.{Awaiting}
-use Rattle.comp_calls.specs.declared.frames.Frame.{Frame}
+use Rattle.call_frames.specs.declared.frames.Frame.{Frame}
 use Rattle.code_laws.specs.Laws.{nested, AwaitsSince}
 use Rattle.frame_laws.specs.Shown.{purpose_of}
 

@@ -3,8 +3,8 @@ use Rattle.core_memory.specs.declared.fault.StoreFault.{StoreFault}
 use Rattle.core_memory.specs.declared.fault.StoreFault.TheVariants as stores
 use Rattle.instance_handles.specs.declared.fault.HandleFault.{HandleFault}
 use Rattle.instance_handles.specs.declared.fault.HandleFault.TheVariants as handles
-use Rattle.comp_calls.specs.declared.end.Stop.{Stop}
-use Rattle.comp_calls.specs.declared.end.Stop.TheVariants.{Trapped, NoMemory}
+use Rattle.call_frames.specs.declared.end.Stop.{Stop}
+use Rattle.call_frames.specs.declared.end.Stop.TheVariants.{Trapped, NoMemory}
 
 abbrev pub stop_of_handles : HandleFault → Stop
 stop_of_handles handles.Trap = Trapped

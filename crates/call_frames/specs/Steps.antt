@@ -1,8 +1,8 @@
 -- Steps, and the calls that take one as they begin. (The number of calls and the order of the two are this project's own.)
 use Rattle.std.specs.Prelude.{◌≡◌, ◌≤◌, ◌<◌, ◌+◌, ℕ, Result, Ok, Err}
-use Rattle.comp_calls.specs.declared.end.Stop.{Stop}
-use Rattle.comp_calls.specs.declared.end.Stop.TheVariants as stops
-use Rattle.comp_calls.specs.declared.depth.Depth.{Depth}
+use Rattle.call_frames.specs.declared.end.Stop.{Stop}
+use Rattle.call_frames.specs.declared.end.Stop.TheVariants as stops
+use Rattle.call_frames.specs.declared.depth.Depth.{Depth}
 
 -- one step less is left, or none was
 abbrev pub TakesStep : ℕ → ℕ → Result (Unit {0}) Stop → Type 0

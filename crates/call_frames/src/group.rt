@@ -1,6 +1,6 @@
 ghost use Rattle.std.specs.Prelude.{◌≡◌, IfOk, option_map};
 ghost use Rattle.call_targets.specs.Targets.{func_of};
-ghost use Rattle.comp_calls.specs.Grouped.{canon_in};
+ghost use Rattle.call_frames.specs.Grouped.{canon_in};
 
 use call_targets::Canon;
 use host_port::Resource;

@@ -1,6 +1,6 @@
 ghost use Rattle.std.specs.Prelude.{◌≡◌, ◌∷◌, [], IfOk, Some, slice_get};
 ghost use Rattle.core_store.specs.declared.value.CoreValue.TheVariants.{I32 as Word};
-ghost use Rattle.comp_calls.specs.Words.{word_in, only_word_in};
+ghost use Rattle.call_frames.specs.Words.{word_in, only_word_in};
 
 use core_slots::CoreValues;
 use core_store::CoreValue;

@@ -5,8 +5,8 @@ use Rattle.wit_types.specs.declared.value.Value.{Value}
 use Rattle.host_port.specs.Calls.{PlainCall, PlainAnswer, Gives, Trap, Ended, Bad}
 use Rattle.comp_worlds.specs.Passing.{in_tuple, values_in}
 use Rattle.call_targets.specs.declared.target.Import.{Import}
-use Rattle.comp_calls.specs.declared.end.Stop.{Stop}
-use Rattle.comp_calls.specs.declared.end.Stop.TheVariants as stops
+use Rattle.call_frames.specs.declared.end.Stop.{Stop}
+use Rattle.call_frames.specs.declared.end.Stop.TheVariants as stops
 
 -- with this tuple of arguments
 abbrev pub called : Import → PlainValue → PlainCall

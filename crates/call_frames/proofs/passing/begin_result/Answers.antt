@@ -9,7 +9,7 @@ use Rattle.instance_handles.specs.Owning.{plain_for}
 use Rattle.instance_handles.specs.Loans.{indexes_of}
 use Rattle.instance_state.specs.Shown.{config_of}
 use Rattle.instance_values.specs.Passed.{IsLoweredAs, result_plan}
-use Rattle.comp_calls.proofs.lowering.begin_result.Goals as goal
+use Rattle.call_frames.proofs.passing.begin_result.Goals as goal
 
 pub returns-clause-lowers : goal.returns-clause-lowers
 returns-clause-lowers c =

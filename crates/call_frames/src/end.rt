@@ -34,7 +34,7 @@ pub enum Stop {
 
 impl From<NoMemory> for Stop {
     ghost use Rattle.std.specs.Prelude.{◌≡◌};
-    ghost use Rattle.comp_calls.specs.declared.end.Stop.TheVariants.{NoMemory};
+    ghost use Rattle.call_frames.specs.declared.end.Stop.TheVariants.{NoMemory};
 
     ghost from_gives = { λ _ stop. stop ≡ NoMemory };
 
@@ -45,7 +45,7 @@ impl From<NoMemory> for Stop {
 
 impl From<Trap> for Stop {
     ghost use Rattle.std.specs.Prelude.{◌≡◌};
-    ghost use Rattle.comp_calls.specs.declared.end.Stop.TheVariants.{Trapped};
+    ghost use Rattle.call_frames.specs.declared.end.Stop.TheVariants.{Trapped};
 
     ghost from_gives = { λ _ stop. stop ≡ Trapped };
 
@@ -56,7 +56,7 @@ impl From<Trap> for Stop {
 
 impl From<HandleFault> for Stop {
     ghost use Rattle.std.specs.Prelude.{◌≡◌};
-    ghost use Rattle.comp_calls.specs.Stops.{stop_of_handles};
+    ghost use Rattle.call_frames.specs.Stops.{stop_of_handles};
 
     ghost from_gives = { λ fault stop. stop ≡ stop_of_handles fault };
 
@@ -70,7 +70,7 @@ impl From<HandleFault> for Stop {
 
 impl From<StoreFault> for Stop {
     ghost use Rattle.std.specs.Prelude.{◌≡◌};
-    ghost use Rattle.comp_calls.specs.Stops.{stop_of_store};
+    ghost use Rattle.call_frames.specs.Stops.{stop_of_store};
 
     ghost from_gives = { λ fault stop. stop ≡ stop_of_store fault };
 
@@ -84,7 +84,7 @@ impl From<StoreFault> for Stop {
 
 impl<T: Drop> From<AllocFailed<T>> for Stop {
     ghost use Rattle.std.specs.Prelude.{◌≡◌};
-    ghost use Rattle.comp_calls.specs.declared.end.Stop.TheVariants.{NoMemory};
+    ghost use Rattle.call_frames.specs.declared.end.Stop.TheVariants.{NoMemory};
 
     ghost from_gives = { λ _ stop. stop ≡ NoMemory };
 
@@ -95,7 +95,7 @@ impl<T: Drop> From<AllocFailed<T>> for Stop {
 
 impl From<AllocError> for Stop {
     ghost use Rattle.std.specs.Prelude.{◌≡◌};
-    ghost use Rattle.comp_calls.specs.declared.end.Stop.TheVariants.{NoMemory};
+    ghost use Rattle.call_frames.specs.declared.end.Stop.TheVariants.{NoMemory};
 
     ghost from_gives = { λ _ stop. stop ≡ NoMemory };
 

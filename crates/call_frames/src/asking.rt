@@ -1,0 +1,25 @@
+ghost use Rattle.std.specs.Prelude.{◌≡◌, IfOk};
+ghost use Rattle.wit_types.specs.PlainValue.{plain_value};
+ghost use Rattle.host_port.specs.Calls.{plain_call};
+ghost use Rattle.call_frames.specs.Asking.{called};
+
+use crate::tuples::values_in;
+use call_targets::Import;
+use host_port::HostCall;
+use std::alloc::Global;
+use virt_base::NoMemory;
+use wit_types::{FuncType, Value, copy_func};
+
+/// The call of an import.
+pub fn host_call(alloc: Global, import: &Import, args: Value) -> Result<HostCall, NoMemory>
+    ensures { IfOk result (λ call. plain_call call ≡ called import.now (plain_value args)) }
+{
+    let FuncType { params, result } = copy_func(alloc, import.ty.func().ty())?;
+    Ok(HostCall {
+        interface: import.interface.copy(alloc)?,
+        function: import.function.copy(alloc)?,
+        params,
+        args: values_in(alloc, args),
+        result,
+    })
+}

@@ -1,0 +1,37 @@
+ghost use Rattle.std.specs.Prelude.{◌≡◌, ◌<◌, IfSome, IsTrue, Some, true, length};
+ghost use Rattle.wit_types.specs.Plain.{plain};
+ghost use Rattle.instance_values.specs.Passed.{needs_memory, IsInStore};
+
+use core_runs::CoreRuns;
+use instance_values::{CallOptions, PassedType};
+
+/// The memory that a canonical function names.
+pub fn memory_in(code: &CoreRuns, options: CallOptions) -> Option<u32>
+    ensures { IfSome result (λ at. (options.memory ≡ Some at) × (at < length code.now.store.memories)) }
+{
+    let at = options.memory?;
+    if code.has_memory(at) { Some(at) } else { None }
+}
+
+/// The memory to which storing goes on; where it does not come to memory, any.
+pub fn memory_for(code: &CoreRuns, options: CallOptions, writes: bool) -> Option<u32>
+    ensures { IfSome result (λ at. writes ≡ true → at < length code.now.store.memories) }
+{
+    match memory_in(code, options) {
+        Some(at) => Some(at),
+        None => { if writes { None } else { Some(0) } }
+    }
+}
+
+/// The memory is there in which values of a type lie, if they do.
+pub fn has_memory_for(code: &CoreRuns, options: CallOptions, passed: &PassedType) -> bool
+    ensures { IsTrue result → needs_memory passed.now.most (plain passed.now.ty) ≡ true → IsInStore options.memory code.now.store }
+{
+    if !passed.in_memory {
+        return true;
+    }
+    match memory_in(code, options) {
+        Some(_) => true,
+        None => false,
+    }
+}
