@@ -45,7 +45,8 @@ impl Instance {
 
     /// A call of one of its functions begins. `Trap` comes exactly where one is in progress.
     pub fn enter(&mut self) -> Result<(), Trap>
-        ensures { Goes (enters (config_of self.old)) (config_of self.new) result }
+        ensures done { Goes (enters (config_of self.old)) (config_of self.new) result }
+        ensures code { self.new.code ≡ self.old.code }
     {
         if self.entered {
             return Err(Trap);
@@ -56,21 +57,24 @@ impl Instance {
 
     /// The call of one of its functions is over.
     pub fn exit(&mut self)
-        ensures { exits (config_of self.old) ≡ Some (done (config_of self.new)) }
+        ensures done { exits (config_of self.old) ≡ Some (done (config_of self.new)) }
+        ensures code { self.new.code ≡ self.old.code }
     {
         self.entered = false;
     }
 
     /// Values are lowered into it from now on, or a post-return runs.
     pub fn close(&mut self)
-        ensures { closes (config_of self.old) ≡ Some (done (config_of self.new)) }
+        ensures done { closes (config_of self.old) ≡ Some (done (config_of self.new)) }
+        ensures code { self.new.code ≡ self.old.code }
     {
         self.closed = true;
     }
 
     /// Its code may call again.
     pub fn reopen(&mut self)
-        ensures { reopens (config_of self.old) ≡ Some (done (config_of self.new)) }
+        ensures done { reopens (config_of self.old) ≡ Some (done (config_of self.new)) }
+        ensures code { self.new.code ≡ self.old.code }
     {
         self.closed = false;
     }
@@ -87,7 +91,8 @@ impl Instance {
         resource: u32,
         rep: u32,
     ) -> Result<u32, HandleFault>
-        ensures { AnswersInMemory (λ (index : ℕ). index ∷ []) (makes plainly owns resource (rep ∷ []) (config_of self.old)) (config_of self.new) result }
+        ensures done { AnswersInMemory (λ (index : ℕ). index ∷ []) (makes plainly owns resource (rep ∷ []) (config_of self.old)) (config_of self.new) result }
+        ensures code { self.new.code ≡ self.old.code }
     {
         if !owns || self.closed {
             return Err(HandleFault::Trap);
@@ -115,7 +120,8 @@ impl Instance {
     ///
     /// `Trap` exactly where the instance is closed, or no handle of the resource is at the index, or it is lent.
     pub fn remove(&mut self, resource: u32, index: u32) -> Result<Option<u32>, Trap>
-        ensures { Answers (λ rep. rep) (removes resource (index ∷ []) (config_of self.old)) (config_of self.new) result }
+        ensures done { Answers (λ rep. rep) (removes resource (index ∷ []) (config_of self.old)) (config_of self.new) result }
+        ensures code { self.new.code ≡ self.old.code }
     {
         if self.closed {
             return Err(Trap);

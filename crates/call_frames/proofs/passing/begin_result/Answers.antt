@@ -20,5 +20,5 @@ returns-clause-lowers c =
       subst (λ m. IsLoweredAs ty (blank ty (plain_value c.args.value)) (result_plan ty c.args.call.now.place)
           (adds_handles (plain_for c.args.owners.now None) (handles_of ty (passed_by ty (plain_value c.args.value))) (with_map (config_of c.args.caller.now) m))
           (config_of c.lower_result.new.instance) c.in_ok-plan.plan) ended c.in_ok-plan.ensures.lowers,
-      c.close.ensures,
+      c.close.ensures.done,
     )
