@@ -1,4 +1,5 @@
-ghost use Rattle.std.specs.Prelude.{◌≡◌, [], length};
+ghost use Rattle.std.specs.Prelude.{◌≡◌, [], length, OnOk};
+ghost use Rattle.std.specs.List.{All};
 ghost use Rattle.wit_types.specs.Plain.{plain};
 ghost use Rattle.wit_types.specs.PlainValue.{plain_value};
 ghost use Rattle.abi_layout.specs.Handles.{handles as handles_in};
@@ -6,7 +7,7 @@ ghost use Rattle.comp_worlds.specs.Passing.{named_in, lift_handles, add_handles,
 ghost use Rattle.comp_worlds.specs.Hosts.{passed_by};
 ghost use Rattle.value_handles.specs.Whether.{has_handles};
 ghost use Rattle.instance_handles.specs.Owning.{plain_for};
-ghost use Rattle.instance_handles.specs.Loans.{indexes_of};
+ghost use Rattle.instance_handles.specs.Loans.{indexes_of, IsLentAs};
 ghost use Rattle.handle_exchange.specs.Exchanges.{GoesOut, GoesIn};
 
 use instance_handles::{HandleFault, Handles, Loan, Owners};
@@ -33,7 +34,8 @@ impl Room {
 }
 
 /// Takes the own handles of a value out of the table, and lends the borrowed ones: the value with that for which they stand, and behind
-/// other loans those of the indexes that are lent. `holds` says whether values of the type may hold handles.
+/// other loans those of the indexes that are lent. Each loan can end then, as long as those before could. `holds` says whether values of the
+/// type may hold handles.
 ///
 /// # Errors
 ///
@@ -48,7 +50,8 @@ pub fn exchange_out(
     value: Value,
 ) -> Result<Value, HandleFault>
     requires { has_handles (plain ty.now) ≡ holds }
-    ensures { GoesOut (plain ty.now) (plain_value value) (lift_handles (named_in (handles_in (plain ty.now) (plain_value value))) handles.old) handles.new (indexes_of loans.old.items) (indexes_of loans.new.items) result }
+    ensures goes { GoesOut (plain ty.now) (plain_value value) (lift_handles (named_in (handles_in (plain ty.now) (plain_value value))) handles.old) handles.new (indexes_of loans.old.items) (indexes_of loans.new.items) result }
+    ensures lent { OnOk result (All (IsLentAs handles.old) loans.old.items → All (IsLentAs handles.new) loans.new.items) }
 {
     if !holds {
         return Ok(value);

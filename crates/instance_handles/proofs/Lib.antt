@@ -1,2 +1,3 @@
 pub mod Counting
 pub mod Exchanges
+pub mod Lent

@@ -1,6 +1,7 @@
 #![tactic(auto, using(crate::proofs::Counting::counts))]
 
 ghost use Rattle.std.specs.Prelude.{◌≡◌, ◌++◌, ◌∷◌, [], map, IfOk, OnOk, OnErr, IsErrOf, Some, None, option_map};
+ghost use Rattle.std.specs.List.{All};
 ghost use Rattle.handle_space.specs.HandleMap.{empty, own_entry, borrow_entry, answered, add, take, rep_of, unlend};
 ghost use Rattle.comp_worlds.specs.Passing.{named_in, lift_handles, unlend_all, lower_borrow, add_handle, add_handles, has_borrow as holds_borrow};
 ghost use Rattle.comp_worlds.specs.Locals.{what_is_owned};
@@ -102,7 +103,7 @@ impl Handles {
     }
 
     /// Takes the own handles of a value out of the table, and lends the borrowed ones: behind `reps` it puts for what each handle stands,
-    /// and behind `loans` those of the indexes that are lent.
+    /// and behind `loans` those of the indexes that are lent. Each loan can end then, as long as those before could.
     ///
     /// # Errors
     ///
@@ -114,7 +115,8 @@ impl Handles {
         reps: &mut Vec<u32>,
         loans: &mut Vec<Loan>,
     ) -> Result<(), HandleFault>
-        ensures { Lifts (lift_handles (named_in (shown handles.now)) self.old) self.new reps.old.items reps.new.items (indexes_of loans.old.items) (indexes_of loans.new.items) result }
+        ensures lifts { Lifts (lift_handles (named_in (shown handles.now)) self.old) self.new reps.old.items reps.new.items (indexes_of loans.old.items) (indexes_of loans.new.items) result }
+        ensures lent { OnOk result (All (IsLentAs self.old) loans.old.items → All (IsLentAs self.new) loans.new.items) }
     {
         for handle in handles {
             self.lift_one(*handle, reps, loans)?;
@@ -128,7 +130,8 @@ impl Handles {
         reps: &mut Vec<u32>,
         loans: &mut Vec<Loan>,
     ) -> Result<(), HandleFault>
-        ensures { LiftsOne (one_due handle self.old) (number_of handle) self.new reps.old.items reps.new.items (indexes_of loans.old.items) (indexes_of loans.new.items) result }
+        ensures lifts { LiftsOne (one_due handle self.old) (number_of handle) self.new reps.old.items reps.new.items (indexes_of loans.old.items) (indexes_of loans.new.items) result }
+        ensures lent { OnOk result (All (IsLentAs self.old) loans.old.items → All (IsLentAs self.new) loans.new.items) }
     {
         match handle {
             ValueHandle::Own { resource, number } => {

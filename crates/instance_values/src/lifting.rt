@@ -1,6 +1,7 @@
 #![tactic(auto)]
 
-ghost use Rattle.std.specs.Prelude.{◌≡◌, ℕ, Some, None, IfOk, IsErrOf, true};
+ghost use Rattle.std.specs.Prelude.{◌≡◌, ℕ, Some, None, IfOk, OnOk, IsErrOf, true};
+ghost use Rattle.std.specs.List.{All};
 ghost use Rattle.wit_types.specs.Plain.{plain};
 ghost use Rattle.wit_types.specs.PlainValue.{plain_value};
 ghost use Rattle.wit_types.specs.HasType.{HasType};
@@ -8,7 +9,7 @@ ghost use Rattle.abi_layout.specs.Loading.{low_word as low_bits};
 ghost use Rattle.abi_load.specs.Lifted.{words};
 ghost use Rattle.comp_worlds.specs.Passing.{lift_words};
 ghost use Rattle.comp_worlds.specs.Locals.{lifts, bytes_in};
-ghost use Rattle.instance_handles.specs.Loans.{indexes_of};
+ghost use Rattle.instance_handles.specs.Loans.{indexes_of, IsLentAs};
 ghost use Rattle.instance_state.specs.Shown.{config_of};
 ghost use Rattle.instance_values.specs.Passed.{options_of, needs_memory, IsInStore, fault_of, LiftsAs};
 
@@ -69,7 +70,8 @@ fn lift_value(
 }
 
 /// The value that an instance passes by flat values: its own handles are taken out of the instance's table, borrowed ones are lent,
-/// and the value has that for which they stand. Behind other loans are those of the indexes that are lent.
+/// and the value has that for which they stand. Behind other loans are those of the indexes that are lent; each can end then, as long as
+/// those before could.
 ///
 /// # Errors
 ///
@@ -88,6 +90,7 @@ pub fn lift(
     ensures lifts { LiftsAs (plain passed.now.ty) (lifts passed.now.most (plain passed.now.ty) (options_of options) (words flat.now) (config_of instance.old)) (config_of instance.new) (indexes_of loans.old.items) (indexes_of loans.new.items) result }
     ensures typed { IfOk result (λ v. HasType v passed.now.ty) }
     ensures code { instance.new.code ≡ instance.old.code }
+    ensures lent { OnOk result (All (IsLentAs instance.old.handles) loans.old.items → All (IsLentAs instance.new.handles) loans.new.items) }
 {
     match lift_value(alloc, instance.code.store(), options, passed, flat) {
         Err(fault) => Err(handle_fault(fault)),

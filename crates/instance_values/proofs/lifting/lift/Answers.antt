@@ -19,9 +19,9 @@ returns-in-Err-clause-lifts c =
 pub returns-in-Ok-clause-lifts : goal.returns-in-Ok-clause-lifts
 returns-in-Ok-clause-lifts c =
     lifted_as c.args.passed.now.most (plain c.args.passed.now.ty) (options_of c.args.options) (words c.args.flat.now) (config_of c.args.instance.now) _ (plain_value c.in-Ok.value) c.exchange_out.new.handles (indexes_of c.args.loans.now.items) (indexes_of c.exchange_out.new.loans.items)
-    c.exchange_out.result (subst (λ z. lift_words c.args.passed.now.most (plain c.args.passed.now.ty) (bytes_in (options_of c.args.options) z) (words c.args.flat.now) ≡ Some (plain_value c.in-Ok.value)) c.store.ensures c.in-Ok.ensures.ok) c.exchange_out.ensures refl
+    c.exchange_out.result (subst (λ z. lift_words c.args.passed.now.most (plain c.args.passed.now.ty) (bytes_in (options_of c.args.options) z) (words c.args.flat.now) ≡ Some (plain_value c.in-Ok.value)) c.store.ensures c.in-Ok.ensures.ok) c.exchange_out.ensures.goes refl
 
 pub returns-in-Ok-clause-typed : goal.returns-in-Ok-clause-typed
 returns-in-Ok-clause-typed c =
     typed_as (plain c.args.passed.now.ty) (plain_value c.in-Ok.value) (lift_handles (named_in (handles (plain c.args.passed.now.ty) (plain_value c.in-Ok.value))) c.args.instance.now.handles) c.exchange_out.new.handles (indexes_of c.args.loans.now.items)
-    (indexes_of c.exchange_out.new.loans.items) c.exchange_out.result c.exchange_out.ensures c.in-Ok.ensures.typed
+    (indexes_of c.exchange_out.new.loans.items) c.exchange_out.result c.exchange_out.ensures.goes c.in-Ok.ensures.typed
