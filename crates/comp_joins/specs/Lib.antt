@@ -1,3 +1,4 @@
 pub mod Alike
 pub mod Joining
 pub mod Laws
+pub mod Holding

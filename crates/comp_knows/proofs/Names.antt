@@ -153,7 +153,7 @@ module _ (f : ℕ → ℕ) where
   answer_to Q None h = tt
   answer_to Q (Some ty) h = value_to Q ty h
 
-  func_to : (Q : ℕ → Type 0) (ty : PlainFunc) → Each (With Q) (named_in_func ty) → Each Q (named_in_func (func_with f ty))
+  pub func_to : (Q : ℕ → Type 0) (ty : PlainFunc) → Each (With Q) (named_in_func ty) → Each Q (named_in_func (func_with f ty))
   func_to Q ty h =
       each_both Q (named_in_parts (parts_with f ty.params)) (named_in_answer (answer_with f ty.answer)) (parts_to Q ty.params (each_first (With Q) (named_in_parts ty.params) (named_in_answer ty.answer) h))
       (answer_to Q ty.answer (each_second (With Q) (named_in_parts ty.params) (named_in_answer ty.answer) h))

@@ -1,0 +1,4 @@
+pub mod Growing
+pub mod Below
+pub mod Standing
+pub mod Passing
