@@ -1,6 +1,6 @@
-#![tactic(auto, using(crate::proofs::Plans::plans))]
+#![tactic(auto, using(crate::proofs::Plans::plans, crate::proofs::Faults::faults))]
 
-ghost use Rattle.std.specs.Prelude.{◌≡◌, IfOk, Some, None, false};
+ghost use Rattle.std.specs.Prelude.{◌≡◌, IfOk, Some, None, false, true};
 ghost use Rattle.wit_types.specs.Plain.{plain};
 ghost use Rattle.wit_types.specs.HasType.{HasType};
 ghost use Rattle.abi_load.specs.Lifted.{words};
@@ -10,10 +10,10 @@ ghost use Rattle.comp_worlds.specs.Hosts.{passed_by};
 ghost use Rattle.comp_worlds.specs.Locals.{lifts, adds_handles};
 ghost use Rattle.comp_worlds.specs.Passing.{blank, handles_of, most_params, most_results};
 ghost use Rattle.instance_handles.specs.Owning.{plain_for};
-ghost use Rattle.instance_handles.specs.Loans.{indexes_of};
+ghost use Rattle.instance_handles.specs.Loans.{indexes_of, AreLent};
 ghost use Rattle.instance_state.specs.Shown.{config_of};
-ghost use Rattle.instance_values.specs.Passed.{options_of, IsLiftedAs, params_plan, result_plan};
-ghost use Rattle.call_frames.specs.Stores.{BeginsToStore, without_loans};
+ghost use Rattle.instance_values.specs.Passed.{options_of, needs_memory, IsInStore, params_plan, result_plan};
+ghost use Rattle.call_frames.specs.Stores.{Lifts, Stores, without_loans};
 
 use crate::end::Stop;
 use crate::frames::Call;
@@ -31,7 +31,7 @@ use wit_types::Value;
 ///
 /// # Errors
 ///
-/// `Trapped` as `lift` traps, and where the memory is not there in which values of the type lie.
+/// `Trapped` exactly where `lift` traps, or the memory is not there in which values of the type lie.
 pub fn lift_in(
     alloc: Global,
     instance: &mut Instance,
@@ -41,7 +41,7 @@ pub fn lift_in(
     passed: &PassedType,
     flat: &CoreValues,
 ) -> Result<Value, Stop>
-    ensures lifts { IfOk result (λ value. IsLiftedAs (plain passed.now.ty) (lifts passed.now.most (plain passed.now.ty) (options_of options) (words flat.now) (config_of instance.old)) (config_of instance.new) (indexes_of loans.old.items) (indexes_of loans.new.items) value) }
+    ensures lifts { Lifts (needs_memory passed.now.most (plain passed.now.ty) ≡ true → IsInStore options.memory instance.old.code.store) (plain passed.now.ty) (lifts passed.now.most (plain passed.now.ty) (options_of options) (words flat.now) (config_of instance.old)) (config_of instance.new) (indexes_of loans.old.items) (indexes_of loans.new.items) result }
     ensures typed { IfOk result (λ value. HasType value passed.now.ty) }
     ensures code { instance.new.code ≡ instance.old.code }
 {
@@ -63,7 +63,8 @@ pub fn begin_params(
     value: Value,
 ) -> Result<StorePlan, Stop>
     requires { passed.now.params.most ≡ most_params }
-    ensures lowers { IfOk result (λ plan. BeginsToStore (plain passed.now.params.ty) (blank (plain passed.now.params.ty) (plain_value value)) (params_plan (plain passed.now.params.ty)) (adds_handles (plain_for owners.now (Some number)) (handles_of (plain passed.now.params.ty) (passed_by (plain passed.now.params.ty) (plain_value value))) (config_of callee.old)) (config_of callee.new) plan) }
+    ensures lowers { Stores (Unit {0}) (plain passed.now.params.ty) (blank (plain passed.now.params.ty) (plain_value value)) (params_plan (plain passed.now.params.ty)) (adds_handles (plain_for owners.now (Some number)) (handles_of (plain passed.now.params.ty) (passed_by (plain passed.now.params.ty) (plain_value value))) (config_of callee.old)) (config_of callee.new) result }
+    ensures code { callee.new.code ≡ callee.old.code }
     ensures waits { IfOk result (λ plan. is_due plan.due ≡ false) }
 {
     let plan = lower_params(alloc, callee, room, owners, number, &passed.params, value)?;
@@ -83,7 +84,8 @@ pub fn begin_result(
     value: Value,
 ) -> Result<StorePlan, Stop>
     requires { passed.now.result.most ≡ most_results }
-    ensures lowers { IfOk result (λ plan. BeginsToStore (plain passed.now.result.ty) (blank (plain passed.now.result.ty) (plain_value value)) (result_plan (plain passed.now.result.ty) call.now.place) (adds_handles (plain_for owners.now None) (handles_of (plain passed.now.result.ty) (passed_by (plain passed.now.result.ty) (plain_value value))) (without_loans (indexes_of call.now.loans.items) (config_of caller.old))) (config_of caller.new) plan) }
+    ensures lowers { Stores (AreLent call.now.loans.items caller.old.handles) (plain passed.now.result.ty) (blank (plain passed.now.result.ty) (plain_value value)) (result_plan (plain passed.now.result.ty) call.now.place) (adds_handles (plain_for owners.now None) (handles_of (plain passed.now.result.ty) (passed_by (plain passed.now.result.ty) (plain_value value))) (without_loans (indexes_of call.now.loans.items) (config_of caller.old))) (config_of caller.new) result }
+    ensures code { caller.new.code ≡ caller.old.code }
     ensures comes { IfOk result (λ plan. is_due plan.due ≡ passed.now.result.spills) }
 {
     caller.handles.end_loans(&call.loans)?;
