@@ -1,5 +1,5 @@
 // The bytes of files, one behind the other.
-ghost use Rattle.std.specs.Prelude.{◌≡◌, ◌+◌, ◌*◌, ◌≤◌, ◌<◌, ◌^◌, ◌++◌, List, ℕ, None, IsSome, length, drop, take, slice_set, slice_index_or};
+ghost use Rattle.std.specs.Prelude.{◌≡◌, ◌+◌, ◌*◌, ◌≤◌, ◌<◌, ◌^◌, ◌++◌, List, ℕ, None, IsSome, length, drop, take, replicate, slice_set, slice_index_or};
 ghost use Rattle.std.specs.List.{splice};
 ghost use Rattle.tree_table.specs.Scratches.{blocks_of, content_at, has_room, created, find_file, read_at, removed, renamed, resized, with_content, without_other};
 ghost use Rattle.overlay_tree.specs.Pieces.{blocks_in, entry_blocks, len_of, map_of, with_len};
@@ -124,6 +124,20 @@ pub fn replace_bytes(slots: &[Slot], bytes: &mut Vec<u8>, number: usize, at: usi
 {
     let start = start_of(slots, number);
     write(bytes, start + at, new);
+}
+
+/// Sets so many bytes of a file that is long enough to zero.
+pub fn clear_bytes(slots: &[Slot], bytes: &mut Vec<u8>, number: usize, at: usize, len: usize)
+    requires number { number < length slots.now }
+    requires live { IsSome (slice_index_or slots.now number None) }
+    requires within { blocks_in slots.now * 4096 ≤ length bytes.old.items }
+    requires few { length bytes.old.items < 2 ^ 48 }
+    requires long { at + len ≤ len_of (slice_index_or slots.now number None) }
+    ensures bytes { length bytes.new.items ≡ length bytes.old.items }
+    ensures files { (b : ℕ) → map_of b slots.now bytes.new.items ≡ with_content (map_of b slots.now bytes.old.items) number (splice (content_at (map_of b slots.now bytes.old.items) number) at (at + len) (replicate len 0)) }
+{
+    let start = start_of(slots, number);
+    clear(bytes, start + at, len);
 }
 
 /// Copies the bytes of a file from a place on to the front of `out`, as many as there are and fit, and says how many.

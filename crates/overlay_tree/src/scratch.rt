@@ -1,10 +1,11 @@
-ghost use Rattle.std.specs.Prelude.{◌≡◌, ◌+◌, ◌*◌, ◌≤◌, ◌<◌, ◌^◌, ◌++◌, List, ℕ, Some, None, IsSome, IfOk, OnOk, OnErr, length, drop, option_map, replicate, true};
+ghost use Rattle.std.specs.Prelude.{◌≡◌, ◌+◌, ◌*◌, ◌≤◌, ◌<◌, ◌^◌, ◌++◌, List, ℕ, Some, None, IsSome, IfOk, IfSome, OnOk, OnErr, length, drop, option_map, replicate, true, []};
 ghost use Rattle.std.specs.List.{splice};
 ghost use Rattle.tree_table.specs.Scratches.{ScratchMap, blocks_of, empty_scratch, file_at, name_at, content_at, find_file, free_number, read_at, with_content, has_room, created, removed, renamed, resized, overwritten, sized, written};
 ghost use Rattle.tree_table.specs.Trees.{IsShort};
 
 use crate::pieces::{
-    create_file, has_room, read_file, remove_file, rename_file, replace_bytes, resize_file,
+    clear_bytes, create_file, has_room, read_file, remove_file, rename_file, replace_bytes,
+    resize_file,
 };
 use crate::slot::{BLOCK, Slot};
 use crate::slots::{free_slots, place_free, place_named};
@@ -65,7 +66,8 @@ impl Scratch {
 
     /// The name of the file of a number; none exactly where it has no file.
     pub fn name(&self, number: u32) -> Option<&[u8]>
-        ensures { option_map (λ n. n.now) result ≡ name_at self.now number }
+        ensures value { option_map (λ n. n.now) result ≡ name_at self.now number }
+        ensures short { IfSome result (λ n. IsShort n.now) }
     {
         let number = number as usize;
         if number < self.slots.len() {
@@ -158,6 +160,14 @@ impl Scratch {
         Ok(())
     }
 
+    /// Cuts a file to nothing, which the quota always allows.
+    pub fn truncate(&mut self, number: u32)
+        requires { IsSome (file_at self.old number) }
+        ensures { self.new ≡ with_content self.old number [] }
+    {
+        resize_file(&mut self.slots, &mut self.bytes, number as usize, 0);
+    }
+
     /// Replaces the bytes of a file that is long enough.
     fn replace(&mut self, number: u32, at: usize, bytes: &[u8])
         requires live { IsSome (file_at self.old number) }
@@ -176,6 +186,7 @@ impl Scratch {
     pub fn write(&mut self, number: u32, at: u64, bytes: &[u8]) -> Result<(), InsufficientSpace>
         requires { IsSome (file_at self.old number) }
         ensures ok { OnOk result (written self.old number at bytes.now ≡ Some self.new) }
+        ensures few { OnOk result (at + length bytes.now < 2 ^ 64) }
         ensures full { OnErr result (written self.old number at bytes.now ≡ None) }
         ensures same { OnErr result (self.new ≡ self.old) }
     {
@@ -189,6 +200,40 @@ impl Scratch {
         }
         self.resize(number, len as usize);
         self.replace(number, at as usize, bytes);
+        Ok(())
+    }
+
+    /// Sets so many bytes of a file that is long enough to zero.
+    fn clear(&mut self, number: u32, at: usize, len: usize)
+        requires live { IsSome (file_at self.old number) }
+        requires long { at + len ≤ length (content_at self.old number) }
+        ensures { self.new ≡ with_content self.old number (splice (content_at self.old number) at (at + len) (replicate len 0)) }
+    {
+        clear_bytes(&self.slots, &mut self.bytes, number as usize, at, len);
+    }
+
+    /// Writes so many zeros from a place on into a file, as `write` does of bytes.
+    ///
+    /// # Errors
+    ///
+    /// `InsufficientSpace` exactly where the quota would be passed. All stays as it was.
+    pub fn write_zeroes(&mut self, number: u32, at: u64, len: u64) -> Result<(), InsufficientSpace>
+        requires { IsSome (file_at self.old number) }
+        ensures ok { OnOk result (written self.old number at (replicate len 0) ≡ Some self.new) }
+        ensures few { OnOk result (at + len < 2 ^ 64) }
+        ensures full { OnErr result (written self.old number at (replicate len 0) ≡ None) }
+        ensures same { OnErr result (self.new ≡ self.old) }
+    {
+        if len == 0 {
+            return Ok(());
+        }
+        let end = at.saturating_add(len);
+        let size = self.size(number).max(end);
+        if !self.has_room(number, size) {
+            return Err(InsufficientSpace);
+        }
+        self.resize(number, size as usize);
+        self.clear(number, at as usize, len as usize);
         Ok(())
     }
 

@@ -1,4 +1,4 @@
-ghost use Rattle.std.specs.Prelude.{◌≡◌, ◌≤◌, ◌<◌, ◌*◌, ◌^◌, None, Some, IfOk, is_none, length, option_map};
+ghost use Rattle.std.specs.Prelude.{◌≡◌, ◌≤◌, ◌<◌, ◌*◌, ◌^◌, None, Some, IfOk, IfSome, is_none, length, option_map};
 ghost use Rattle.tree_table.specs.Scratches.{blocks_of};
 ghost use Rattle.overlay_tree.specs.Pieces.{Entry, entry_blocks, is_named, len_of, with_len};
 
@@ -79,7 +79,8 @@ impl Slot {
 
     /// The name of the file.
     pub fn name(&self) -> Option<&[u8]>
-        ensures { option_map (λ n. n.now) result ≡ option_map (λ e. e.name) self.now }
+        ensures value { option_map (λ n. n.now) result ≡ option_map (λ e. e.name) self.now }
+        ensures short { IfSome result (λ n. length n.now ≤ 255) }
     {
         match self.file {
             Some(_) => Some(&self.name[..self.named]),

@@ -10,10 +10,10 @@ use Rattle.overlay_tree.proofs.ResizeLemmas.{resized_code}
 use Rattle.overlay_tree.proofs.MapLemmas.{live_in, live_number, numbered_in, room_fits, size_in, kept_other, name_in, name_past, written_none, written_some, blocks_gone, place_live, place_free, created_map, named_map, same_blocks, set_twice, without_none, without_same, without_differ, cleared_map}
 use Rattle.overlay_tree.proofs.scratch.Scratch.name.Goals as goal
 
-pub returns-then-number-len : goal.returns-then-number-len
-returns-then-number-len c =
+pub returns-then-number-len-clause-value : goal.returns-then-number-len-clause-value
+returns-then-number-len-clause-value c =
     let name : option_map (λ n. n.now) c.name.result ≡ option_map (λ e. e.name) (get_or c.self.inside.slots.items c.args.number None) = search (rules, common_steps) in
     name ∙ sym (name_in c.args.self.now c.self.inside.blocks c.self.inside.slots.items c.self.inside.bytes.items c.args.number c.self.view_is)
 
-pub returns-else-number-len : goal.returns-else-number-len
-returns-else-number-len c = name_past c.args.self.now c.self.inside.blocks c.self.inside.slots.items c.self.inside.bytes.items c.args.number c.self.view_is (grind (arith, common_steps))
+pub returns-else-number-len-clause-value : goal.returns-else-number-len-clause-value
+returns-else-number-len-clause-value c = name_past c.args.self.now c.self.inside.blocks c.self.inside.slots.items c.self.inside.bytes.items c.args.number c.self.view_is (grind (arith, common_steps))
