@@ -1,0 +1,8 @@
+mod PartLemmas
+pub mod FindLemmas
+pub mod NameLemmas
+mod TextLemmas
+mod EntryLemmas
+mod ReadLemmas
+mod OpenLemmas
+mod RowLemmas

@@ -1,0 +1,15 @@
+use Rattle.std.proofs.Common.{◌∙◌, ap}
+use Rattle.std.proofs.lemmas.Result.{IfOk-weaker}
+use Rattle.reference_step.specs.Codes as code
+use Rattle.reference_step.specs.State.{fails}
+use Rattle.ref_scratch.specs.Told.{settled}
+use Rattle.ref_scratch.proofs.RowLemmas.{told_same, other_numbers}
+use Rattle.ref_scratch.proofs.OpenLemmas.{missing_other}
+use Rattle.ref_scratch.proofs.opening.open_missing.Goals as goal
+
+pub returns-then-code-ne-NO_ENTRY : goal.returns-then-code-ne-NO_ENTRY
+returns-then-code-ne-NO_ENTRY c =
+    let m = c.args.folder.now in
+    IfOk-weaker c.fails.result _ _ (λ row says. λ f v.
+    told_same f row m (fails c.args.code) (says f)
+    ∙ ap (settled m) (missing_other c.args.flags c.args.rights (record v { scratch = m }) c.args.code c.args.text.now (other_numbers c.args.code code.no_entry c.if-code-ne-NO_ENTRY.true))) c.fails.ensures
