@@ -1,8 +1,9 @@
 -- The listed functions: no result but that of get-directories has handles in a list, and none borrows.
-use Rattle.std.proofs.Common.{◌≡◌, ℕ, zero, suc, ◌+◌, ◌==◌, ◌<◌, Bool, true, false, ◌&&◌, ◌||◌, List, [], ◌∷◌, length, Option, Some, None, refl, sym, ap, ◌∙◌, arith}
+use Rattle.std.proofs.Common.{◌≡◌, ℕ, zero, suc, ◌+◌, ◌==◌, ◌<◌, ◌≤◌, nat_lt, Bool, true, false, ◌&&◌, ◌||◌, List, [], ◌∷◌, length, Option, Some, None, refl, sym, ap, ◌∙◌, arith}
 use Rattle.std.specs.List.{list_all, find}
 use Rattle.std.specs.Str.{bytes_eq}
-use Rattle.wit_types.specs.Plain.{Name}
+use Rattle.std.proofs.lemmas.Bool.Decides.{nat_tests}
+use Rattle.wit_types.specs.Plain.{Name, Plain}
 use Rattle.wasi_table.specs.Plain.{PlainNamedFunc}
 use Rattle.wasi_table.specs.Forms.{form_named}
 use Rattle.wasi_table.specs.Types.{kind_of}
@@ -14,14 +15,21 @@ use Rattle.wasi_net.specs.declared.table.TheConstants.{TABLE as TABLE_NET}
 use Rattle.wasi_io.specs.Listed.{numbered as numbered_io, described as described_io, known_types}
 use Rattle.wasi_fs.specs.Listed.{numbered as numbered_fs, described as described_fs}
 use Rattle.wasi_net.specs.Listed.{numbered as numbered_net, described as described_net}
-use Rattle.reference_step.specs.Listed.{Listed, or_else, interface_numbered, interface_at, in_version, listed_in, function_in, cut}
-use Rattle.ref_room.specs.Entering.{EnteringHasRoom}
+use Rattle.reference_step.specs.Listed.{Listed, or_else, interface_named, interface_numbered, interface_at, in_version, listed_in, function_in, cut}
+use Rattle.reference_step.specs.Atoms.{result_atoms, handles}
+use Rattle.reference_step.specs.Rules.{same_kind}
+use Rattle.ref_room.specs.Entering.{count_kind, are_kinds, EnteringHasRoom, EnteringHasKinds}
 use Rattle.ref_room.proofs.Bounds.{is_flat_result, few_result}
+use Rattle.ref_room.proofs.KindBounds.{has_kinds_result, no_kind_result}
 
 -- ---- each interface
 
+-- what is asked of a result
+abbrev is_due : Option Plain → Bool
+is_due ty = is_flat_result ty && has_kinds_result ty
+
 abbrev are_flat : List PlainNamedFunc → Bool
-are_flat fs = list_all (λ f. is_flat_result f.ty.answer) fs
+are_flat fs = list_all (λ f. is_due f.ty.answer) fs
 
 abbrev flat_from : ℕ → ℕ → Bool
 flat_from zero i = true
@@ -101,38 +109,64 @@ interface_below name n e = or_below (numbered_io name) (numbered_fs name) (numbe
 
 -- ---- a listed function
 
-flat_found : (p : PlainNamedFunc → Bool) (fs : List PlainNamedFunc) (f : PlainNamedFunc) → find p fs ≡ Some f → are_flat fs ≡ true → is_flat_result f.ty.answer ≡ true
+flat_found : (p : PlainNamedFunc → Bool) (fs : List PlainNamedFunc) (f : PlainNamedFunc) → find p fs ≡ Some f → are_flat fs ≡ true → is_due f.ty.answer ≡ true
 flat_found p [] f e all = cc
-flat_found p (g ∷ fs) f e all = by (p g) refl (λ found. flat_found p fs f found (second_true (is_flat_result g.ty.answer) (are_flat fs) all))
+flat_found p (g ∷ fs) f e all = by (p g) refl (λ found. flat_found p fs f found (second_true (is_due g.ty.answer) (are_flat fs) all))
   where
-    by : (b : Bool) → p g ≡ b → (find p fs ≡ Some f → is_flat_result f.ty.answer ≡ true) → is_flat_result f.ty.answer ≡ true
+    by : (b : Bool) → p g ≡ b → (find p fs ≡ Some f → is_due f.ty.answer ≡ true) → is_due f.ty.answer ≡ true
     by true is later =
         let found : Some g ≡ Some f = rw is at e in
         let same : g ≡ f = cc in
-        ap (λ (x : PlainNamedFunc). is_flat_result x.ty.answer) (sym same) ∙ first_true (is_flat_result g.ty.answer) (are_flat fs) all
+        ap (λ (x : PlainNamedFunc). is_due x.ty.answer) (sym same) ∙ first_true (is_due g.ty.answer) (are_flat fs) all
     by false is later = let found : find p fs ≡ Some f = rw is at e in later found
 
 abbrev listed : ℕ → PlainNamedFunc → Listed
 listed i g = record { interface = i; function = g }
 
-flat_listed : (i : ℕ) (o : Option PlainNamedFunc) (p : PlainNamedFunc → Bool) (f : Listed) → i < 27 → find p (interface_at i).functions ≡ o → listed_in i o ≡ Some f → (f.interface == 19) ≡ false → is_flat_result f.function.ty.answer ≡ true
+flat_listed : (i : ℕ) (o : Option PlainNamedFunc) (p : PlainNamedFunc → Bool) (f : Listed) → i < 27 → find p (interface_at i).functions ≡ o → listed_in i o ≡ Some f → (f.interface == 19) ≡ false → is_due f.function.ty.answer ≡ true
 flat_listed i None p f less found e other = cc
 flat_listed i (Some g) p f less found e other =
     let same : listed i g ≡ f = cc in
     let not_folders : (i == 19) ≡ false = ap (λ (x : Listed). x.interface == 19) same ∙ other in
     let all : are_flat (interface_at i).functions ≡ true = or_second (i == 19) (are_flat (interface_at i).functions) (flat_below i less) not_folders in
-    ap (λ (x : Listed). is_flat_result x.function.ty.answer) (sym same) ∙ flat_found p (interface_at i).functions g found all
+    ap (λ (x : Listed). is_due x.function.ty.answer) (sym same) ∙ flat_found p (interface_at i).functions g found all
 
-flat_function : (version : ℕ → Name) (text name : Name) (o : Option ℕ) (f : Listed) → interface_numbered (cut text).0 ≡ o → function_in name (in_version version (cut text).1 o) ≡ Some f → (f.interface == 19) ≡ false → is_flat_result f.function.ty.answer ≡ true
+flat_function : (version : ℕ → Name) (text name : Name) (o : Option ℕ) (f : Listed) → interface_numbered (cut text).0 ≡ o → function_in name (in_version version (cut text).1 o) ≡ Some f → (f.interface == 19) ≡ false → is_due f.function.ty.answer ≡ true
 flat_function version text name None f is e other = cc
 flat_function version text name (Some i) f is e other = by (bytes_eq (version i) (cut text).1) refl
   where
-    by : (b : Bool) → bytes_eq (version i) (cut text).1 ≡ b → is_flat_result f.function.ty.answer ≡ true
+    by : (b : Bool) → bytes_eq (version i) (cut text).1 ≡ b → is_due f.function.ty.answer ≡ true
     by true v =
         let found : listed_in i (find (λ g. bytes_eq g.name name) (interface_at i).functions) ≡ Some f = rw v at e in
         flat_listed i (find (λ g. bytes_eq g.name name) (interface_at i).functions) (λ g. bytes_eq g.name name) f (interface_below (cut text).0 i is) refl found other
     by false v = let none : function_in name None ≡ Some f = rw v at e in cc
 
+due_of : (version : ℕ → Name) (interface name : Name) (f : Listed) → function_in name (interface_named version interface) ≡ Some f → (f.interface == 19) ≡ false → is_due f.function.ty.answer ≡ true
+due_of version interface name f e other = flat_function version interface name (interface_numbered (cut interface).0) f refl e other
+
 pub entering_has_room : EnteringHasRoom
 entering_has_room version interface name f e other v kind =
-    few_result kind f.function.ty.answer v (flat_function version interface name (interface_numbered (cut interface).0) f refl e other)
+    few_result kind f.function.ty.answer v (first_true (is_flat_result f.function.ty.answer) (has_kinds_result f.function.ty.answer) (due_of version interface name f e other))
+
+-- ---- kinds
+
+itself : (kind : ℕ) → same_kind kind kind ≡ 1
+itself kind = grind (arith, nat_tests)
+
+one_listed : (b : Bool) (g : ℕ × ℕ) (gs : List (ℕ × ℕ)) → nat_lt g.0 14 ≡ b → ((kind : ℕ) → 14 ≤ kind → count_kind kind (g ∷ gs) ≡ 0) → are_kinds gs ≡ true → are_kinds (g ∷ gs) ≡ true
+one_listed true g gs is none rest = rw (is, rest) refl
+one_listed false g gs is none rest =
+    let more : 14 ≤ g.0 = grind (arith, nat_tests) in
+    absurd (omega (arith, none g.0 more, itself g.0))
+
+all_listed : (gs : List (ℕ × ℕ)) → ((kind : ℕ) → 14 ≤ kind → count_kind kind gs ≡ 0) → are_kinds gs ≡ true
+all_listed [] none = refl
+all_listed (g ∷ gs) none = one_listed (nat_lt g.0 14) g gs refl none (all_listed gs (λ kind more. omega (arith, none kind more)))
+
+pub entering_has_kinds : EnteringHasKinds
+entering_has_kinds version interface name f e other v =
+    let due = due_of version interface name f e other in
+    all_listed (handles (result_atoms f.function.ty.answer v)) (λ kind more.
+        let few = entering_has_room version interface name f e other v kind in
+        let none = no_kind_result kind more f.function.ty.answer (second_true (is_flat_result f.function.ty.answer) (has_kinds_result f.function.ty.answer) due) in
+        omega (arith, few, none))

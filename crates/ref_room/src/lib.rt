@@ -1,11 +1,12 @@
 //! The law that handles which enter by an answer have room: the test of room asks the result's type for at least as many places
-//! of each kind as any of its values has handles, and no listed result but that of `get-directories` has handles in a list.
+//! of each kind as any of its values has handles, and no listed result but that of `get-directories` has handles in a list. And each is
+//! of a listed kind.
 #![tactic(auto)]
 
-ghost use Rattle.ref_room.specs.Entering.{EnteringHasRoom};
+ghost use Rattle.ref_room.specs.Entering.{EnteringHasKinds, EnteringHasRoom};
 
-/// Handles that enter have room. It does nothing when it runs.
-#[tactic(auto, using(crate::proofs::ListedLaw::entering_has_room))]
+/// Handles that enter have room, and are of listed kinds. It does nothing when it runs.
 pub fn results_have_room()
-    ensures { EnteringHasRoom }
+    ensures room { EnteringHasRoom }
+    ensures kinds { EnteringHasKinds }
 {}
