@@ -1,0 +1,2 @@
+pub mod EnterLemmas
+pub mod SeenEntering
