@@ -1,0 +1,17 @@
+use Rattle.std.proofs.Common.{refl, sym, ◌∙◌}
+use Rattle.std.proofs.lemmas.Result.{IfOk-weaker}
+use Rattle.ref_answers.specs.Seen.{content_in}
+use Rattle.ref_live.specs.declared.content.Content.TheVariants.{Entries}
+use Rattle.ref_methods.proofs.OtherLemmas.{next_is, other_next}
+use Rattle.ref_methods.proofs.others.listing_row.Goals as goal
+
+pub returns-then-is_next : goal.returns-then-is_next
+returns-then-is_next c =
+    let at = content_in c.args.table.now (Entries c.args.node c.args.place) in
+    IfOk-weaker c.read_entry_row.result _ _ (λ row says. λ v a h t. says v h ∙ next_is v a c.args.method at (sym c.is_next.ensures ∙ c.if-is_next.true)) c.read_entry_row.ensures
+
+pub returns-else-is_next : goal.returns-else-is_next
+returns-else-is_next c =
+    let f = c.args.table.now in
+    let at = content_in f (Entries c.args.node c.args.place) in
+    IfOk-weaker c.other_row.result _ _ (λ row says. λ v a h t. says f v at a t (other_next c.args.method at (sym c.is_next.ensures ∙ c.if-is_next.false) refl)) c.other_row.ensures

@@ -1,0 +1,16 @@
+use Rattle.std.proofs.Common.{ap, ◌∙◌}
+use Rattle.std.proofs.lemmas.Result.{IfOk-weaker}
+use Rattle.reference_step.specs.InputStreams as input
+use Rattle.ref_answers.specs.Seen.{content_in}
+use Rattle.ref_live.specs.declared.content.Content.TheVariants.{FileAt}
+use Rattle.ref_methods.proofs.streaming.file_input_row.Goals as goal
+
+pub returns-in-Read : goal.returns-in-Read
+returns-in-Read c =
+    let at = content_in c.args.table.now (FileAt c.args.node c.args.place) in
+    rw c.in-Read.is (IfOk-weaker c.read_stream_row.result _ _ (λ row says. λ v h. says v h ∙ ap (input.read v at) c.number_at.ensures) c.read_stream_row.ensures)
+
+pub returns-in-Skip : goal.returns-in-Skip
+returns-in-Skip c =
+    let at = content_in c.args.table.now (FileAt c.args.node c.args.place) in
+    rw c.in-Skip.is (IfOk-weaker c.skip_stream_row.result _ _ (λ row says. λ v h. says v h ∙ ap (input.skip v at) c.number_at-in-Skip.ensures) c.skip_stream_row.ensures)

@@ -1,0 +1,5 @@
+pub mod Methods
+pub mod Others
+pub mod Held
+pub mod Interfaces
+pub mod Named
