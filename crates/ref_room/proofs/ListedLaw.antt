@@ -167,6 +167,6 @@ pub entering_has_kinds : EnteringHasKinds
 entering_has_kinds version interface name f e other v =
     let due = due_of version interface name f e other in
     all_listed (handles (result_atoms f.function.ty.answer v)) (λ kind more.
-        let few = entering_has_room version interface name f e other v kind in
-        let none = no_kind_result kind more f.function.ty.answer (second_true (is_flat_result f.function.ty.answer) (has_kinds_result f.function.ty.answer) due) in
-        omega (arith, few, none))
+    let few = entering_has_room version interface name f e other v kind in
+    let none = no_kind_result kind more f.function.ty.answer (second_true (is_flat_result f.function.ty.answer) (has_kinds_result f.function.ty.answer) due) in
+    omega (arith, few, none))
