@@ -281,7 +281,7 @@ fn refusals_come_in_their_order(rt: HostRuntime) -> Result<(), Fail> {
     let pack = ["pack"];
     let twice = ["virt", "a", "-p", "p", "-p", "p", "-o", "o"];
     let one_word_more = ["virt", "a", "b", "-p", "p", "-o", "o"];
-    let run = ["run", "a", "-s", "p"];
+    let run = ["run", "a", "-s", "p", "-p", "p"];
     let make = ["gen", "3", "o"];
     let no_policy = ["virt", "a", "-p", "q", "-o", "o"];
     let no_app = ["virt", "b", "-p", "p", "-o", "o"];

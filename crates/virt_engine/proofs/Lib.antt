@@ -5,3 +5,5 @@ pub mod PolicyLaws
 pub mod AppFetching
 pub mod Planning
 pub mod Runs
+pub mod TaskLaws
+pub mod RunLaws

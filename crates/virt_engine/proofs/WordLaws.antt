@@ -1,28 +1,38 @@
--- What words say of `virt`, which alone works.
-use Rattle.std.proofs.Common.{◌≡◌, ℕ, List, Err, ap}
-use Rattle.std.specs.Prelude.{Some, None}
+-- What words say of `virt` and of `run`, which alone work.
+use Rattle.std.proofs.Common.{◌≡◌, ℕ, List, Ok, Err, sym, ap, subst}
+use Rattle.std.specs.Prelude.{Option, Some, None, Result}
 use Rattle.virt_words.specs.Words.{Reads as Says, command_of as said_by}
+use Rattle.virt_words.specs.declared.command.Command.{Command as Said}
 use Rattle.virt_words.specs.declared.command.Command.TheVariants.{Virt, Run, Gen}
 use Rattle.virt_words.specs.declared.command.VirtWords.{VirtWords}
 use Rattle.virt_words.specs.declared.command.RunWords.{RunWords}
 use Rattle.virt_words.specs.declared.command.GenWords.{GenWords}
 use Rattle.virt_words.specs.declared.command.WordsFault.{WordsFault}
 use Rattle.virt_words.specs.declared.command.WordsFault.TheVariants.{Usage, NoMemory}
-use Rattle.virt_engine.specs.Command.{Reads, named_by, virt_alone, command_of}
+use Rattle.virt_engine.specs.declared.command.Task.{Task}
+use Rattle.virt_engine.specs.declared.command.Task.TheVariants as tasks
+use Rattle.virt_engine.specs.Command.{Command, RunCommand, virt_alone, run_alone, without_policy, command_of, run_of, IsTask, ReadsTask, GivesRun}
 
-pub of_virt : (words : List (List ℕ)) (w : VirtWords) → said_by words ≡ Some (Virt w) → command_of words ≡ Some (named_by w)
+virt_is : (words : List (List ℕ)) (said : Option Said) → said_by words ≡ said → command_of words ≡ virt_alone said
 unfolding command_of
-of_virt words w e = ap virt_alone e
+virt_is words said e = ap virt_alone e
 
-pub of_run : (words : List (List ℕ)) (w : RunWords) → said_by words ≡ Some (Run w) → command_of words ≡ None
-unfolding command_of
-of_run words w e = ap virt_alone e
+run_is : (words : List (List ℕ)) (said : Option Said) → said_by words ≡ said → run_of words ≡ run_alone said
+unfolding run_of
+run_is words said e = ap run_alone e
 
-pub of_gen : (words : List (List ℕ)) (w : GenWords) → said_by words ≡ Some (Gen w) → command_of words ≡ None
-unfolding command_of
-of_gen words w e = ap virt_alone e
+pub of_virt : (words : List (List ℕ)) (w : VirtWords) → said_by words ≡ Some (Virt w) → ReadsTask words (Ok (tasks.Virt w))
+of_virt words w e = (virt_is words (Some (Virt w)) e, run_is words (Some (Virt w)) e)
 
-pub of_fault : (words : List (List ℕ)) (fault : WordsFault) → Says (said_by words) (Err fault) → Reads (command_of words) (Err fault)
-unfolding command_of
-of_fault words Usage e = ap virt_alone e
+by_both : (virt virt' : Option Command) (run run' : Option RunCommand) (r : Result Task WordsFault) → virt ≡ virt' → run ≡ run' → IsTask virt' run' r → IsTask virt run r
+by_both virt virt' run run' r e f h = subst (λ v. IsTask v run r) (sym e) (subst (λ u. IsTask virt' u r) (sym f) h)
+
+pub of_run : (words : List (List ℕ)) (w : RunWords) (r : Result Task WordsFault) → said_by words ≡ Some (Run w) → GivesRun w r → ReadsTask words r
+of_run words w r e h = by_both (command_of words) None (run_of words) (without_policy w w.policy) r (virt_is words (Some (Run w)) e) (run_is words (Some (Run w)) e) h
+
+pub of_gen : (words : List (List ℕ)) (w : GenWords) → said_by words ≡ Some (Gen w) → ReadsTask words (Err Usage)
+of_gen words w e = (virt_is words (Some (Gen w)) e, run_is words (Some (Gen w)) e)
+
+pub of_fault : (words : List (List ℕ)) (fault : WordsFault) → Says (said_by words) (Err fault) → ReadsTask words (Err fault)
+of_fault words Usage e = (virt_is words None e, run_is words None e)
 of_fault words NoMemory e = tt

@@ -4,9 +4,13 @@ use Rattle.virt_words.specs.Words.{command_of as said_by}
 use Rattle.virt_words.specs.declared.command.Command.{Command as Said}
 use Rattle.virt_words.specs.declared.command.Command.TheVariants.{Virt, Run, Gen}
 use Rattle.virt_words.specs.declared.command.VirtWords.{VirtWords}
+use Rattle.virt_words.specs.declared.command.RunWords.{RunWords}
 use Rattle.virt_words.specs.declared.command.WordsFault.{WordsFault}
 use Rattle.virt_words.specs.declared.command.WordsFault.TheVariants.{Usage, NoMemory}
 use Rattle.virt_engine.specs.declared.command.Names.{Names}
+use Rattle.virt_engine.specs.declared.command.RunTask.{RunTask}
+use Rattle.virt_engine.specs.declared.command.Task.{Task}
+use Rattle.virt_engine.specs.declared.command.Task.TheVariants as tasks
 
 -- what a command names
 pub record Command : Type 0 where
@@ -17,7 +21,7 @@ pub record Command : Type 0 where
 abbrev pub named_by : VirtWords → Command
 named_by w = record { app = w.app; policy = w.policy; out = w.out }
 
--- of what words may say, `virt` alone works for now
+-- what words say of `virt`
 abbrev pub virt_alone : Option Said → Option Command
 virt_alone (Some (Virt w)) = Some (named_by w)
 virt_alone (Some (Run w)) = None
@@ -27,11 +31,42 @@ virt_alone None = None
 unfoldable pub command_of : List (List ℕ) → Option Command
 command_of words = virt_alone (said_by words)
 
--- the command that is due, unless memory ran out
-abbrev pub Reads : Option Command → Result VirtWords WordsFault → Type 0
-Reads due (Ok w) = due ≡ Some (named_by w)
-Reads due (Err Usage) = due ≡ None
-Reads due (Err NoMemory) = Unit {0}
+-- what a run is told: the names of its files, and its steps
+pub record RunCommand : Type 0 where
+  pub component : List ℕ
+  pub script : List ℕ
+  pub steps : ℕ
+
+-- for now a run has no policy
+abbrev pub without_policy : RunWords → Option (List ℕ) → Option RunCommand
+without_policy w None = Some (record { component = w.component; script = w.script; steps = w.steps })
+without_policy w (Some policy) = None
+
+abbrev pub run_alone : Option Said → Option RunCommand
+run_alone (Some (Virt w)) = None
+run_alone (Some (Run w)) = without_policy w w.policy
+run_alone (Some (Gen w)) = None
+run_alone None = None
+
+unfoldable pub run_of : List (List ℕ) → Option RunCommand
+run_of words = run_alone (said_by words)
+
+abbrev pub told_by : RunTask → RunCommand
+told_by t = record { component = t.component; script = t.script; steps = t.steps }
+
+-- the task that is due, unless memory ran out
+abbrev pub IsTask : Option Command → Option RunCommand → Result Task WordsFault → Type 0
+IsTask virt run (Ok (tasks.Virt w)) = (virt ≡ Some (named_by w)) × (run ≡ None)
+IsTask virt run (Ok (tasks.Run t)) = (virt ≡ None) × (run ≡ Some (told_by t))
+IsTask virt run (Err Usage) = (virt ≡ None) × (run ≡ None)
+IsTask virt run (Err NoMemory) = Unit {0}
+
+abbrev pub ReadsTask : List (List ℕ) → Result Task WordsFault → Type 0
+ReadsTask words r = IsTask (command_of words) (run_of words) r
+
+-- for a private clause
+abbrev pub GivesRun : RunWords → Result Task WordsFault → Type 0
+GivesRun w r = IsTask None (without_policy w w.policy) r
 
 abbrev pub names_of : Names → Command
 names_of n = record { app = n.app.now; policy = n.policy.now; out = n.out.now }

@@ -8,4 +8,5 @@ pub mod Plan
 pub mod Policies
 pub mod PolicyTrees
 pub mod Report
+pub mod Runs
 pub mod Writing

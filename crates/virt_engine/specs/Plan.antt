@@ -1,6 +1,6 @@
 -- What a call of `virt` comes to.
-use Rattle.std.specs.Prelude.{ℕ, ◌≤◌, ◌<◌, ◌≡◌, ◌++◌, ◌⊎◌, List, [], true, false, Option, Some, None, Contains, length, codes}
-use Rattle.std.specs.Prelude.{Result, Ok, Err, IfErr, IfOk, string_bytes}
+use Rattle.std.specs.Prelude.{ℕ, ◌≤◌, ◌≡◌, ◌++◌, ◌⊎◌, List, [], true, false, Option, Some, None, Contains, length}
+use Rattle.std.specs.Prelude.{Result, Ok, IfErr, IfOk, string_bytes}
 use Rattle.outside.specs.Fault.{Rose}
 use Rattle.outside.specs.Files.{FilesState, Held, Goes, with_file, no_place}
 use Rattle.outside.specs.Sink.{SinkState}
@@ -20,7 +20,7 @@ use Rattle.virt_engine.specs.Line.{done_text, status_text}
 use Rattle.virt_engine.specs.Output.{IsOutputOf, output_bytes}
 use Rattle.virt_engine.specs.Fetching.{IsFileFault}
 use Rattle.virt_engine.specs.Policies.{policy_limit, IsPolicyVerdict, HasPolicy, IsPolicyOver}
-use Rattle.virt_engine.specs.Apps.{app_limit, IsAppVerdict, IsAppFile, HasApp, HasRefused, IsAppOver}
+use Rattle.virt_engine.specs.Apps.{IsAppVerdict, IsAppFile, HasApp, HasRefused, IsAppOver}
 use Rattle.virt_engine.specs.PolicyTrees.{trees_verdict, HasTrees}
 use Rattle.virt_engine.specs.Report.{Puts, Reports}
 use Rattle.virt_engine.specs.Writing.{LeftOf}

@@ -1,8 +1,8 @@
-ghost use Rattle.virt_engine.specs.Command.{Reads, command_of};
+ghost use Rattle.virt_engine.specs.Command.{GivesRun, ReadsTask};
 
 use std::alloc::Global;
 use virt_base::Text;
-use virt_words::{Command, VirtWords, WordsFault, read_words};
+use virt_words::{Command, RunWords, VirtWords, WordsFault, read_words};
 
 /// The names that a call of `virt` works on.
 #[derive(Clone, Copy)]
@@ -12,14 +12,48 @@ pub struct Names<'a> {
     pub out: &'a Text,
 }
 
-/// What `virt` is to work on. For now the other commands are refused as words that give none.
-pub fn virt_in(alloc: Global, words: &[Text]) -> Result<VirtWords, WordsFault>
-    ensures { Reads (command_of words.now) result }
+/// What a run works on, and how many steps it may take.
+#[derive(Drop)]
+pub struct RunTask {
+    pub component: Text,
+    pub script: Text,
+    pub steps: u64,
+}
+
+/// What a call is to do.
+#[derive(Drop)]
+pub enum Task {
+    Virt(VirtWords),
+    Run(RunTask),
+}
+
+/// What the words ask for. For now a run with a policy, and `gen`, are refused as words that give no command.
+pub fn task_in(alloc: Global, words: &[Text]) -> Result<Task, WordsFault>
+    ensures { ReadsTask words.now result }
 {
     match read_words(alloc, words) {
-        Ok(Command::Virt(names)) => Ok(names),
-        Ok(Command::Run(_)) => Err(WordsFault::Usage),
+        Ok(Command::Virt(names)) => Ok(Task::Virt(names)),
+        Ok(Command::Run(words)) => run_in(words),
         Ok(Command::Gen(_)) => Err(WordsFault::Usage),
         Err(fault) => Err(fault),
+    }
+}
+
+fn run_in(words: RunWords) -> Result<Task, WordsFault>
+    ensures { GivesRun words result }
+{
+    let RunWords {
+        component,
+        script,
+        policy,
+        steps,
+    } = words;
+    match policy {
+        Some(_) => Err(WordsFault::Usage),
+        None => Ok(Task::Run(RunTask {
+            component,
+            script,
+            steps,
+        })),
     }
 }

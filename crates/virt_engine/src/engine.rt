@@ -1,10 +1,13 @@
 ghost use Rattle.std.specs.Prelude.{◌≡◌, true};
-ghost use Rattle.virt_engine.specs.Command.{names_of};
+ghost use Rattle.std.specs.Prelude.{None, Some};
+ghost use Rattle.virt_engine.specs.Command.{RunCommand, names_of, run_of};
 ghost use Rattle.virt_engine.specs.Plan.{Ran, RanCommand, Finishes, Completes, Accepts, Delivers};
+ghost use Rattle.virt_engine.specs.Runs.{RunCompletes, RunsBy};
 
-use crate::command::{Names, virt_in};
+use crate::command::{Names, Task, task_in};
 use crate::plan::{Ready, plan};
 use crate::report::{put_text, refuse};
+use crate::running::run_task;
 use crate::status::Status;
 use crate::write_out::write_out;
 use outside::{Files, Sink};
@@ -36,7 +39,12 @@ fn finish<F: Files, S: Sink>(ready: Ready, name: &Text, files: &mut F, out: &mut
     }
 }
 
-fn run<F: Files, S: Sink>(alloc: Global, names: Names<'_>, files: &mut F, out: &mut S) -> Status
+fn virtualise<F: Files, S: Sink>(
+    alloc: Global,
+    names: Names<'_>,
+    files: &mut F,
+    out: &mut S,
+) -> Status
     ensures { RanCommand (names_of names.entry) (F.state files.old) (F.state files.new) (S.state out.old) (S.state out.new) result }
 {
     match plan(alloc, names, files) {
@@ -45,34 +53,44 @@ fn run<F: Files, S: Sink>(alloc: Global, names: Names<'_>, files: &mut F, out: &
     }
 }
 
-fn run_words<F: Files, S: Sink>(alloc: Global, words: &[Text], files: &mut F, out: &mut S) -> Status
-    ensures { Ran words.now (F.state files.old) (F.state files.new) (S.state out.old) (S.state out.new) result }
+fn do_words<F: Files, S: Sink>(alloc: Global, words: &[Text], files: &mut F, out: &mut S) -> Status
+    ensures virt { run_of words.now ≡ None → Ran words.now (F.state files.old) (F.state files.new) (S.state out.old) (S.state out.new) result }
+    ensures run { (c : RunCommand) → run_of words.now ≡ Some c → RunsBy c (F.state files.old) (F.state files.new) (S.state out.old) (S.state out.new) result }
 {
-    match virt_in(alloc, words) {
+    match task_in(alloc, words) {
         Ok(
-            VirtWords {
-                app,
-                policy,
-                out: name,
-            },
+            Task::Virt(
+                VirtWords {
+                    app,
+                    policy,
+                    out: name,
+                },
+            ),
         ) => {
             let names = Names {
                 app: &app,
                 policy: &policy,
                 out: &name,
             };
-            run(alloc, names, files, out)
+            virtualise(alloc, names, files, out)
         }
+        Ok(Task::Run(task)) => run_task(alloc, &task, files, out),
         Err(WordsFault::Usage) => refuse(alloc, Status::Usage, out),
         Err(WordsFault::NoMemory) => Status::NoMemory,
     }
 }
 
-/// Does what the words behind the program's name say: `virt APP -p POLICY -o OUT`, the options in any order and form,
-/// writes to OUT the component APP in its adapter, and puts one line that says what came of it. POLICY is read whole, and
-/// its trees are made of what it writes out and of the files and folders that it names. APP is any valid component that
-/// imports nothing and exports neither a resource type nor a handle; one that imports something is unlisted for now, and
-/// other commands are usage errors.
+/// Does what the words behind the program's name say, the options in any order and form.
+///
+/// `virt APP -p POLICY -o OUT` writes to OUT the component APP in its adapter, and puts one line that says what came of it. POLICY is
+/// read whole, and its trees are made of what it writes out and of the files and folders that it names. APP is any valid component that
+/// imports nothing and exports neither a resource type nor a handle; one that imports something is unlisted for now.
+///
+/// `run COMPONENT -s SCRIPT [--steps N]` runs a component over a script, and puts a line for each call of the host, each dropped handle
+/// and each result; the status says how it ended. COMPONENT is any valid component whose imports are instances of functions and types
+/// and that exports neither a resource type nor a handle. Nothing is put before the run has ended.
+///
+/// Other commands are usage errors.
 pub fn wasi_virt<F: Files, S: Sink>(
     alloc: Global,
     words: &[Text],
@@ -80,12 +98,16 @@ pub fn wasi_virt<F: Files, S: Sink>(
     out: &mut S,
 ) -> Status
     // why the status was due, what was put for it, and what has become of the files
-    ensures ran { Ran words.now (F.state files.old) (F.state files.new) (S.state out.old) (S.state out.new) result }
+    ensures ran { run_of words.now ≡ None → Ran words.now (F.state files.old) (F.state files.new) (S.state out.old) (S.state out.new) result }
 
     // the status is one that the contents call for, where nothing failed
-    ensures complete { Completes words.now (F.state files.old) (F.state files.new) (S.state out.old) (S.state out.new) result }
-    ensures accepts { Accepts words.now (F.state files.old) (F.state files.new) (S.state out.old) (S.state out.new) result }
-    ensures delivers { (F.state files.old).told ≡ true → result ≡ Status.Done → Delivers words.now (F.state files.old) (F.state files.new) }
+    ensures complete { run_of words.now ≡ None → Completes words.now (F.state files.old) (F.state files.new) (S.state out.old) (S.state out.new) result }
+    ensures accepts { run_of words.now ≡ None → Accepts words.now (F.state files.old) (F.state files.new) (S.state out.old) (S.state out.new) result }
+    ensures delivers { run_of words.now ≡ None → (F.state files.old).told ≡ true → result ≡ Status.Done → Delivers words.now (F.state files.old) (F.state files.new) }
+
+    // of a run
+    ensures runs { (c : RunCommand) → run_of words.now ≡ Some c → RunsBy c (F.state files.old) (F.state files.new) (S.state out.old) (S.state out.new) result }
+    ensures run_completes { (c : RunCommand) → run_of words.now ≡ Some c → RunCompletes c (F.state files.old) (F.state files.new) (S.state out.old) (S.state out.new) result }
 {
-    run_words(alloc, words, files, out)
+    do_words(alloc, words, files, out)
 }

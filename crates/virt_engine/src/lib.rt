@@ -9,6 +9,7 @@ mod line;
 mod plan;
 mod policy;
 mod report;
+mod running;
 mod status;
 mod trees;
 mod write_out;

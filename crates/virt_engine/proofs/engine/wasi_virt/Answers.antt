@@ -1,11 +1,15 @@
 use Rattle.virt_engine.proofs.Runs.{completes, accepts, delivers}
+use Rattle.virt_engine.proofs.RunLaws.{run_completes}
 use Rattle.virt_engine.proofs.engine.wasi_virt.Goals as goal
 
 pub returns-clause-complete : goal.returns-clause-complete
-returns-clause-complete g c = completes _ _ _ _ _ _ c.run_words.ensures
+returns-clause-complete g c = λ none. completes _ _ _ _ _ _ (c.do_words.ensures.virt none)
 
 pub returns-clause-accepts : goal.returns-clause-accepts
-returns-clause-accepts g c = accepts _ _ _ _ _ _ c.run_words.ensures
+returns-clause-accepts g c = λ none. accepts _ _ _ _ _ _ (c.do_words.ensures.virt none)
 
 pub returns-clause-delivers : goal.returns-clause-delivers
-returns-clause-delivers g c = delivers _ _ _ _ _ _ c.run_words.ensures
+returns-clause-delivers g c = λ none. delivers _ _ _ _ _ _ (c.do_words.ensures.virt none)
+
+pub returns-clause-run_completes : goal.returns-clause-run_completes
+returns-clause-run_completes g c = λ command run. run_completes _ _ _ _ _ _ (c.do_words.ensures.run command run)

@@ -1,5 +1,5 @@
 use Rattle.virt_engine.proofs.Runs.{ran_refuse, ran_finish}
-use Rattle.virt_engine.proofs.engine.run.Goals as goal
+use Rattle.virt_engine.proofs.engine.virtualise.Goals as goal
 
 pub returns-in-Ok : goal.returns-in-Ok
 returns-in-Ok g c = ran_finish _ _ _ _ _ _ _ _ c.in-Ok.ensures c.finish.ensures

@@ -1,0 +1,104 @@
+-- A call of `run`, by what its parts did.
+use Rattle.std.proofs.Common.{◌≡◌, ◌∙◌, refl, sym, subst, ℕ, List, true, false, inl, inr, arith, Ok, Err}
+use Rattle.std.specs.Prelude.{All, Vec}
+use Rattle.std.specs.declared.alloc.Global.{Global}
+use Rattle.outside.specs.Files.{FilesState}
+use Rattle.outside.specs.Sink.{SinkState}
+use Rattle.outside.specs.declared.sink.PutFailed.{PutFailed}
+use Rattle.run_judge.specs.declared.ends.RunEnd.{RunEnd}
+use Rattle.run_judge.specs.declared.ends.RunEnd.TheVariants as ends
+use Rattle.run_judge.specs.declared.refusal.RunRefusal.TheVariants as refusals
+use Rattle.run_inputs.specs.declared.unready.Unready.{Unready}
+use Rattle.run_inputs.specs.declared.unready.Unready.TheVariants as unready
+use Rattle.run_inputs.specs.declared.inputs.Inputs.{Inputs}
+use Rattle.run_inputs.specs.Inputs.{FetchesInputs}
+use Rattle.sink_lines.specs.Lines.{text_of, PutsAll}
+use Rattle.virt_run.specs.declared.running.Shown.{Shown}
+use Rattle.virt_run.specs.Lines.{IsLine}
+use Rattle.virt_engine.specs.declared.status.Status.{Status}
+use Rattle.virt_engine.specs.declared.status.Status.TheVariants.{SinkFault, NoMemory}
+use Rattle.virt_engine.specs.Command.{RunCommand}
+use Rattle.virt_engine.specs.Line.{status_text}
+use Rattle.virt_engine.specs.Report.{Reports}
+use Rattle.virt_engine.specs.Runs.{refused_for, ended_as, PutsShown, ShowsRun, RunsBy, CanRun}
+
+-- ---- lines that were put
+
+pub all_put : (shown : Shown) (lines : List (Vec ℕ Global)) (due : Status) (k l : SinkState) → lines ≡ shown.lines → All IsLine shown.lines → due ≡ ended_as shown.end → PutsAll (text_of lines) k l (Ok tt) → PutsShown shown k l due
+all_put shown lines due k l same seen is q = let p = subst (λ x. PutsAll (text_of x) k l (Ok tt)) same q in record {
+  seen = seen;
+  puts = record {
+    put = inl (record { status = is; bytes = p.ok });
+    quiet = λ told steady fits. ((p.quiet told steady fits).0, is);
+  };
+}
+
+true_false : true ≡ false → ⊥
+true_false h = cc
+
+pub put_broken : (shown : Shown) (lines : List (Vec ℕ Global)) (k l : SinkState) (e : PutFailed) → lines ≡ shown.lines → All IsLine shown.lines → PutsAll (text_of lines) k l (Err e) → PutsShown shown k l SinkFault
+put_broken shown lines k l e same seen q = let p = subst (λ x. PutsAll (text_of x) k l (Err e)) same q in record {
+  seen = seen;
+  puts = record {
+    put = inr (record { status = refl; cause = p.cause; bytes = p.failed });
+    quiet = λ told steady fits. absurd (true_false (p.quiet told steady fits).1);
+  };
+}
+
+-- ---- the whole call
+
+loud : (end : RunEnd) → ended_as end ≡ NoMemory → ⊥
+loud ends.Done h = cc
+loud ends.Trapped h = cc
+loud ends.ScriptEnded h = cc
+loud ends.StepsSpent h = cc
+loud ends.BadAnswer h = cc
+loud ends.TooDeep h = cc
+
+fault_is_loud : SinkFault ≡ NoMemory → ⊥
+fault_is_loud h = cc
+
+shown_is_loud : (shown : Shown) (k l : SinkState) (result : Status) → PutsShown shown k l result → result ≡ NoMemory → ⊥
+shown_is_loud shown k l result p e = elim p.puts.put [
+  | inl w ↦ loud shown.end (sym w.status ∙ e)
+  | inr b ↦ fault_is_loud (sym b.status ∙ e)
+]
+
+silent : (k l : SinkState) (result : Status) → ShowsRun k l result → result ≡ NoMemory → l ≡ k
+silent k l result w e = elim w [
+  | inl s ↦ absurd (shown_is_loud s.0 k l result s.2 e)
+  | inr n ↦ n.1
+]
+
+pub runs_on : (c : RunCommand) (inputs : Inputs) (s t : FilesState) (k l : SinkState) (result : Status) → FetchesInputs c.component c.script s t (Ok inputs) → ShowsRun k l result → RunsBy c s t k l result
+runs_on c inputs s t k l result f w = record {
+  goes = f.goes;
+  stays = f.stays;
+  end = inr (record { inputs = inputs; ready = f.ready; shows = w });
+  kept = silent k l result w;
+  quiet = λ told steady there. (f.quiet told steady there).0;
+}
+
+pub runs_not : (c : RunCommand) (why : Unready) (due : Status) (s t : FilesState) (k l : SinkState) (result : Status) → FetchesInputs c.component c.script s t (Err why) → refused_for why ≡ due
+    → Reports due (status_text due) k l result → (result ≡ NoMemory → l ≡ k) → RunsBy c s t k l result
+runs_not c why due s t k l result f is report quiet = record {
+  goes = f.goes;
+  stays = f.stays;
+  end = inl (record { why = why; cause = f.cause; report = subst (λ (d : Status). Reports d (status_text d) k l result) (sym is) report });
+  kept = quiet;
+  quiet = λ told steady there. (f.quiet told steady there).0;
+}
+
+pub can_run : (component script : List ℕ) (inputs : Inputs) (s t : FilesState) → FetchesInputs component script s t (Ok inputs) → CanRun inputs
+can_run component script inputs s t f = (f.ready.runnable.bytes, f.ready.runnable.judges)
+
+-- no memory for the words
+
+pub runs_memory : (c : RunCommand) (s : FilesState) (k : SinkState) → RunsBy c s s k k NoMemory
+runs_memory c s k = record {
+  goes = record { later = omega arith; told = refl; steady = λ h. h };
+  stays = refl;
+  end = inl (record { why = unready.Refused refusals.NoMemory; cause = inl (inl refl); report = inr (refl, refl) });
+  kept = λ h. refl;
+  quiet = λ told steady there. refl;
+}

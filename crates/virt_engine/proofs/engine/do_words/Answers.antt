@@ -1,0 +1,9 @@
+use Rattle.virt_engine.proofs.Runs.{ran_memory}
+use Rattle.virt_engine.proofs.TaskLaws.{runs_memory}
+use Rattle.virt_engine.proofs.engine.do_words.Goals as goal
+
+pub returns-in-Err-NoMemory-clause-virt : goal.returns-in-Err-NoMemory-clause-virt
+returns-in-Err-NoMemory-clause-virt g c = λ none. ran_memory c.args.words.now _ _
+
+pub returns-in-Err-NoMemory-clause-run : goal.returns-in-Err-NoMemory-clause-run
+returns-in-Err-NoMemory-clause-run g c = λ command run. runs_memory command _ _

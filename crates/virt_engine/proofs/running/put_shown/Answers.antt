@@ -1,0 +1,8 @@
+use Rattle.virt_engine.proofs.TaskLaws.{all_put, put_broken}
+use Rattle.virt_engine.proofs.running.put_shown.Goals as goal
+
+pub returns-in-Ok : goal.returns-in-Ok
+returns-in-Ok g c = all_put _ _ _ _ _ c.as_slice.ensures.lines c.as_slice.ensures.seen c.ended_as.ensures c.in-Ok.ensures
+
+pub returns-in-Err : goal.returns-in-Err
+returns-in-Err g c = put_broken _ _ _ _ _ c.as_slice.ensures.lines c.as_slice.ensures.seen c.in-Err.ensures
