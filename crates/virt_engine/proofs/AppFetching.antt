@@ -1,5 +1,5 @@
 -- What reading an application's file comes to, from its bytes and what they are judged.
-use Rattle.std.proofs.Common.{◌≡◌, ◌∙◌, refl, sym, ap, subst, ℕ, ◌<◌, List, length, Bool, true, false, inl, inr, Ok, Err}
+use Rattle.std.proofs.Common.{◌≡◌, refl, sym, subst, ℕ, List, length, Bool, true, false, inl, inr, Ok, Err}
 use Rattle.std.specs.Prelude.{Option, Some, None, Result, Vec, codes, nat_lt, if◌then◌else◌}
 use Rattle.std.specs.declared.alloc.Global.{Global}
 use Rattle.std.proofs.lemmas.Bool.{ltb-true}
@@ -9,7 +9,7 @@ use Rattle.virt_engine.specs.declared.app.App.{App}
 use Rattle.virt_engine.specs.declared.status.Status.{Status}
 use Rattle.virt_engine.specs.declared.status.Status.TheVariants.{Done, PolicyRefused, AppRefused, FileFault, SinkFault, OverLimit, NoMemory, ScriptRefused, Trapped, ScriptEnded, StepsSpent, BadAnswer, TooDeep, Usage}
 use Rattle.virt_engine.specs.Fetching.{with_input, IsFileFault, FetchCause, Fetches}
-use Rattle.virt_engine.specs.Apps.{app_limit, Refuses, IsRefusedBy, Judges, HasApp, AppCause, FetchesApp}
+use Rattle.virt_engine.specs.Apps.{app_limit, Refuses, IsRefusedBy, Judges, AppCause, FetchesApp}
 
 -- ---- the file was not read
 

@@ -1,10 +1,9 @@
 -- What reading all that a call needs comes to, from what its parts did.
-use Rattle.std.proofs.Common.{◌≡◌, ◌∙◌, refl, sym, ap, subst, ℕ, List, ◌++◌, length, true, inl, inr, Ok, Err, string_bytes}
+use Rattle.std.proofs.Common.{◌≡◌, ◌∙◌, refl, sym, ap, subst, ℕ, List, length, true, inl, inr, Ok, Err, string_bytes}
 use Rattle.std.specs.Prelude.{Option, Some, None, IsSome, Contains, Result, codes}
 use Rattle.outside.specs.Files.{FilesState, Held, Goes}
 use Rattle.outside.proofs.FailingLaws.{Rose-before}
 use Rattle.policy_data.specs.declared.policy.Policy.{Policy}
-use Rattle.policy_data.specs.declared.fault.ReadPolicyFault.{ReadPolicyFault}
 use Rattle.mount_tree.specs.Building.{trees_due}
 use Rattle.comp_types.specs.Items.{Signature}
 use Rattle.virt_engine.specs.declared.app.App.{App}

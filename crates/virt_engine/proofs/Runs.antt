@@ -1,5 +1,5 @@
 -- A whole call, by what its parts did.
-use Rattle.std.proofs.Common.{◌≡◌, ◌≢◌, ℕ, ◌≤◌, ◌<◌, List, [], ◌++◌, length, true, false, refl, sym, ap, subst, ◌∙◌, inl, inr, arith, Ok, Err, string_bytes}
+use Rattle.std.proofs.Common.{◌≡◌, ◌≢◌, ℕ, ◌≤◌, List, [], length, true, false, refl, sym, ap, subst, ◌∙◌, inl, inr, arith, Ok, Err, string_bytes}
 use Rattle.std.specs.Prelude.{◌⊎◌, Option, Some, None, Result, codes}
 use Rattle.std.proofs.lemmas.Bool.{le-ltb}
 use Rattle.outside.specs.Fault.{Rose}
@@ -21,7 +21,7 @@ use Rattle.virt_engine.specs.Report.{Puts, Reports}
 use Rattle.virt_engine.specs.Writing.{LeftOf}
 use Rattle.virt_engine.specs.Fetching.{with_input}
 use Rattle.virt_engine.specs.Policies.{policy_limit, policy_due, with_policy, policy_verdict, IsPolicyVerdict}
-use Rattle.virt_engine.specs.Apps.{app_limit, Refuses, IsRefusedBy, IsAppFile}
+use Rattle.virt_engine.specs.Apps.{Refuses, IsRefusedBy, IsAppFile}
 use Rattle.virt_engine.specs.PolicyTrees.{with_trees, trees_verdict}
 use Rattle.virt_engine.specs.Plan.{IsPolicyFile, IsDueUnder, IsDueOf, IsDueFor, IsDue, IsAccepted, NoFileDue, written_by, Plans, IsReady, RefusalOf, Wrote, DueOf, FilesQuiet, Finishes, Ran, RanCommand, Completes, Accepts, Delivers}
 use Rattle.policy_data.specs.declared.policy.Policy.{Policy}
