@@ -57,7 +57,7 @@ module _ (c : Command) (s : FilesState) where
     refused_policy (FileFault kept) h = (h.1, inl (h.0, h.2))
     refused_policy NoMemory h = tt
     refused_policy (OverLimit what value) h = (inl h.0, λ told. inl (h.1 told))
-    refused_policy (PolicyRefused fault) h = λ told. inl (h told)
+    refused_policy (PolicyRefused fault) h = (inl h.0, λ told. inl (h.1 told))
     refused_policy Done h = absurd h
     refused_policy (AppRefused fault) h = absurd h
     refused_policy SinkFault h = absurd h
@@ -197,7 +197,7 @@ module _ (c : Command) (policy : Policy) (s t : FilesState) (p : FetchesPolicy c
       )
       refused_trees NoMemory m h = tt
       refused_trees (OverLimit what value) m h = (inr (inr h.0), λ told. by_trees told (OverLimit what value) (h.1 (told_u told) Done))
-      refused_trees (PolicyRefused fault) m h = λ told. by_trees told (PolicyRefused fault) (h (told_u told) Done)
+      refused_trees (PolicyRefused fault) m h = (inr (policy, p.policy, (app.bytes.items, has_app)), λ told. by_trees told (PolicyRefused fault) (h (told_u told) Done))
       refused_trees Done m h = absurd h
       refused_trees (AppRefused fault) m h = absurd h
       refused_trees SinkFault m h = absurd h

@@ -19,7 +19,7 @@ use Rattle.virt_engine.specs.Command.{Command, command_of}
 use Rattle.virt_engine.specs.Line.{done_text, status_text}
 use Rattle.virt_engine.specs.Output.{IsOutputOf, output_bytes}
 use Rattle.virt_engine.specs.Fetching.{IsFileFault}
-use Rattle.virt_engine.specs.Policies.{policy_limit, IsPolicyVerdict, HasPolicy, IsPolicyOver}
+use Rattle.virt_engine.specs.Policies.{policy_limit, IsPolicyVerdict, HasPolicy, HasRefusedPolicy, IsPolicyOver}
 use Rattle.virt_engine.specs.Apps.{IsAppVerdict, IsAppFile, HasApp, HasRefused, IsAppOver}
 use Rattle.virt_engine.specs.PolicyTrees.{trees_verdict, HasTrees}
 use Rattle.virt_engine.specs.Report.{Puts, Reports}
@@ -84,12 +84,16 @@ DueName c s kept = DuePolicy c s kept ⊎ DueApp c s kept ⊎ DueTree c s kept
 abbrev pub IsOver : List ℕ → ℕ → Type 0
 IsOver what value = IsPolicyOver what value ⊎ IsAppOver what value ⊎ IsAbove what value
 
+-- The policy's text is refused; or a policy and an application were read, and a name that the policy's trees would have is refused.
+abbrev pub IsPolicyRefusal : Command → FilesState → Status → Type 0
+IsPolicyRefusal c s status = HasRefusedPolicy c.policy s status ⊎ ((policy : Policy) × HasPolicy c.policy s policy × ((app : List ℕ) × HasApp c.app s app))
+
 -- A refusal before any write: a fault that was counted, want of memory, or what the definition says.
 abbrev pub RefusalOf : Command → FilesState → FilesState → Status → Type 0
 RefusalOf c s t (FileFault kept) = Rose s.faults t.faults × DueName c s kept
 RefusalOf c s t NoMemory = Unit {0}
 RefusalOf c s t (OverLimit what value) = IsOver what value × (s.told ≡ true → IsDueOf s.held c (OverLimit what value))
-RefusalOf c s t (PolicyRefused fault) = s.told ≡ true → IsDueOf s.held c (PolicyRefused fault)
+RefusalOf c s t (PolicyRefused fault) = IsPolicyRefusal c s (PolicyRefused fault) × (s.told ≡ true → IsDueOf s.held c (PolicyRefused fault))
 RefusalOf c s t (AppRefused fault) = HasRefused c.app s (AppRefused fault) × (s.told ≡ true → IsDueOf s.held c (AppRefused fault))
 RefusalOf c s t _ = ⊥
 
@@ -147,8 +151,10 @@ DueOf words s t Done text = (c : Command) × (command_of words ≡ Some c) × ((
 DueOf words s t (FileFault kept) text = (c : Command) × (command_of words ≡ Some c) × (text ≡ status_text (FileFault kept)) × Rose s.faults t.faults
     × (((t.held ≡ s.held) × DueName c s kept) ⊎ ((kept ≡ c.out) × ((w : Wrote c s) × (s.told ≡ true → LeftOf c.out w.bytes s.held t.held))))
 DueOf words s t NoMemory text = (t.held ≡ s.held) × (text ≡ [])
-DueOf words s t (OverLimit what value) text = (t.held ≡ s.held) × (text ≡ status_text (OverLimit what value)) × IsOver what value × (s.told ≡ true → IsDue s.held words (OverLimit what value))
-DueOf words s t (PolicyRefused fault) text = (t.held ≡ s.held) × (text ≡ status_text (PolicyRefused fault)) × (s.told ≡ true → IsDue s.held words (PolicyRefused fault))
+DueOf words s t (OverLimit what value) text = (t.held ≡ s.held) × (text ≡ status_text (OverLimit what value))
+    × ((c : Command) × (command_of words ≡ Some c) × IsOver what value) × (s.told ≡ true → IsDue s.held words (OverLimit what value))
+DueOf words s t (PolicyRefused fault) text = (t.held ≡ s.held) × (text ≡ status_text (PolicyRefused fault))
+    × ((c : Command) × (command_of words ≡ Some c) × IsPolicyRefusal c s (PolicyRefused fault)) × (s.told ≡ true → IsDue s.held words (PolicyRefused fault))
 DueOf words s t (AppRefused fault) text = (t.held ≡ s.held) × (text ≡ status_text (AppRefused fault))
     × ((c : Command) × (command_of words ≡ Some c) × HasRefused c.app s (AppRefused fault)) × (s.told ≡ true → IsDue s.held words (AppRefused fault))
 DueOf words s t Usage text = (t ≡ s) × (text ≡ status_text Usage) × (command_of words ≡ None)

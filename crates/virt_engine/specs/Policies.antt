@@ -65,6 +65,15 @@ pub record HasPolicy (name : List ℕ) (s : FilesState) (policy : Policy) : Type
   pub there : s.told ≡ true → s.held.file name ≡ Some text
   pub taken : s.told ≡ true → (next : Policy → Status) → policy_verdict s.held name next ≡ next policy
 
+-- The text of the policy's file is refused with this status.
+pub record HasRefusedPolicy (name : List ℕ) (s : FilesState) (status : Status) : Type 0 where
+  pub text : List ℕ
+  pub short : length text ≤ policy_limit
+  pub fault : ReadPolicyFault
+  pub due : policy_due text ≡ Err fault
+  pub refused : refused_for fault ≡ status
+  pub there : s.told ≡ true → s.held.file name ≡ Some text
+
 -- a policy has too many bytes, or a number or a length in some policy's text is above its greatest
 abbrev pub IsPolicyOver : List ℕ → ℕ → Type 0
 IsPolicyOver what value = ((what ≡ codes "policy-bytes") × (policy_limit < value)) ⊎ ((text : List ℕ) × (policy_due text ≡ Err (faults.OverLimit what value)))
@@ -74,7 +83,7 @@ abbrev pub PolicyCause : List ℕ → FilesState → FilesState → Status → T
 PolicyCause name s t (FileFault kept) = (kept ≡ name) × Rose s.faults t.faults × (s.told ≡ true → s.steady ≡ true → s.held.file name ≡ None)
 PolicyCause name s t NoMemory = Unit {0}
 PolicyCause name s t (OverLimit what value) = IsPolicyOver what value × (s.told ≡ true → IsPolicyVerdict s.held name (OverLimit what value))
-PolicyCause name s t (PolicyRefused fault) = s.told ≡ true → IsPolicyVerdict s.held name (PolicyRefused fault)
+PolicyCause name s t (PolicyRefused fault) = HasRefusedPolicy name s (PolicyRefused fault) × (s.told ≡ true → IsPolicyVerdict s.held name (PolicyRefused fault))
 PolicyCause name s t _ = ⊥
 
 -- What reading the policy's file and its text does: the policy, or why not.
