@@ -2,6 +2,10 @@
 #![tactic(auto)]
 
 #[cfg(test)]
+mod calling;
+#[cfg(test)]
+mod runs;
+#[cfg(test)]
 mod saying;
 #[cfg(test)]
 mod statuses;

@@ -1,11 +1,10 @@
 //! The exit statuses, each with the line that is put.
 
+use crate::calling::{says, sink_of};
 use crate::saying::{Answers, Listed, Said, Saying};
-use outside::{MemSink, Places};
 use std::alloc::Global;
 use std::process::Abort;
 use std::test::Fail;
-use virt_base::{Items, NoMemory, Text};
 use virt_engine::{code, wasi_virt};
 
 /// The component without sections (Component Model, Binary.md).
@@ -30,14 +29,7 @@ const FOLDER: &str = "fs.tree = [{ name = \"/t\", mount = \"d\" }]";
 
 const DONE: &str = "done: 8 bytes in, 24 bytes out, 0 functions imported\n";
 
-fn sink_of(alloc: Global, failing: &[u64]) -> Result<MemSink, NoMemory> {
-    let failing: Places = Items::new(Vec::from_slice(alloc, failing)?);
-    let mut sink = MemSink::new(alloc, failing);
-    sink.reserve(alloc, 200)?;
-    Ok(sink)
-}
-
-/// The exit status of a call over such files is this one, and this is put.
+/// The exit status of `virt` over such files is this one, and this is put.
 fn gives(
     rt: &impl Abort,
     alloc: Global,
@@ -45,16 +37,7 @@ fn gives(
     exit: u8,
     line: &str,
 ) -> Result<(), Fail> {
-    let mut words = Vec::new(alloc);
-    for word in ["virt", "a", "-p", "p", "-o", "o"] {
-        words.push(Text::from_str(alloc, word)?)?;
-    }
-    let mut files = Saying::new(answers);
-    let mut sink = sink_of(alloc, &[])?;
-    let status = wasi_virt(alloc, words.as_slice(), &mut files, &mut sink);
-    assert_eq!(rt; code(&status), exit);
-    assert_eq!(rt; sink.bytes(), line.as_bytes());
-    Ok(())
+    says(rt, alloc, "virt a -p p -o o", answers, exit, line)
 }
 
 #[test]
