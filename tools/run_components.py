@@ -1,0 +1,438 @@
+#!/usr/bin/env python3
+"""Writes the small components of crates/run_cases that show handles, instances in one another and closed instances.
+
+Each is put together section by section, as the Component Model's Binary.md has them; core modules as WebAssembly Core 2.0 has them.
+"""
+
+import os
+import sys
+
+U32, U64, STRING = 0x79, 0x77, 0x73
+I32 = 0x7F
+
+
+def leb(n):
+    out = b""
+    while True:
+        low, n = n & 127, n >> 7
+        if n == 0:
+            return out + bytes([low])
+        out += bytes([low | 128])
+
+
+def signed(n):
+    out = b""
+    while True:
+        low, n = n & 127, n >> 7
+        if (n == 0 and not low & 64) or (n == -1 and low & 64):
+            return out + bytes([low])
+        out += bytes([low | 128])
+
+
+def text(s):
+    return leb(len(s)) + s.encode()
+
+
+def many(items):
+    return leb(len(items)) + b"".join(items)
+
+
+def section(number, body):
+    return bytes([number]) + leb(len(body)) + body
+
+
+# ---- core modules
+
+def const(n):
+    return b"\x41" + signed(n)
+
+
+def call(n):
+    return b"\x10" + leb(n)
+
+
+def local(n):
+    return b"\x20" + leb(n)
+
+
+DROP = b"\x1a"
+
+
+def module(imports=(), functions=(), exports=(), start=None, memory=False):
+    """Imports are (module, name, type), functions (type, locals, body), exports (name, kind, index); a type is (params, results)."""
+    types = []
+
+    def place(ty):
+        if ty not in types:
+            types.append(ty)
+        return types.index(ty)
+
+    ins = [text(m) + text(n) + b"\0" + leb(place(ty)) for m, n, ty in imports]
+    funcs = [leb(place(ty)) for ty, _, _ in functions]
+    out = b"\0asm\x01\0\0\0"
+    out += section(1, many([b"\x60" + many([bytes([I32])] * p) + many([bytes([I32])] * r) for p, r in types]))
+    if ins:
+        out += section(2, many(ins))
+    out += section(3, many(funcs))
+    if memory:
+        out += section(5, many([b"\0\1"]))
+    out += section(7, many([text(n) + bytes([k]) + leb(i) for n, k, i in exports]))
+    if start is not None:
+        out += section(8, leb(start))
+    bodies = []
+    for _, locals_, body in functions:
+        code = (many([leb(locals_) + bytes([I32])]) if locals_ else many([])) + body + b"\x0b"
+        bodies.append(leb(len(code)) + code)
+    return out + section(10, many(bodies))
+
+
+# ---- components
+
+def component(*sections):
+    return b"\0asm\x0d\0\1\0" + b"".join(sections)
+
+
+def core_module(m):
+    return section(1, m)
+
+
+def nested(c):
+    return section(4, c)
+
+
+def core_instances(*items):
+    return section(2, many(items))
+
+
+def of_module(index, **args):
+    return b"\0" + leb(index) + many([text(name.replace("_", "-")) + b"\x12" + leb(i) for name, i in args.items()])
+
+
+def of_core_items(*items):
+    """Of functions alone, or of (name, kind, index)."""
+    return b"\1" + many([text(n) + bytes([k]) + leb(i) for n, k, i in items])
+
+
+def instances(*items):
+    return section(5, many(items))
+
+
+def of_component(index, *args):
+    return b"\0" + leb(index) + many([text(n) + bytes([sort]) + leb(i) for n, sort, i in args])
+
+
+FUNC, TYPE, INSTANCE = 1, 3, 5
+
+
+def aliases(*items):
+    return section(6, many(items))
+
+
+def from_instance(sort, instance, name):
+    return bytes([sort, 0]) + leb(instance) + text(name)
+
+
+def from_core(kind, instance, name):
+    return bytes([0, kind, 1]) + leb(instance) + text(name)
+
+
+def types(*items):
+    return section(7, many(items))
+
+
+def func(params, result=None):
+    return b"\x40" + many([text(n) + ty for n, ty in params]) + (b"\0" + result if result is not None else b"\1\0")
+
+
+def prim(ty):
+    return bytes([ty])
+
+
+def own(i):
+    return b"\x69" + leb(i)
+
+
+def borrow(i):
+    return b"\x68" + leb(i)
+
+
+def instance_type(*items):
+    return b"\x42" + many(items)
+
+
+def declares(ty):
+    return b"\1" + ty
+
+
+def exports_type(name):
+    return b"\4\0" + text(name) + b"\3\1"
+
+
+def exports_func(name, ty):
+    return b"\4\0" + text(name) + b"\1" + leb(ty)
+
+
+def canons(*items):
+    return section(8, many(items))
+
+
+def lift(f, ty, *options):
+    return b"\0\0" + leb(f) + many(options) + leb(ty)
+
+
+def lower(f, *options):
+    return b"\1\0" + leb(f) + many(options)
+
+
+def resource_new(r):
+    return b"\2" + leb(r)
+
+
+def resource_drop(r):
+    return b"\3" + leb(r)
+
+
+def memory_option(i):
+    return b"\3" + leb(i)
+
+
+def realloc_option(i):
+    return b"\4" + leb(i)
+
+
+def post_option(i):
+    return b"\5" + leb(i)
+
+
+def imports(*items):
+    return section(10, many([b"\0" + text(n) + desc for n, desc in items]))
+
+
+def an_instance(ty):
+    return b"\5" + leb(ty)
+
+
+def exports(*items):
+    return section(11, many([b"\0" + text(n) + bytes([sort]) + leb(i) + b"\0" for n, sort, i in items]))
+
+
+# a host with things that can be opened, looked at and given away
+THINGS = instance_type(
+    exports_type("thing"),
+    declares(own(0)),
+    declares(func([], leb(1))),
+    exports_func("open", 2),
+    declares(borrow(0)),
+    declares(func([("it", leb(3))], prim(U32))),
+    exports_func("look", 4),
+    declares(func([("it", leb(1))])),
+    exports_func("take", 5),
+)
+
+# a host that is told numbers, and that has a name
+LOG = instance_type(
+    declares(func([("number", prim(U32))])),
+    exports_func("log", 0),
+    declares(func([], prim(STRING))),
+    exports_func("name", 1),
+)
+
+NONE, ONE, GIVES, BOTH = (0, 0), (1, 0), (0, 1), (1, 1)
+
+
+def things():
+    """Handles of the host: used, given away, and dropped where there is none."""
+    open_, look, take, drop = 0, 1, 2, 3
+    main = module(
+        imports=[("host", "open", GIVES), ("host", "look", BOTH), ("host", "take", ONE), ("host", "drop", ONE)],
+        functions=[
+            (GIVES, 1, call(open_) + b"\x22\0" + call(look) + local(0) + call(drop)),
+            (NONE, 0, call(open_) + call(take)),
+            (NONE, 0, const(1) + call(drop)),
+            (NONE, 1, call(open_) + b"\x22\0" + call(drop) + local(0) + call(drop)),
+            (GIVES, 1, call(open_) + b"\x22\0" + call(take) + local(0) + call(look)),
+            (GIVES, 0, call(open_) + DROP + call(open_) + call(look)),
+        ],
+        exports=[("once", 0, 4), ("give", 0, 5), ("never", 0, 6), ("twice", 0, 7), ("given", 0, 8), ("two", 0, 9)],
+    )
+    names = ["once", "give", "never", "twice", "given", "two"]
+    gives = {"once", "given", "two"}
+    return component(
+        types(THINGS),
+        imports(("test:host/things", an_instance(0))),
+        aliases(from_instance(TYPE, 0, "thing"), from_instance(FUNC, 0, "open"), from_instance(FUNC, 0, "look"), from_instance(FUNC, 0, "take")),
+        canons(lower(0), lower(1), lower(2), resource_drop(1)),
+        core_module(main),
+        core_instances(of_core_items(("open", 0, 0), ("look", 0, 1), ("take", 0, 2), ("drop", 0, 3)), of_module(0, host=0)),
+        aliases(*[from_core(0, 1, n) for n in names]),
+        types(func([], prim(U32)), func([])),
+        canons(*[lift(4 + i, 2 if n in gives else 3) for i, n in enumerate(names)]),
+        exports(*[(n, FUNC, 3 + i) for i, n in enumerate(names)]),
+    )
+
+
+def lent():
+    """A start function calls a function of its own instance and lends it a handle, which is dropped there."""
+    served = module(imports=[("host", "drop", ONE)], functions=[(ONE, 0, const(1) + call(0))], exports=[("f", 0, 1)])
+    starts = module(imports=[("host", "open", GIVES), ("host", "f", ONE)], functions=[(NONE, 0, call(0) + call(1))], exports=[], start=2)
+    return component(
+        types(THINGS),
+        imports(("test:host/things", an_instance(0))),
+        aliases(from_instance(TYPE, 0, "thing"), from_instance(FUNC, 0, "open")),
+        canons(lower(0), resource_drop(1)),
+        core_module(served),
+        core_instances(of_core_items(("drop", 0, 1)), of_module(0, host=0)),
+        aliases(from_core(0, 1, "f")),
+        types(borrow(1), func([("it", leb(2))])),
+        canons(lift(2, 3), lower(1)),
+        core_module(starts),
+        core_instances(of_core_items(("open", 0, 0), ("f", 0, 3)), of_module(1, host=2)),
+    )
+
+
+def owner():
+    """A component in another defines a resource, whose destructor tells the host of it."""
+    log = 0
+    core = module(
+        imports=[("host", "log", ONE)],
+        functions=[(ONE, 0, local(0) + call(log))],
+        exports=[("gone", 0, 1)],
+    )
+    makes = module(
+        imports=[("own", "new", BOTH)],
+        functions=[(BOTH, 0, local(0) + call(0)), (BOTH, 0, local(0) + const(1) + b"\x6a")],
+        exports=[("make", 0, 1), ("value", 0, 2)],
+    )
+    inner = component(
+        types(LOG),
+        imports(("log", an_instance(0))),
+        aliases(from_instance(FUNC, 0, "log")),
+        canons(lower(0)),
+        core_module(core),
+        core_instances(of_core_items(("log", 0, 0)), of_module(0, host=0)),
+        aliases(from_core(0, 1, "gone")),
+        # the resource, with its destructor
+        types(b"\x3f\x7f\1" + leb(1)),
+        canons(resource_new(1)),
+        core_module(makes),
+        core_instances(of_core_items(("new", 0, 2)), of_module(1, own=2)),
+        aliases(from_core(0, 3, "make"), from_core(0, 3, "value")),
+        exports(("r", TYPE, 1)),
+        types(own(2), func([("number", prim(U32))], leb(3)), borrow(2), func([("it", leb(5))], prim(U32))),
+        canons(lift(3, 4), lift(4, 6)),
+        exports(("make", FUNC, 1), ("value", FUNC, 2)),
+    )
+    main = module(
+        imports=[("r", "make", BOTH), ("r", "value", BOTH), ("r", "drop", ONE)],
+        functions=[
+            (BOTH, 1, local(0) + call(0) + b"\x22\1" + call(1) + local(1) + call(2)),
+            (BOTH, 1, local(0) + call(0) + b"\x22\1" + call(2) + local(1) + call(1)),
+        ],
+        exports=[("use", 0, 3), ("gone", 0, 4)],
+    )
+    return component(
+        types(LOG),
+        imports(("test:host/log", an_instance(0))),
+        nested(inner),
+        instances(of_component(0, ("log", INSTANCE, 0))),
+        aliases(from_instance(TYPE, 1, "r"), from_instance(FUNC, 1, "make"), from_instance(FUNC, 1, "value")),
+        canons(lower(0), lower(1), resource_drop(1)),
+        core_module(main),
+        core_instances(of_core_items(("make", 0, 0), ("value", 0, 1), ("drop", 0, 2)), of_module(0, r=0)),
+        aliases(from_core(0, 1, "use"), from_core(0, 1, "gone")),
+        types(func([("number", prim(U32))], prim(U32))),
+        canons(lift(3, 2), lift(4, 2)),
+        exports(("use", FUNC, 2), ("gone", FUNC, 3)),
+    )
+
+
+def nested_calls():
+    """A component calls one in it, which calls back: where the outer one is entered, that traps."""
+    back = module(functions=[(GIVES, 0, const(5))], exports=[("back", 0, 0)])
+    inside = module(imports=[("outer", "back", GIVES)], functions=[(GIVES, 0, call(0)), (GIVES, 0, const(6))], exports=[("calls-back", 0, 1), ("answers", 0, 2)])
+    inner = component(
+        types(func([], prim(U32))),
+        imports(("back", b"\1" + leb(0))),
+        canons(lower(0)),
+        core_module(inside),
+        core_instances(of_core_items(("back", 0, 0)), of_module(0, outer=0)),
+        aliases(from_core(0, 1, "calls-back"), from_core(0, 1, "answers")),
+        canons(lift(1, 0), lift(2, 0)),
+        exports(("calls-back", FUNC, 1), ("answers", FUNC, 2)),
+    )
+    main = module(
+        imports=[("inner", "calls-back", GIVES), ("inner", "answers", GIVES)],
+        functions=[(GIVES, 0, call(0)), (GIVES, 0, call(1))],
+        exports=[("re-enters", 0, 2), ("asks", 0, 3)],
+    )
+    return component(
+        core_module(back),
+        core_instances(of_module(0)),
+        aliases(from_core(0, 0, "back")),
+        types(func([], prim(U32))),
+        canons(lift(0, 0)),
+        nested(inner),
+        instances(of_component(0, ("back", FUNC, 0))),
+        aliases(from_instance(FUNC, 0, "calls-back"), from_instance(FUNC, 0, "answers")),
+        canons(lower(1), lower(2)),
+        core_module(main),
+        core_instances(of_core_items(("calls-back", 0, 1), ("answers", 0, 2)), of_module(1, inner=1)),
+        aliases(from_core(0, 2, "re-enters"), from_core(0, 2, "asks")),
+        canons(lift(3, 0), lift(4, 0)),
+        # the inner function that calls back may be called from outside: the outer instance is not entered then
+        exports(("re-enters", FUNC, 3), ("asks", FUNC, 4), ("calls-back", FUNC, 1)),
+    )
+
+
+def starts():
+    """A start function calls the host."""
+    main = module(imports=[("host", "log", ONE)], functions=[(NONE, 0, const(3) + call(0))], exports=[], start=1)
+    return component(
+        types(LOG),
+        imports(("test:host/log", an_instance(0))),
+        aliases(from_instance(FUNC, 0, "log")),
+        canons(lower(0)),
+        core_module(main),
+        core_instances(of_core_items(("log", 0, 0)), of_module(0, host=0)),
+    )
+
+
+def closed():
+    """A realloc and a post-return run while their instance is closed: what they import traps."""
+    log = 0
+    library = module(
+        imports=[("host", "log", ONE)],
+        functions=[((4, 1), 0, const(1) + call(log) + const(64)), (ONE, 0, const(2) + call(log)), (ONE, 0, b"")],
+        exports=[("memory", 2, 0), ("realloc", 0, 1), ("post", 0, 2), ("quiet", 0, 3)],
+        memory=True,
+    )
+    main = module(
+        imports=[("host", "name", ONE), ("host", "log", ONE)],
+        functions=[(NONE, 0, const(16) + call(0)), (GIVES, 0, const(9)), (GIVES, 0, const(8) + const(4) + call(1))],
+        exports=[("asks", 0, 2), ("returns", 0, 3), ("logs", 0, 4)],
+    )
+    return component(
+        types(LOG),
+        imports(("test:host/log", an_instance(0))),
+        aliases(from_instance(FUNC, 0, "log"), from_instance(FUNC, 0, "name")),
+        canons(lower(0)),
+        core_module(library),
+        core_instances(of_core_items(("log", 0, 0)), of_module(0, host=0)),
+        aliases(from_core(2, 1, "memory"), from_core(0, 1, "realloc"), from_core(0, 1, "post"), from_core(0, 1, "quiet")),
+        canons(lower(1, memory_option(0), realloc_option(1))),
+        core_module(main),
+        core_instances(of_core_items(("name", 0, 4), ("log", 0, 0)), of_module(1, host=2)),
+        aliases(from_core(0, 3, "asks"), from_core(0, 3, "returns"), from_core(0, 3, "logs")),
+        types(func([]), func([], prim(U32))),
+        canons(lift(5, 1), lift(6, 2, post_option(2)), lift(7, 2, post_option(3)), lift(6, 2, post_option(3))),
+        exports(("asks", FUNC, 2), ("returns-badly", FUNC, 3), ("logs", FUNC, 4), ("returns", FUNC, 5)),
+    )
+
+
+def main(folder):
+    for name, made in [("things", things()), ("lent", lent()), ("owner", owner()), ("nested_calls", nested_calls()), ("starts", starts()), ("closed", closed())]:
+        with open(os.path.join(folder, f"{name}.wasm"), "wb") as file:
+            file.write(made)
+
+
+main(sys.argv[1])
