@@ -3,6 +3,4 @@ pub mod FindLemmas
 pub mod NameLemmas
 mod TextLemmas
 mod EntryLemmas
-mod ReadLemmas
-mod OpenLemmas
 mod RowLemmas

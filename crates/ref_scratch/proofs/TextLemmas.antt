@@ -1,7 +1,7 @@
 -- Changes of the scratch folder keep its names text.
-use Rattle.std.proofs.Common.{◌≡◌, ℕ, zero, suc, Bool, true, false, List, [], ◌∷◌, set, get_or, Option, Some, None, replicate, Ok, Err, Result, refl, ap, sym, subst, inl, inr, ◌⊎◌, IsUtf8}
+use Rattle.std.proofs.Common.{◌≡◌, ℕ, zero, suc, Bool, true, false, List, [], ◌∷◌, set, get_or, Option, Some, None, Ok, Err, Result, refl, ap, sym, subst, inl, inr, ◌⊎◌, IsUtf8}
 use Rattle.std.specs.Prelude.{option_map, ◌==◌, IfOk, OnErr}
-use Rattle.tree_table.specs.Scratches.{ScratchMap, ScratchFile, file_at, name_at, with_file, with_content, with_name, holding, called, created, removed, renamed, without_other, find_file, empty_scratch, within_quota, sized, written, has_room, resized, content_at, overwritten}
+use Rattle.tree_table.specs.Scratches.{ScratchMap, ScratchFile, file_at, name_at, with_file, with_content, with_name, holding, called, removed, renamed, without_other, find_file, within_quota, written, content_at, overwritten}
 use Rattle.ref_scratch.specs.Texts.{AreTexts}
 
 set_cases : (xs : List (Option ScratchFile)) (n i : ℕ) (o : Option ScratchFile) (f : ScratchFile) → get_or (set xs n o) i None ≡ Some f → (get_or xs i None ≡ Some f) ⊎ (o ≡ Some f)
@@ -11,14 +11,6 @@ set_cases (x ∷ xs) zero (suc i) o f e = inl e
 set_cases (x ∷ xs) (suc n) zero o f e = inl e
 set_cases (x ∷ xs) (suc n) (suc i) o f e = set_cases xs n i o f e
 
-none_at : (n i : ℕ) (f : ScratchFile) → get_or (replicate n None) i None ≡ Some f → ⊥
-none_at zero i f e = cc
-none_at (suc n) zero f e = cc
-none_at (suc n) (suc i) f e = none_at n i f e
-
-pub texts_empty : (blocks files : ℕ) → AreTexts (empty_scratch blocks files)
-texts_empty blocks files number file e = absurd (none_at files number file e)
-
 module _ (m : ScratchMap) (texts : AreTexts m) where
   texts_with : (n : ℕ) (o : Option ScratchFile) → ((f : ScratchFile) → o ≡ Some f → IsUtf8 f.name) → AreTexts (with_file m n o)
   texts_with n o new number file e =
@@ -26,9 +18,6 @@ module _ (m : ScratchMap) (texts : AreTexts m) where
         | inl old ↦ texts number file old
         | inr is ↦ new file is
       ]
-
-  pub texts_created : (n : ℕ) (name : List ℕ) → IsUtf8 name → AreTexts (created m n name)
-  texts_created n name utf8 = texts_with n (Some (record { name = name; content = [] })) (λ f e. let same : name ≡ f.name = cc in subst IsUtf8 same utf8)
 
   pub texts_removed : (n : ℕ) → AreTexts (removed m n)
   texts_removed n = texts_with n None (λ f e. absurd (cc))
@@ -66,9 +55,6 @@ module _ (m : ScratchMap) (texts : AreTexts m) where
   quota : (b : Bool) (m1 m2 : ScratchMap) → within_quota b m1 ≡ Some m2 → AreTexts m1 → AreTexts m2
   quota true m1 m2 e one = let same : m1 ≡ m2 = cc in subst AreTexts same one
   quota false m1 m2 e one = absurd (cc)
-
-  pub texts_sized : (n len : ℕ) (new : ScratchMap) → sized m n len ≡ Some new → AreTexts new
-  texts_sized n len new e = quota (has_room m n len) (with_content m n (resized (content_at m n) len)) new e (texts_content n (resized (content_at m n) len))
 
   pub texts_written : (n at : ℕ) (bytes : List ℕ) (new : ScratchMap) → written m n at bytes ≡ Some new → AreTexts new
   texts_written n at [] new e = let same : m ≡ new = cc in subst AreTexts same texts
