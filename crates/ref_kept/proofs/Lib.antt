@@ -1,0 +1,4 @@
+pub mod MapLaws
+pub mod MethodLaws
+pub mod RowLaws
+pub mod ToldLaws
