@@ -1,0 +1,3 @@
+pub mod AskLemmas
+mod ArgumentLemmas
+mod GiveLemmas

@@ -1,0 +1,19 @@
+-- What code does to the live handles and to the host that is asked, as a reaction of the definition.
+use Rattle.std.specs.Prelude.{◌≡◌, List, ◌++◌}
+use Rattle.policy_data.specs.declared.policy.Policy.{Policy}
+use Rattle.tree_table.specs.Tables.{Forest}
+use Rattle.host_port.specs.Calls.{PlainAnswer, PlainObservation}
+use Rattle.host_port.specs.Hosts.{Reaction}
+use Rattle.reference_step.specs.State.{Reference}
+use Rattle.ref_live.specs.Lives.{LiveTable}
+use Rattle.ref_answers.specs.Seen.{live_in}
+
+-- a state of the reference host with this policy, these live handles and this state of the host that is asked
+abbrev pub state_at : {S : Type 0} → Reference S → Forest → Policy → LiveTable → S → Reference S
+state_at r f policy live inner = record r { setup = record r.setup { policy = policy }; live = live_in f live.handles; inner = inner }
+
+-- the answer, the state then, and what is seen of the host that was asked
+pub record IsReaction {S : Type 0} (reaction : Reaction (Reference S)) (reply : PlainAnswer) (state : Reference S) (before after : List PlainObservation) : Type 0 where
+  pub answer : reply ≡ reaction.answer
+  pub next : state ≡ reaction.next
+  pub seen : after ≡ before ++ reaction.seen

@@ -1,0 +1,15 @@
+use host_port::HostCall;
+use policy_data::Policy;
+use ref_guards::Atom;
+use ref_listed::Found;
+
+/// A call of a listed function under a policy: the texts, lists and handles of its arguments, and how many bytes it may weigh beside
+/// them.
+#[derive(Debug, Clone, Copy)]
+pub struct Request<'a> {
+    pub policy: &'a Policy,
+    pub found: Found<'a>,
+    pub call: &'a HostCall,
+    pub noted: &'a [Atom],
+    pub left: u64,
+}
