@@ -1,4 +1,4 @@
-mod HandleLemmas
+pub mod HandleLemmas
 mod NameLemmas
 mod OtherLemmas
 mod NodeLemmas

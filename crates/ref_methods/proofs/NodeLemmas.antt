@@ -3,18 +3,15 @@ use Rattle.std.proofs.Common.{◌≡◌, ◌<◌, ℕ, true, List, Option, Some,
 use Rattle.std.specs.Prelude.{IfSome}
 use Rattle.std.proofs.lemmas.Bool.{ltb-true}
 use Rattle.tree_table.specs.Tables.{Forest}
-use Rattle.reference_step.specs.Handles as reference
 use Rattle.reference_step.specs.Descriptors as descriptor
 use Rattle.reference_step.specs.Descriptors.{with_node, same_node, link_pair, rename_pair, are_same}
 use Rattle.reference_step.specs.State.{View, fails}
 use Rattle.ref_live.specs.declared.content.Content.{Content}
 use Rattle.ref_live.specs.declared.content.Content.TheVariants.{Host, Node, FileAt, EmptyIn, Discard, Always, Entries, ScratchRoot, ScratchEntries, ScratchFile, ScratchIn, ScratchOut}
-use Rattle.ref_live.specs.declared.content.Handle.{Handle}
-use Rattle.ref_answers.specs.Seen.{content_in, live_in}
+use Rattle.ref_answers.specs.Seen.{content_in}
 use Rattle.ref_files.specs.Views.{node_in}
-use Rattle.ref_methods.specs.Held.{content_held, node_inside}
+use Rattle.ref_methods.specs.Held.{node_inside}
 use Rattle.ref_methods.specs.Others.{node_of, crossing, same_as}
-use Rattle.ref_methods.proofs.HandleLemmas.{content_is}
 
 -- the node of a content is one of so many, where that of the content is
 pub node_within : (nodes : ℕ) (c : Content) → node_inside nodes c ≡ true → IfSome (node_of c) (λ o. o < nodes)
@@ -77,7 +74,3 @@ module _ (f : Forest) where
   same_is node (ScratchFile number may_write) = refl
   same_is node (ScratchIn number place) = refl
   same_is node (ScratchOut number place) = refl
-
-  -- what a handle of an argument stands for
-  pub looked : (v : View) (handles : List (Option Handle)) (id : ℕ) (c : Content) → v.content ≡ reference.content_of (live_in f handles) → c ≡ content_held handles id → content_in f c ≡ v.content id
-  looked v handles id c e is = ap (content_in f) is ∙ content_is f handles id ∙ ap (λ g. g id) (sym e)

@@ -7,7 +7,8 @@ use Rattle.wit_types.specs.PlainValue.{BoolValue, plain_values}
 use Rattle.wit_types.proofs.ValueLemmas.{plain_value-Bool}
 use Rattle.ref_files.specs.Views.{node_in}
 use Rattle.ref_methods.specs.Others.{crossing, same_as}
-use Rattle.ref_methods.proofs.NodeLemmas.{link_is, rename_is, same_is, looked}
+use Rattle.ref_methods.proofs.HandleLemmas.{looked}
+use Rattle.ref_methods.proofs.NodeLemmas.{link_is, rename_is, same_is}
 use Rattle.ref_methods.proofs.nodes.pair_row.Goals as goal
 
 pub returns-in-LinkAt : goal.returns-in-LinkAt
