@@ -1,0 +1,4 @@
+mod ToldLemmas
+mod BesideLemmas
+mod OtherLemmas
+mod ByteLemmas

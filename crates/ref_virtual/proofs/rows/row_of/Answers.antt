@@ -1,0 +1,63 @@
+use Rattle.std.proofs.Common.{refl, sym, ap, ◌∙◌}
+use Rattle.std.proofs.Math.Path.{fun_ext}
+use Rattle.std.proofs.lemmas.Result.{IfOk-weaker}
+use Rattle.wit_types.specs.PlainValue.{plain_values}
+use Rattle.reference_step.specs.Handles.{content_of, is_held}
+use Rattle.reference_step.specs.Rows.{filesystem_rows}
+use Rattle.reference_step.specs.State.{View}
+use Rattle.ref_answers.specs.Found.{found}
+use Rattle.ref_answers.specs.Seen.{live_in}
+use Rattle.ref_answers.proofs.SeenLaws.{seen_is_held}
+use Rattle.ref_files.specs.Views.{HoldsTrees}
+use Rattle.ref_scratch.specs.Told.{settled}
+use Rattle.ref_virtual.proofs.ToldLemmas.{told_same}
+use Rattle.ref_virtual.proofs.rows.row_of.Goals as goal
+
+pub returns-in-Rowless : goal.returns-in-Rowless
+returns-in-Rowless c = λ v h.
+    let f = c.args.table.now in
+    let m = c.args.folder.now in
+    let handles = c.args.live.now.handles in
+    let a = plain_values c.args.args.now in
+    let w : View = record v { policy = c.args.policy.now; scratch = m; content = content_of (live_in f handles); held = is_held (live_in f handles) } in
+    ap (λ rs. settled m (found rs c.args.function.now w a)) c.in-Rowless.ensures
+
+pub returns-in-Handleless : goal.returns-in-Handleless
+returns-in-Handleless c = IfOk-weaker c.handleless_row.result _ _ (λ row says. λ v h.
+    let f = c.args.table.now in
+    let m = c.args.folder.now in
+    let handles = c.args.live.now.handles in
+    let a = plain_values c.args.args.now in
+    let w : View = record v { policy = c.args.policy.now; scratch = m; content = content_of (live_in f handles); held = is_held (live_in f handles) } in
+    told_same f m row _ (says f w a) ∙ ap (λ rs. settled m (found rs c.args.function.now w a)) c.in-Handleless.ensures) c.handleless_row.ensures
+
+pub returns-in-Poll : goal.returns-in-Poll
+returns-in-Poll c = IfOk-weaker c.poll_row.result _ _ (λ row says. λ v h.
+    let f = c.args.table.now in
+    let m = c.args.folder.now in
+    let handles = c.args.live.now.handles in
+    let a = plain_values c.args.args.now in
+    let w : View = record v { policy = c.args.policy.now; scratch = m; content = content_of (live_in f handles); held = is_held (live_in f handles) } in
+    told_same f m row _ (says f w refl) ∙ ap (λ rs. settled m (found rs c.args.function.now w a)) c.in-Poll.ensures) c.poll_row.ensures
+
+pub returns-in-Streams : goal.returns-in-Streams
+returns-in-Streams c = IfOk-weaker c.stream_row.result _ _ (λ row says. λ v h.
+    let f = c.args.table.now in
+    let m = c.args.folder.now in
+    let handles = c.args.live.now.handles in
+    let a = plain_values c.args.args.now in
+    let w : View = record v { policy = c.args.policy.now; scratch = m; content = content_of (live_in f handles); held = is_held (live_in f handles) } in
+    let h' : HoldsTrees f w = record { trees = h.trees; holds = h.holds } in
+    says w h' refl ∙ ap (λ rs. settled m (found rs c.args.function.now w a)) c.in-Streams.ensures) c.stream_row.ensures
+
+pub returns-in-FilesystemTypes : goal.returns-in-FilesystemTypes
+returns-in-FilesystemTypes c = IfOk-weaker c.filesystem_row.result _ _ (λ row says. λ v h.
+    let f = c.args.table.now in
+    let m = c.args.folder.now in
+    let handles = c.args.live.now.handles in
+    let a = plain_values c.args.args.now in
+    let w : View = record v { policy = c.args.policy.now; scratch = m; content = content_of (live_in f handles); held = is_held (live_in f handles) } in
+    let h' : HoldsTrees f w = record { trees = h.trees; holds = h.holds } in
+    says w h' (sym h.holds.roots ∙ c.requires.trees) refl
+    ∙ ap (λ g. settled m (found filesystem_rows c.args.function.now (record w { held = g }) a)) (fun_ext (λ n. sym (seen_is_held f handles n)))
+    ∙ ap (λ rs. settled m (found rs c.args.function.now w a)) c.in-FilesystemTypes.ensures) c.filesystem_row.ensures

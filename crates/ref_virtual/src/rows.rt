@@ -1,0 +1,60 @@
+ghost use Rattle.std.specs.Prelude.{◌≡◌, ◌≤◌, IfOk, length};
+ghost use Rattle.wit_types.specs.PlainValue.{plain_values};
+ghost use Rattle.tree_table.specs.Tables.{count_of, tree_count};
+ghost use Rattle.reference_step.specs.Handles.{content_of, is_held};
+ghost use Rattle.reference_step.specs.Rows.{row_of};
+ghost use Rattle.reference_step.specs.State.{View};
+ghost use Rattle.ref_answers.specs.Seen.{live_in};
+ghost use Rattle.ref_files.specs.Views.{AreTexts, HoldsTrees};
+ghost use Rattle.ref_methods.specs.Held.{AreInside, AreWords};
+ghost use Rattle.ref_scratch.specs.Told.{told, settled};
+ghost use Rattle.ref_virtual.specs.Known.{AreBytes, AreOpen};
+
+use crate::filesystem::filesystem_row;
+use crate::streams::stream_row;
+use policy_data::Policy;
+use ref_answers::Row;
+use ref_live::LiveHandles;
+use ref_methods::{Interface, handleless_row, interface_at, poll_row};
+use ref_scratch::Folder;
+use std::alloc::Global;
+use tree_table::Table;
+use virt_base::NoMemory;
+use wit_types::Values;
+
+/// What a function does that is answered without the host, by the number of its interface and its WIT name.
+///
+/// There are so many trees, and so many files may be in the scratch folder, which is changed in place.
+pub fn row_of(
+    alloc: Global,
+    policy: &Policy,
+    table: &Table,
+    trees: u32,
+    folder: &mut Folder,
+    files: u32,
+    live: &LiveHandles,
+    interface: u32,
+    function: &str,
+    args: &Values,
+) -> Result<Row, NoMemory>
+    requires trees { tree_count table.now ≡ trees }
+    requires few { count_of table.now ≤ 65536 }
+    requires texts { AreTexts table.now }
+    requires nodes { AreInside (count_of table.now) live.now.handles }
+    requires open { AreOpen folder.old live.now.handles }
+    requires files { length folder.old.files ≡ files }
+    requires held { length folder.old.files ≡ live.now.files }
+    requires words { AreWords (plain_values args.now) }
+    requires bytes { AreBytes (plain_values args.now) }
+    ensures { IfOk result (λ row. (v : View) → HoldsTrees table.now v → told table.now row folder.new ≡ settled folder.old (row_of interface function.now (record v { policy = policy.now; scratch = folder.old; content = content_of (live_in table.now live.now.handles); held = is_held (live_in table.now live.now.handles) }) (plain_values args.now))) }
+{
+    match interface_at(interface) {
+        Interface::Rowless => Ok(Row::Traps),
+        Interface::Handleless(interface) => handleless_row(alloc, policy, interface, function),
+        Interface::Poll => poll_row(alloc, live, function, args),
+        Interface::Streams => stream_row(alloc, table, folder, live, function, args),
+        Interface::FilesystemTypes => {
+            filesystem_row(alloc, table, trees, folder, files, live, function, args)
+        }
+    }
+}
