@@ -42,9 +42,8 @@ fn call_for(alloc: Global, ty: Option<&WitType>) -> Result<HostCall, Fail> {
 }
 
 /// The answer in words: the value's line, or what came in place of one.
-fn asked(alloc: Global, host: &mut ScriptHost, ty: Option<&WitType>) -> Result<String, Fail> {
-    let call = call_for(alloc, ty)?;
-    match host.call(alloc, &call)? {
+fn in_words(alloc: Global, answer: Answer, ty: Option<&WitType>) -> Result<String, Fail> {
+    match answer {
         Answer::Value(value) => text_of(
             alloc,
             print_observation(alloc, &Observation::Returned(value), ty)?,
@@ -55,13 +54,41 @@ fn asked(alloc: Global, host: &mut ScriptHost, ty: Option<&WitType>) -> Result<S
     }
 }
 
+fn asked(alloc: Global, host: &mut ScriptHost, ty: Option<&WitType>) -> Result<String, Fail> {
+    let call = call_for(alloc, ty)?;
+    let answer = host.call(alloc, &call)?;
+    in_words(alloc, answer, ty)
+}
+
+fn asks(
+    rt: &impl Abort,
+    alloc: Global,
+    host: &mut ScriptHost,
+    ty: Option<&WitType>,
+    wanted: &str,
+) -> Result<(), Fail> {
+    let answer = asked(alloc, host, ty)?;
+    assert_eq!(rt; answer.trim(), wanted);
+    Ok(())
+}
+
+fn gives_one(
+    rt: &impl Abort,
+    alloc: Global,
+    ty: Option<&WitType>,
+    answer: &str,
+    wanted: &str,
+) -> Result<(), Fail> {
+    let mut host = host_with(alloc, answer)?;
+    asks(rt, alloc, &mut host, ty, wanted)?;
+    asks(rt, alloc, &mut host, ty, "ended")
+}
+
 /// Each row: `ANSWER => LINE` that an answer gives for a result of the type.
 fn gives(rt: &impl Abort, alloc: Global, ty: Option<&WitType>, rows: &str) -> Result<(), Fail> {
     for line in rows.lines() {
         if let Some((answer, wanted)) = line.trim().split_once(" => ") {
-            let mut host = host_with(alloc, answer)?;
-            assert_eq!(rt; asked(alloc, &mut host, ty)?.trim(), wanted, "{answer}");
-            assert_eq!(rt; asked(alloc, &mut host, ty)?.as_str(), "ended");
+            gives_one(rt, alloc, ty, answer, wanted)?;
         }
     }
     Ok(())
@@ -111,31 +138,36 @@ fn lines_of(alloc: Global, host: &ScriptHost) -> Result<String, Fail> {
     Ok(lines)
 }
 
-fn asks(rt: &impl Abort, alloc: Global, host: &mut ScriptHost, wanted: &str) -> Result<(), Fail> {
-    let answer = asked(alloc, host, Some(&WitType::U8))?;
-    assert_eq!(rt; answer.trim(), wanted);
-    Ok(())
-}
-
-// Each call takes the next answer, whatever it was; a drop takes none; all of them are seen in order.
+// Each call takes the next answer, whatever it was.
 #[test]
 fn answers_in_order(rt: HostRuntime) -> Result<(), Fail> {
     let answers = r#"{"value":1},"trap",{"value":"x"},{"value":2}"#;
     let mut host = host_with(rt.alloc(), answers)?;
+    for wanted in [r#"["return",1]"#, "trap", "bad", r#"["return",2]"#, "ended"] {
+        asks(&rt, rt.alloc(), &mut host, Some(&WitType::U8), wanted)?;
+    }
+    Ok(())
+}
+
+fn drops(alloc: Global, host: &mut ScriptHost) -> Result<(), Fail> {
     let resource = Resource {
-        interface: Text::from_str(rt.alloc(), "i")?,
-        name: Text::from_str(rt.alloc(), "r")?,
+        interface: Text::from_str(alloc, "i")?,
+        name: Text::from_str(alloc, "r")?,
     };
-    asks(&rt, rt.alloc(), &mut host, r#"["return",1]"#)?;
-    host.drop_handle(rt.alloc(), &resource, 4294967295)?;
-    asks(&rt, rt.alloc(), &mut host, "trap")?;
-    asks(&rt, rt.alloc(), &mut host, "bad")?;
-    asks(&rt, rt.alloc(), &mut host, r#"["return",2]"#)?;
-    asks(&rt, rt.alloc(), &mut host, "ended")?;
-    let call = r#"["call","i","f",[]]"#;
-    let drop = r#"["drop","i","r",4294967295]"#;
-    let wanted = format!(in rt.alloc(); "{call}\n{drop}\n{call}\n{call}\n{call}\n{call}\n")?;
+    host.drop_handle(alloc, &resource, 4294967295)?;
+    Ok(())
+}
+
+// A drop takes no answer, and is seen between the calls.
+#[test]
+fn seen_in_order(rt: HostRuntime) -> Result<(), Fail> {
+    let mut host = host_with(rt.alloc(), "\"trap\",{}")?;
+    asks(&rt, rt.alloc(), &mut host, None, "trap")?;
+    drops(rt.alloc(), &mut host)?;
+    asks(&rt, rt.alloc(), &mut host, None, "[\"return\"]")?;
+    let wanted =
+        "[\"call\",\"i\",\"f\",[]]\n[\"drop\",\"i\",\"r\",4294967295]\n[\"call\",\"i\",\"f\",[]]\n";
     let lines = lines_of(rt.alloc(), &host)?;
-    assert_eq!(rt; lines.as_str(), wanted.as_str());
+    assert_eq!(rt; lines.as_str(), wanted);
     Ok(())
 }

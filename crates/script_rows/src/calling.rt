@@ -107,11 +107,16 @@ pub fn holds(rt: &impl Abort, alloc: Global, ty: &WitType, rows: &str) -> Result
     for line in rows.lines() {
         let row = line.trim();
         if !row.is_empty() {
-            let (json, wanted) = row_of(row);
-            let wanted = wanted_of(alloc, wanted)?;
-            let line = printed(alloc, ty, json)?;
-            assert_eq!(rt; line.as_str(), wanted.as_str(), "{json}");
+            holds_row(rt, alloc, ty, row)?;
         }
     }
+    Ok(())
+}
+
+fn holds_row(rt: &impl Abort, alloc: Global, ty: &WitType, row: &str) -> Result<(), Fail> {
+    let (json, wanted) = row_of(row);
+    let wanted = wanted_of(alloc, wanted)?;
+    let line = printed(alloc, ty, json)?;
+    assert_eq!(rt; line.as_str(), wanted.as_str(), "{json}");
     Ok(())
 }

@@ -1,6 +1,6 @@
 //! Every kind of line.
 
-use crate::builders::{list, option, record};
+use crate::builders::{list, option};
 use crate::calling::text_of;
 use host_port::{HostCall, Observation, Resource};
 use script_lines::print_observation;
@@ -94,29 +94,6 @@ fn returned_bytes(rt: HostRuntime) -> Result<(), Fail> {
     let run = Observation::Returned(Some(Value::List(Values::Bytes(bytes))));
     let ty = list(rt.alloc(), WitType::U8)?;
     prints_as(&rt, rt.alloc(), &run, &ty, "[\"return\",[65,61,49,10]]\n")
-}
-
-// In place of what is not of its type stands null.
-#[test]
-fn misfits(rt: HostRuntime) -> Result<(), Fail> {
-    let truth = Observation::Returned(Some(Value::Bool(true)));
-    prints(&rt, rt.alloc(), &truth, None, "[\"return\",null]\n")?;
-    prints_as(&rt, rt.alloc(), &truth, &WitType::U8, "[\"return\",null]\n")
-}
-
-#[test]
-fn misfit_in_a_record(rt: HostRuntime) -> Result<(), Fail> {
-    let types = vec![in rt.alloc(); WitType::U8, WitType::Str]?;
-    let ty = record(rt.alloc(), &["b", "a"], types)?;
-    let items = vec![in rt.alloc(); Value::Int(1), Value::Bool(true)]?;
-    let pair = Observation::Returned(Some(Value::Record(Values::Each(items))));
-    prints_as(
-        &rt,
-        rt.alloc(),
-        &pair,
-        &ty,
-        "[\"return\",{\"a\":null,\"b\":1}]\n",
-    )
 }
 
 #[test]
