@@ -1,6 +1,6 @@
 pub mod HandleLemmas
 mod NameLemmas
-mod OtherLemmas
+pub mod OtherLemmas
 mod NodeLemmas
 mod PollLemmas
 mod InterfaceLemmas
