@@ -2,3 +2,4 @@ mod ToldLemmas
 mod BesideLemmas
 mod OtherLemmas
 mod ByteLemmas
+mod ActLemmas

@@ -14,6 +14,7 @@ ghost use Rattle.ref_live.specs.Lives.{is_open};
 ghost use Rattle.ref_methods.specs.Held.{AreInside, AreWords, node_inside};
 ghost use Rattle.ref_methods.specs.Methods.{method_row};
 ghost use Rattle.ref_scratch.specs.Told.{told, settled};
+ghost use Rattle.ref_virtual.specs.Acting.{Stays};
 ghost use Rattle.ref_virtual.specs.Known.{AreBytes, AreOpen, file_open};
 
 use crate::files::file_row;
@@ -108,7 +109,9 @@ pub fn filesystem_row(
     requires held { length folder.old.files ≡ live.now.files }
     requires words { AreWords (plain_values args.now) }
     requires bytes { AreBytes (plain_values args.now) }
-    ensures { IfOk result (λ row. (v : View) → HoldsTrees table.now v → length v.trees ≡ trees → v.content ≡ content_of (live_in table.now live.now.handles) → told table.now row folder.new ≡ settled folder.old (found filesystem_rows function.now (record v { scratch = folder.old; held = λ n. is_open live.now.handles n }) (plain_values args.now))) }
+    ensures row { IfOk result (λ row. (v : View) → HoldsTrees table.now v → length v.trees ≡ trees → v.content ≡ content_of (live_in table.now live.now.handles) → told table.now row folder.new ≡ settled folder.old (found filesystem_rows function.now (record v { scratch = folder.old; held = λ n. is_open live.now.handles n }) (plain_values args.now))) }
+    // Where it traps, the folder is as it was.
+    ensures still { IfOk result (λ row. (v : View) → HoldsTrees table.now v → length v.trees ≡ trees → v.content ≡ content_of (live_in table.now live.now.handles) → Stays row folder.new folder.old) }
 {
     match method_named(function) {
         Some(method) => {

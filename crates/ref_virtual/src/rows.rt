@@ -8,6 +8,7 @@ ghost use Rattle.ref_answers.specs.Seen.{live_in};
 ghost use Rattle.ref_files.specs.Views.{AreTexts, HoldsTrees};
 ghost use Rattle.ref_methods.specs.Held.{AreInside, AreWords};
 ghost use Rattle.ref_scratch.specs.Told.{told, settled};
+ghost use Rattle.ref_virtual.specs.Acting.{Stays};
 ghost use Rattle.ref_virtual.specs.Known.{AreBytes, AreOpen};
 
 use crate::filesystem::filesystem_row;
@@ -46,7 +47,9 @@ pub fn row_of(
     requires held { length folder.old.files ≡ live.now.files }
     requires words { AreWords (plain_values args.now) }
     requires bytes { AreBytes (plain_values args.now) }
-    ensures { IfOk result (λ row. (v : View) → HoldsTrees table.now v → told table.now row folder.new ≡ settled folder.old (row_of interface function.now (record v { policy = policy.now; scratch = folder.old; content = content_of (live_in table.now live.now.handles); held = is_held (live_in table.now live.now.handles) }) (plain_values args.now))) }
+    ensures row { IfOk result (λ row. (v : View) → HoldsTrees table.now v → told table.now row folder.new ≡ settled folder.old (row_of interface function.now (record v { policy = policy.now; scratch = folder.old; content = content_of (live_in table.now live.now.handles); held = is_held (live_in table.now live.now.handles) }) (plain_values args.now))) }
+    // Where it traps, the folder is as it was.
+    ensures still { IfOk result (λ row. (v : View) → HoldsTrees table.now v → Stays row folder.new folder.old) }
 {
     match interface_at(interface) {
         Interface::Rowless => Ok(Row::Traps),

@@ -13,6 +13,7 @@ ghost use Rattle.ref_files.specs.Views.{HoldsTrees};
 ghost use Rattle.ref_methods.specs.Held.{AreInside, AreWords, node_inside};
 ghost use Rattle.ref_methods.specs.Methods.{input_row, output_row, stream_row};
 ghost use Rattle.ref_scratch.specs.Told.{told, settled};
+ghost use Rattle.ref_virtual.specs.Acting.{Stays};
 ghost use Rattle.ref_virtual.specs.Known.{AreBytes, AreOpen, file_open};
 
 use crate::bytes::written_bytes;
@@ -181,7 +182,9 @@ pub fn stream_row(
     requires open { AreOpen folder.old live.now.handles }
     requires words { AreWords (plain_values args.now) }
     requires bytes { AreBytes (plain_values args.now) }
-    ensures { IfOk result (λ row. (v : View) → HoldsTrees table.now v → v.content ≡ content_of (live_in table.now live.now.handles) → told table.now row folder.new ≡ settled folder.old (found stream_rows function.now (record v { scratch = folder.old }) (plain_values args.now))) }
+    ensures row { IfOk result (λ row. (v : View) → HoldsTrees table.now v → v.content ≡ content_of (live_in table.now live.now.handles) → told table.now row folder.new ≡ settled folder.old (found stream_rows function.now (record v { scratch = folder.old }) (plain_values args.now))) }
+    // Where it traps, the folder is as it was.
+    ensures still { IfOk result (λ row. (v : View) → HoldsTrees table.now v → v.content ≡ content_of (live_in table.now live.now.handles) → Stays row folder.new folder.old) }
 {
     match stream_method_named(function) {
         Some(method) => {

@@ -10,11 +10,11 @@ use Rattle.ref_answers.specs.Seen.{live_in}
 use Rattle.ref_answers.proofs.SeenLaws.{seen_is_held}
 use Rattle.ref_files.specs.Views.{HoldsTrees}
 use Rattle.ref_scratch.specs.Told.{settled}
-use Rattle.ref_virtual.proofs.ToldLemmas.{told_same}
+use Rattle.ref_virtual.proofs.ToldLemmas.{told_same, same_stays}
 use Rattle.ref_virtual.proofs.rows.row_of.Goals as goal
 
-pub returns-in-Rowless : goal.returns-in-Rowless
-returns-in-Rowless c = λ v h.
+pub returns-in-Rowless-clause-row : goal.returns-in-Rowless-clause-row
+returns-in-Rowless-clause-row c = λ v h.
     let f = c.args.table.now in
     let m = c.args.folder.now in
     let handles = c.args.live.now.handles in
@@ -22,8 +22,8 @@ returns-in-Rowless c = λ v h.
     let w : View = record v { policy = c.args.policy.now; scratch = m; content = content_of (live_in f handles); held = is_held (live_in f handles) } in
     ap (λ rs. settled m (found rs c.args.function.now w a)) c.in-Rowless.ensures
 
-pub returns-in-Handleless : goal.returns-in-Handleless
-returns-in-Handleless c = IfOk-weaker c.handleless_row.result _ _ (λ row says. λ v h.
+pub returns-in-Handleless-clause-row : goal.returns-in-Handleless-clause-row
+returns-in-Handleless-clause-row c = IfOk-weaker c.handleless_row.result _ _ (λ row says. λ v h.
     let f = c.args.table.now in
     let m = c.args.folder.now in
     let handles = c.args.live.now.handles in
@@ -31,8 +31,8 @@ returns-in-Handleless c = IfOk-weaker c.handleless_row.result _ _ (λ row says. 
     let w : View = record v { policy = c.args.policy.now; scratch = m; content = content_of (live_in f handles); held = is_held (live_in f handles) } in
     told_same f m row _ (says f w a) ∙ ap (λ rs. settled m (found rs c.args.function.now w a)) c.in-Handleless.ensures) c.handleless_row.ensures
 
-pub returns-in-Poll : goal.returns-in-Poll
-returns-in-Poll c = IfOk-weaker c.poll_row.result _ _ (λ row says. λ v h.
+pub returns-in-Poll-clause-row : goal.returns-in-Poll-clause-row
+returns-in-Poll-clause-row c = IfOk-weaker c.poll_row.result _ _ (λ row says. λ v h.
     let f = c.args.table.now in
     let m = c.args.folder.now in
     let handles = c.args.live.now.handles in
@@ -40,18 +40,18 @@ returns-in-Poll c = IfOk-weaker c.poll_row.result _ _ (λ row says. λ v h.
     let w : View = record v { policy = c.args.policy.now; scratch = m; content = content_of (live_in f handles); held = is_held (live_in f handles) } in
     told_same f m row _ (says f w refl) ∙ ap (λ rs. settled m (found rs c.args.function.now w a)) c.in-Poll.ensures) c.poll_row.ensures
 
-pub returns-in-Streams : goal.returns-in-Streams
-returns-in-Streams c = IfOk-weaker c.stream_row.result _ _ (λ row says. λ v h.
+pub returns-in-Streams-clause-row : goal.returns-in-Streams-clause-row
+returns-in-Streams-clause-row c = IfOk-weaker c.stream_row.result _ _ (λ row says. λ v h.
     let f = c.args.table.now in
     let m = c.args.folder.now in
     let handles = c.args.live.now.handles in
     let a = plain_values c.args.args.now in
     let w : View = record v { policy = c.args.policy.now; scratch = m; content = content_of (live_in f handles); held = is_held (live_in f handles) } in
     let h' : HoldsTrees f w = record { trees = h.trees; holds = h.holds } in
-    says w h' refl ∙ ap (λ rs. settled m (found rs c.args.function.now w a)) c.in-Streams.ensures) c.stream_row.ensures
+    says w h' refl ∙ ap (λ rs. settled m (found rs c.args.function.now w a)) c.in-Streams.ensures) c.stream_row.ensures.row
 
-pub returns-in-FilesystemTypes : goal.returns-in-FilesystemTypes
-returns-in-FilesystemTypes c = IfOk-weaker c.filesystem_row.result _ _ (λ row says. λ v h.
+pub returns-in-FilesystemTypes-clause-row : goal.returns-in-FilesystemTypes-clause-row
+returns-in-FilesystemTypes-clause-row c = IfOk-weaker c.filesystem_row.result _ _ (λ row says. λ v h.
     let f = c.args.table.now in
     let m = c.args.folder.now in
     let handles = c.args.live.now.handles in
@@ -60,4 +60,31 @@ returns-in-FilesystemTypes c = IfOk-weaker c.filesystem_row.result _ _ (λ row s
     let h' : HoldsTrees f w = record { trees = h.trees; holds = h.holds } in
     says w h' (sym h.holds.roots ∙ c.requires.trees) refl
     ∙ ap (λ g. settled m (found filesystem_rows c.args.function.now (record w { held = g }) a)) (fun_ext (λ n. sym (seen_is_held f handles n)))
-    ∙ ap (λ rs. settled m (found rs c.args.function.now w a)) c.in-FilesystemTypes.ensures) c.filesystem_row.ensures
+    ∙ ap (λ rs. settled m (found rs c.args.function.now w a)) c.in-FilesystemTypes.ensures) c.filesystem_row.ensures.row
+
+pub returns-in-Rowless-clause-still : goal.returns-in-Rowless-clause-still
+returns-in-Rowless-clause-still c = λ v h. refl
+
+pub returns-in-Handleless-clause-still : goal.returns-in-Handleless-clause-still
+returns-in-Handleless-clause-still c = IfOk-weaker c.handleless_row.result _ _ (λ row says. λ v h. same_stays row c.args.folder.now) c.handleless_row.ensures
+
+pub returns-in-Poll-clause-still : goal.returns-in-Poll-clause-still
+returns-in-Poll-clause-still c = IfOk-weaker c.poll_row.result _ _ (λ row says. λ v h. same_stays row c.args.folder.now) c.poll_row.ensures
+
+pub returns-in-Streams-clause-still : goal.returns-in-Streams-clause-still
+returns-in-Streams-clause-still c = IfOk-weaker c.stream_row.result _ _ (λ row says. λ v h.
+    let f = c.args.table.now in
+    let m = c.args.folder.now in
+    let handles = c.args.live.now.handles in
+    let w : View = record v { policy = c.args.policy.now; scratch = m; content = content_of (live_in f handles); held = is_held (live_in f handles) } in
+    let h' : HoldsTrees f w = record { trees = h.trees; holds = h.holds } in
+    says w h' refl) c.stream_row.ensures.still
+
+pub returns-in-FilesystemTypes-clause-still : goal.returns-in-FilesystemTypes-clause-still
+returns-in-FilesystemTypes-clause-still c = IfOk-weaker c.filesystem_row.result _ _ (λ row says. λ v h.
+    let f = c.args.table.now in
+    let m = c.args.folder.now in
+    let handles = c.args.live.now.handles in
+    let w : View = record v { policy = c.args.policy.now; scratch = m; content = content_of (live_in f handles); held = is_held (live_in f handles) } in
+    let h' : HoldsTrees f w = record { trees = h.trees; holds = h.holds } in
+    says w h' (sym h.holds.roots ∙ c.requires.trees) refl) c.filesystem_row.ensures.still

@@ -1,14 +1,17 @@
-use Rattle.std.proofs.Common.{sym, ap, ◌∙◌}
+use Rattle.std.proofs.Common.{refl, sym, ap, ◌∙◌}
 use Rattle.std.proofs.lemmas.Result.{IfOk-weaker}
 use Rattle.wit_types.specs.PlainValue.{plain_values}
 use Rattle.reference_step.specs.Values.{nth, id_in}
+use Rattle.ref_answers.specs.Seen.{content_in}
 use Rattle.ref_methods.specs.Methods.{stream_row}
 use Rattle.ref_methods.proofs.HandleLemmas.{looked}
 use Rattle.ref_scratch.specs.Told.{settled}
+use Rattle.ref_virtual.proofs.ActLemmas.{stream_acts}
+use Rattle.ref_virtual.proofs.ToldLemmas.{stays}
 use Rattle.ref_virtual.proofs.streams.stream_row.Goals as goal
 
-pub returns-in-Some : goal.returns-in-Some
-returns-in-Some c = IfOk-weaker c.method_row.result _ _ (λ row says. λ v h e.
+pub returns-in-Some-clause-row : goal.returns-in-Some-clause-row
+returns-in-Some-clause-row c = IfOk-weaker c.method_row.result _ _ (λ row says. λ v h e.
     let m = c.args.folder.now in
     let a = plain_values c.args.args.now in
     let w = record v { scratch = m } in
@@ -16,7 +19,19 @@ returns-in-Some c = IfOk-weaker c.method_row.result _ _ (λ row says. λ v h e.
     ∙ ap (settled m) (ap (λ k. stream_row c.in-Some.method w k a) (looked c.args.table.now w c.args.live.now.handles (id_in (nth 0 a)) c.content_at-content.result e c.content_at-content.ensures)
     ∙ sym (c.in-Some.ensures w a))) c.method_row.ensures
 
-pub returns-in-None : goal.returns-in-None
-returns-in-None c = λ v h e.
+pub returns-in-None-clause-row : goal.returns-in-None-clause-row
+returns-in-None-clause-row c = λ v h e.
     let m = c.args.folder.now in
     ap (settled m) (sym (c.in-None.ensures (record v { scratch = m }) (plain_values c.args.args.now)))
+
+pub returns-in-Some-clause-still : goal.returns-in-Some-clause-still
+returns-in-Some-clause-still c = IfOk-weaker c.method_row.result _ _ (λ row says. λ v h e.
+    let f = c.args.table.now in
+    let m = c.args.folder.now in
+    let a = plain_values c.args.args.now in
+    let w = record v { scratch = m } in
+    let at = content_in f c.content_at-content.result in
+    stays f row _ m (stream_row c.in-Some.method w at a) (says v h) (stream_acts w a c.in-Some.method at)) c.method_row.ensures
+
+pub returns-in-None-clause-still : goal.returns-in-None-clause-still
+returns-in-None-clause-still c = λ v h e. refl
