@@ -1,0 +1,13 @@
+use Rattle.std.proofs.Common.{ap, ◌∙◌}
+use Rattle.host_port.specs.declared.call.Resource.{Resource}
+use Rattle.host_port.specs.Hosts.{drops}
+use Rattle.ref_drops.proofs.LossLemmas.{on_map, loses_theirs, loses_ours}
+use Rattle.ref_drops.proofs.dropping.lose.Goals as goal
+
+pub returns-in_ok-resource-in-Some-clause-loss : goal.returns-in_ok-resource-in-Some-clause-loss
+returns-in_ok-resource-in-Some-clause-loss g c = on_map c.drop_handle.result _ _ (λ e f r.
+    loses_theirs g.H.Host.step f r c.args.listed.now c.args.live.now c.remove.new.self c.args.id c.args.kind c.remove.ensures c.args.content c.in-Some.theirs (g.H.Host.kept c.args.inner.now) (g.H.Host.kept c.drop_handle.new.self) c.in-Some.ensures.some
+    (e ∙ ap (λ (x : Resource). drops g.H.Host.step (g.H.Host.kept c.args.inner.now) x c.in-Some.theirs) c.in_ok-resource-in-Some.ensures)) c.drop_handle.ensures
+
+pub returns-in-None-clause-loss : goal.returns-in-None-clause-loss
+returns-in-None-clause-loss g c = λ f r. loses_ours g.H.Host.step f r c.args.listed.now c.args.live.now c.remove.new.self c.args.id c.args.kind c.remove.ensures c.args.content (g.H.Host.kept c.args.inner.now) (c.in-None.ensures.none f)
