@@ -1,0 +1,2 @@
+mod OfferLemmas
+mod OfferedLemmas
