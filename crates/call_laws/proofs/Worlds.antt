@@ -18,12 +18,12 @@ use Rattle.instance_state.specs.Shown.{config_of}
 use Rattle.instance_values.specs.Passed.{IsLoweredAs}
 use Rattle.call_laws.specs.Configs.{config_or_rest, configs_of, world_of, InstancesAct, Begins, StoresBegin}
 
-same_place : (is : List Instance) (k : ℕ) (i j : Instance) → slice_get is k ≡ Some i → slice_get (set is k j) k ≡ Some j
+pub same_place : (is : List Instance) (k : ℕ) (i j : Instance) → slice_get is k ≡ Some i → slice_get (set is k j) k ≡ Some j
 same_place [] k i j h = absurd (cc)
 same_place (x ∷ is) zero i j h = refl
 same_place (x ∷ is) (suc k) i j h = same_place is k i j h
 
-other_place : (is : List Instance) (k m : ℕ) (j : Instance) → (m == k) ≡ false → slice_get (set is k j) m ≡ slice_get is m
+pub other_place : (is : List Instance) (k m : ℕ) (j : Instance) → (m == k) ≡ false → slice_get (set is k j) m ≡ slice_get is m
 other_place [] k m j h = refl
 other_place (x ∷ is) zero zero j h = absurd (let e : (zero == zero) ≡ true = grind (arith, nat_tests) in cc)
 other_place (x ∷ is) zero (suc m) j h = refl
@@ -31,7 +31,7 @@ other_place (x ∷ is) (suc k) zero j h = refl
 other_place (x ∷ is) (suc k) (suc m) j h = other_place is k m j (let e : (m == k) ≡ false = grind (arith, nat_tests) in e)
 
 module _ (is : List Instance) (k : ℕ) (i j : Instance) (found : slice_get is k ≡ Some i) where
-  config_at : configs_of is k ≡ config_of i
+  pub config_at : configs_of is k ≡ config_of i
   config_at = ap config_or_rest found
 
   changed_at : (m : ℕ) → pick (m == k) (config_of j) (configs_of is m) ≡ configs_of (set is k j) m
@@ -41,10 +41,10 @@ module _ (is : List Instance) (k : ℕ) (i j : Instance) (found : slice_get is k
       go true e = let same : m ≡ k = grind (arith, nat_tests) in sym (ap config_or_rest (ap (slice_get (set is k j)) same ∙ same_place is k i j found))
       go false e = sym (ap config_or_rest (other_place is k m j e))
 
-  changed : {S : Type 0} (s : S) → with_config (world_of is s) k (config_of j) ≡ world_of (set is k j) s
+  pub changed : {S : Type 0} (s : S) → with_config (world_of is s) k (config_of j) ≡ world_of (set is k j) s
   changed {S} s = ap (λ (f : ℕ → Config ℕ). let v : World S = record { configs = f; below = s } in v) (fun_ext changed_at)
 
-  on_does : {S A : Type 0} (s : S) (n : ℕ) (op : Config ℕ → Option (Local ℕ A)) (a : A) → op (config_of i) ≡ Some (gives_in a (config_of j)) → on k op (world_of is s) n ≡ Next [] n (world_of (set is k j) s) a
+  pub on_does : {S A : Type 0} (s : S) (n : ℕ) (op : Config ℕ → Option (Local ℕ A)) (a : A) → op (config_of i) ≡ Some (gives_in a (config_of j)) → on k op (world_of is s) n ≡ Next [] n (world_of (set is k j) s) a
   unfolding on
   on_does s n op a h = ap (λ c. on_end (world_of is s) k n (op c)) config_at ∙ ap (on_end (world_of is s) k n) h ∙ ap (λ w. Next [] n w a) (changed s)
 

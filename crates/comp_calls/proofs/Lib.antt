@@ -1,1 +1,9 @@
 pub mod Working
+pub mod Instances
+pub mod Following
+pub mod Resuming
+pub mod Leaving
+pub mod FlatCounts
+pub mod Planned
+pub mod Awaits
+pub mod Insides

@@ -3,6 +3,8 @@
 ghost use Rattle.std.specs.Prelude.{◌≡◌, ◌≤◌, ◌<◌, ◌+◌, nat_eq, OnOk};
 ghost use Rattle.indexmap.specs.IndexMap.{get};
 ghost use Rattle.comp_calls.specs.Work.{work};
+ghost use Rattle.comp_calls.specs.Leads.{at};
+ghost use Rattle.comp_calls.specs.Functions.{HasDestroyed};
 ghost use Rattle.comp_calls.specs.Resources.{IsDropped, destroying};
 
 use crate::world::World;
@@ -124,6 +126,7 @@ impl<H: Host> World<H> {
     ) -> Result<Flow, Stop>
         ensures frames { OnOk result (self.new.frames.items ≡ self.old.frames.items) }
         ensures work { OnOk result (work self.new.budget self.new.frames.items ≡ work self.old.budget self.old.frames.items) }
+        ensures leads { HasDestroyed H.step (at H.kept self.old) number visit result (at H.kept self.new) }
     {
         match visit {
             Visit::Own => {}

@@ -2,6 +2,8 @@
 
 ghost use Rattle.std.specs.Prelude.{◌≡◌, ◌≤◌, ◌<◌, ◌+◌, OnOk};
 ghost use Rattle.comp_calls.specs.Work.{work};
+ghost use Rattle.comp_calls.specs.Leads.{at};
+ghost use Rattle.comp_calls.specs.Functions.{GoesBack, HasReturned};
 
 use crate::world::World;
 use call_frames::{Back, Caller, Depth, Due, Flow, Purpose, Served, Service, Stop, lift_in};
@@ -155,6 +157,7 @@ impl<H: Host> World<H> {
     /// A post-return is over.
     pub(crate) fn returned(&mut self, number: u32, back: Back) -> Result<Flow, Stop>
         ensures work { OnOk result (work self.new.budget self.new.frames.items ≡ work self.old.budget self.old.frames.items) }
+        ensures leads { HasReturned H.step (at H.kept self.old) number back result (at H.kept self.new) }
     {
         let Some(instance) = self.instances.get_mut(number as usize) else {
             return Err(Stop::Trapped);
@@ -166,6 +169,7 @@ impl<H: Host> World<H> {
 
     fn go_back(&mut self, back: Back) -> Result<Flow, Stop>
         ensures work { OnOk result (work self.new.budget self.new.frames.items ≡ work self.old.budget self.old.frames.items) }
+        ensures leads { GoesBack H.step (at H.kept self.old) back result (at H.kept self.new) }
     {
         match back {
             Back::Outside(value) => Ok(Flow::Done(Some(value))),

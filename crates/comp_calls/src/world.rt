@@ -1,8 +1,11 @@
 #![tactic(auto, using(crate::proofs::Working::works))]
 
-ghost use Rattle.std.specs.Prelude.{◌≡◌, ◌≤◌, ◌<◌, ◌+◌, ◌++◌, ◌∷◌, [], OnOk, IfOk};
+ghost use Rattle.std.specs.Prelude.{◌≡◌, ◌≤◌, ◌<◌, ◌+◌, ◌++◌, ◌∷◌, [], reverse, OnOk, IfOk};
 ghost use Rattle.call_frames.specs.Steps.{TakesStep, BeginsCall};
+ghost use Rattle.comp_worlds.specs.Locals.{enter as opens_call, exit as closes_call};
 ghost use Rattle.comp_calls.specs.Work.{work, weight};
+ghost use Rattle.comp_calls.specs.Leads.{at};
+ghost use Rattle.comp_calls.specs.Functions.{IsInnermost, Does, Resumes, CodeBegins};
 
 use call_frames::{Depth, Flow, Frame, Group, Purpose, Stop};
 use core_interp::Pause;
@@ -100,6 +103,7 @@ impl<H: Host> World<H> {
     ) -> Result<(), Stop>
         ensures frames { OnOk result (self.new.frames.items ≡ self.old.frames.items ++ record { instance = number; purpose = purpose } ∷ []) }
         ensures work { OnOk result (work self.new.budget self.new.frames.items ≡ work self.old.budget self.old.frames.items + weight purpose) }
+        ensures leads { CodeBegins H.step (at H.kept self.old) number code args.now depth purpose result (at H.kept self.new) }
     {
         let Some(instance) = self.instances.get_mut(number as usize) else {
             return Err(Stop::Trapped);
@@ -121,7 +125,10 @@ impl<H: Host> World<H> {
         }
     }
 
-    pub(crate) fn innermost(&self) -> Result<u32, Stop> {
+    /// The instance of the innermost core code.
+    pub(crate) fn innermost(&self) -> Result<u32, Stop>
+        ensures { IsInnermost (reverse self.now.frames.items) result }
+    {
         match self.frames.last() {
             Some(frame) => Ok(frame.instance),
             None => Err(Stop::Trapped),
@@ -171,6 +178,7 @@ impl<H: Host> World<H> {
         ensures frames { OnOk result (self.new.frames.items ≡ self.old.frames.items) }
         ensures host { OnOk result (self.new.host ≡ self.old.host) }
         ensures work { OnOk result (work self.new.budget self.new.frames.items ≡ work self.old.budget self.old.frames.items) }
+        ensures leads { Resumes H.step (at H.kept self.old) results.now result (at H.kept self.new) }
     {
         let number = self.innermost()?;
         let Some(instance) = self.instances.get_mut(number as usize) else {
@@ -184,6 +192,7 @@ impl<H: Host> World<H> {
     pub(crate) fn enter(&mut self, number: u32) -> Result<(), Stop>
         ensures frames { OnOk result (self.new.frames.items ≡ self.old.frames.items) }
         ensures work { OnOk result (work self.new.budget self.new.frames.items ≡ work self.old.budget self.old.frames.items) }
+        ensures does { Does opens_call number (at H.kept self.old) result (at H.kept self.new) }
     {
         match self.instances.get_mut(number as usize) {
             None => Err(Stop::Trapped),
@@ -195,6 +204,7 @@ impl<H: Host> World<H> {
     pub(crate) fn exit(&mut self, number: u32) -> Result<(), Stop>
         ensures frames { OnOk result (self.new.frames.items ≡ self.old.frames.items) }
         ensures work { OnOk result (work self.new.budget self.new.frames.items ≡ work self.old.budget self.old.frames.items) }
+        ensures does { Does closes_call number (at H.kept self.old) result (at H.kept self.new) }
     {
         match self.instances.get_mut(number as usize) {
             None => Err(Stop::Trapped),
