@@ -7,3 +7,4 @@ pub mod FlatCounts
 pub mod Planned
 pub mod Awaits
 pub mod Insides
+pub mod Serves

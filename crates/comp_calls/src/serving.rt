@@ -3,7 +3,7 @@
 ghost use Rattle.std.specs.Prelude.{◌≡◌, ◌≤◌, ◌<◌, ◌+◌, OnOk};
 ghost use Rattle.comp_calls.specs.Work.{work};
 ghost use Rattle.comp_calls.specs.Leads.{at};
-ghost use Rattle.comp_calls.specs.Functions.{GoesBack, HasReturned};
+ghost use Rattle.comp_calls.specs.Functions.{GoesBack, HasReturned, IsLeft, PostReturns, Serving};
 
 use crate::world::World;
 use call_frames::{Back, Caller, Depth, Due, Flow, Purpose, Served, Service, Stop, lift_in};
@@ -46,6 +46,7 @@ impl<H: Host> World<H> {
         flat: &CoreValues,
     ) -> Result<Flow, Stop>
         ensures work { OnOk result (work self.new.budget self.new.frames.items ≡ work self.old.budget self.old.frames.items + 1) }
+        ensures leads { Serving H.step (at H.kept self.old) service flat.now result (at H.kept self.new) }
     {
         let (number, code, depth) = (service.instance, service.lifting.code, service.depth);
         self.begin_code(alloc, number, code, flat, depth, Purpose::Serves(service))?;
@@ -116,6 +117,7 @@ impl<H: Host> World<H> {
     /// An answered call is left: its post-return runs, if there is one.
     pub(crate) fn leave(&mut self, alloc: Global, due: Due, back: Back) -> Result<Flow, Stop>
         ensures less { OnOk result (work self.new.budget self.new.frames.items ≤ work self.old.budget self.old.frames.items) }
+        ensures leads { IsLeft H.step (at H.kept self.old) due back result (at H.kept self.new) }
     {
         match due {
             Due::Host => self.go_back(back),
@@ -137,6 +139,7 @@ impl<H: Host> World<H> {
         back: Back,
     ) -> Result<Flow, Stop>
         ensures less { OnOk result (work self.new.budget self.new.frames.items ≤ work self.old.budget self.old.frames.items) }
+        ensures leads { PostReturns H.step (at H.kept self.old) served post back result (at H.kept self.new) }
     {
         let depth = self.begin_call(served.depth.calls)?;
         let Some(instance) = self.instances.get_mut(served.instance as usize) else {

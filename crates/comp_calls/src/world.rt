@@ -54,6 +54,7 @@ impl<H: Host> World<H> {
         ensures budget { TakesStep self.old.budget self.new.budget result }
         ensures frames { OnOk result (self.new.frames.items ≡ self.old.frames.items) }
         ensures same { OnOk result (self.new ≡ record self.old { budget = self.new.budget }) }
+        ensures host { self.new.host ≡ self.old.host }
     {
         if self.budget == 0 {
             return Err(Stop::Spent);
@@ -82,6 +83,7 @@ impl<H: Host> World<H> {
         ensures begins { BeginsCall self.old.budget calls self.new.budget result }
         ensures frames { OnOk result (self.new.frames.items ≡ self.old.frames.items) }
         ensures same { OnOk result (self.new ≡ record self.old { budget = self.new.budget }) }
+        ensures host { self.new.host ≡ self.old.host }
     {
         self.take_step()?;
         match Depth::above(calls) {
