@@ -3,7 +3,7 @@ use Rattle.std.proofs.Common.{◌≡◌, ℕ, List, [], ◌∷◌, ◌++◌, set
 use Rattle.std.specs.Prelude.{Result, slice_get, option_map}
 use Rattle.core_store.specs.State.{State}
 use Rattle.core_store.specs.declared.value.CoreValue.{CoreValue}
-use Rattle.core_eval.specs.Scene.{scene_of}
+use Rattle.core_store.specs.Scene.{scene_of}
 use Rattle.wit_types.specs.PlainValue.{PlainValue, plain_value}
 use Rattle.host_port.specs.Calls.{PlainObservation}
 use Rattle.host_port.specs.Hosts.{HostStep, Kept}
@@ -26,7 +26,7 @@ use Rattle.call_laws.specs.Laws.{nested}
 use Rattle.call_laws.proofs.Begins.{begun}
 use Rattle.call_laws.specs.Configs.{config_or_rest, configs_of, world_of}
 use Rattle.call_laws.proofs.Worlds.{config_at, changed}
-use Rattle.frame_laws.specs.Standing.{AllStand}
+use Rattle.call_laws.specs.Standing.{AllStand}
 use Rattle.comp_calls.specs.Fits.{scenes_of, Fits}
 use Rattle.comp_calls.specs.Waiting.{AllAwait, AllRoomy}
 use Rattle.comp_calls.specs.Leads.{Moment, stores_of, calls_of, so_far, Same, Waits, GoesOn, IsDone, Ends, Leads}

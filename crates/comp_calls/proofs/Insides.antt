@@ -3,7 +3,7 @@ use Rattle.std.proofs.Common.{◌≡◌, ◌≤◌, ◌<◌, ◌-◌, ◌++◌, 
 use Rattle.std.specs.Prelude.{slice_get}
 use Rattle.std.proofs.lemmas.List.{reverse-reverse, reverse-append}
 use Rattle.std.proofs.lemmas.Option.{slice_get_within}
-use Rattle.core_eval.specs.Scene.{Scene}
+use Rattle.core_store.specs.Scene.{Scene}
 use Rattle.core_store.specs.declared.value.CoreValue.{CoreValue}
 use Rattle.virt_base.specs.declared.fault.Trap.{Trap as IsTrap}
 use Rattle.core_interp.specs.Session.{awaited}
@@ -16,7 +16,7 @@ use Rattle.instance_state.specs.declared.instance.Instance.{Instance}
 use Rattle.call_frames.specs.declared.frames.Frame.{Frame}
 use Rattle.call_frames.specs.declared.end.Stop.{Stop}
 use Rattle.call_frames.specs.declared.end.Stop.TheVariants as stops
-use Rattle.frame_laws.specs.Standing.{Calls}
+use Rattle.call_laws.specs.Standing.{Calls}
 use Rattle.comp_calls.specs.Fits.{scenes_of}
 use Rattle.comp_calls.specs.Waiting.{AllAwait}
 use Rattle.comp_calls.specs.Leads.{Moment, calls_of, Waits}

@@ -8,13 +8,13 @@ use Rattle.std.proofs.lemmas.List.{reverse-reverse, reverse-append}
 use Rattle.std.proofs.lemmas.Option.{slice_get-map}
 use Rattle.core_memory.specs.Linear.{Linear}
 use Rattle.core_store.specs.State.{memory_at}
-use Rattle.core_eval.specs.Scene.{Scene, scene_of}
+use Rattle.core_store.specs.Scene.{Scene, scene_of}
 use Rattle.core_runs.specs.declared.calls.CoreCall.{CoreCall}
 use Rattle.comp_worlds.specs.Calls.{pick}
 use Rattle.instance_state.specs.declared.instance.Instance.{Instance}
 use Rattle.call_laws.specs.Configs.{config_or_rest}
 use Rattle.call_laws.proofs.Worlds.{same_place, other_place}
-use Rattle.frame_laws.specs.Standing.{with_calls, with_store}
+use Rattle.call_laws.specs.Standing.{with_calls, with_store}
 use Rattle.comp_calls.specs.Fits.{scenes_of}
 use Rattle.comp_calls.specs.Leads.{calls_in, stores_of, calls_of, sizes_of, AreStill, OneGoes}
 

@@ -4,7 +4,7 @@ use Rattle.std.specs.Prelude.{Result, slice_get}
 use Rattle.std.proofs.lemmas.List.{reverse-reverse}
 use Rattle.core_store.specs.State.{State}
 use Rattle.core_store.specs.declared.value.CoreValue.{CoreValue}
-use Rattle.core_eval.specs.Scene.{Scene}
+use Rattle.core_store.specs.Scene.{Scene}
 use Rattle.wit_types.specs.PlainValue.{PlainValue}
 use Rattle.host_port.specs.Hosts.{HostStep}
 use Rattle.comp_worlds.specs.Acts.{Next, seen_before, Act, ◌>>◌, gives}
@@ -29,10 +29,10 @@ use Rattle.call_frames.specs.declared.frames.Visit.{Visit}
 use Rattle.call_frames.specs.declared.frames.Visit.TheVariants as visits
 use Rattle.wit_types.specs.declared.value.Value.{Value}
 use Rattle.wit_types.specs.PlainValue.{plain_value}
-use Rattle.frame_laws.specs.Shown.{back_of, visits_of}
+use Rattle.call_laws.specs.Shown.{back_of, visits_of}
 use Rattle.call_laws.specs.Configs.{world_of}
-use Rattle.code_laws.specs.Laws.{nested}
-use Rattle.frame_laws.specs.Standing.{Calls, AllStand}
+use Rattle.call_laws.specs.CodeLaws.{nested}
+use Rattle.call_laws.specs.Standing.{Calls, AllStand}
 use Rattle.comp_calls.specs.Fits.{scenes_of}
 use Rattle.comp_calls.specs.Waiting.{due_back, AllAwait}
 use Rattle.comp_calls.specs.Leads.{Moment, stores_of, calls_of, so_far, Same, Waits, IsDone, Leads}

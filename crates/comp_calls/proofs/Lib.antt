@@ -8,3 +8,4 @@ pub mod Planned
 pub mod Awaits
 pub mod Insides
 pub mod Serves
+pub mod Asking

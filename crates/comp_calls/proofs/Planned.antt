@@ -4,7 +4,7 @@ use Rattle.std.specs.Prelude.{slice_get}
 use Rattle.core_memory.specs.Linear.{Linear}
 use Rattle.core_store.specs.State.{State, memory_at}
 use Rattle.core_store.specs.declared.value.CoreValue.{CoreValue}
-use Rattle.core_eval.specs.Words.{words}
+use Rattle.core_store.specs.Words.{words}
 use Rattle.wit_types.specs.PlainValue.{PlainValue}
 use Rattle.abi_layout.specs.Storing.{Step, Ask, Write, Place, Refuse, FlatItem, Number, AnswerTo, Lowered}
 use Rattle.abi_store.specs.Plan.{Halt, Asks, Ends, Traps, Due, Nothing, goes_on, number_in}

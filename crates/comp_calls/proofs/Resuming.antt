@@ -6,7 +6,7 @@ use Rattle.std.proofs.lemmas.Bool.Decides.{nat_tests}
 use Rattle.std.proofs.lemmas.List.{reverse-append}
 use Rattle.core_store.specs.State.{State}
 use Rattle.core_store.specs.declared.value.CoreValue.{CoreValue}
-use Rattle.core_eval.specs.Scene.{Scene, scene_of, results_at}
+use Rattle.core_store.specs.Scene.{Scene, scene_of, results_at}
 use Rattle.core_interp.specs.Session.{IsCallable, awaited, resumed}
 use Rattle.core_memory.specs.declared.fault.StoreFault.{StoreFault}
 use Rattle.core_memory.specs.declared.fault.StoreFault.TheVariants as faults
@@ -35,12 +35,12 @@ use Rattle.call_frames.specs.declared.frames.Frame.{Frame}
 use Rattle.call_frames.specs.declared.frames.Purpose.{Purpose}
 use Rattle.call_laws.specs.Configs.{configs_of, world_of}
 use Rattle.call_laws.proofs.Worlds.{same_place, config_at, changed}
-use Rattle.code_laws.specs.Laws.{nested, HasBegun}
-use Rattle.code_laws.proofs.Coding.{code_begins}
-use Rattle.frame_laws.specs.Shown.{purpose_of}
-use Rattle.frame_laws.specs.Standing.{Calls, with_calls, with_store as with_state, AllStand, Goes}
-use Rattle.frame_laws.specs.Laws.{GoOn}
-use Rattle.frame_laws.proofs.Backs.{results_come, code_begins_inside}
+use Rattle.call_laws.specs.CodeLaws.{nested, HasBegun}
+use Rattle.call_laws.proofs.Coding.{code_begins}
+use Rattle.call_laws.specs.Shown.{purpose_of}
+use Rattle.call_laws.specs.Standing.{Calls, with_calls, with_store as with_state, AllStand, Goes}
+use Rattle.call_laws.specs.FrameLaws.{GoOn}
+use Rattle.call_laws.proofs.Backs.{results_come, code_begins_inside}
 use Rattle.comp_calls.specs.Fits.{scenes_of, answers_in, answers_of, Fits}
 use Rattle.comp_calls.specs.Waiting.{due_behind, instance_of, WillAnswer, FrameFits, AllAwait, AllRoomy}
 use Rattle.comp_calls.specs.Leads.{Moment, stores_of, calls_of, sizes_of, so_far, Same, OneGoes, Waits, GoesOn, Ends}

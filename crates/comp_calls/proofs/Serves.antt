@@ -3,7 +3,7 @@ use Rattle.std.proofs.Common.{◌≡◌, ◌≤◌, ◌<◌, ℕ, List, [], ◌�
 use Rattle.std.specs.Prelude.{Result, IsSomeAnd, IsErrAnd, slice_get}
 use Rattle.std.proofs.lemmas.Option.{slice_get_past}
 use Rattle.std.proofs.lemmas.List.{length-map}
-use Rattle.core_eval.specs.Scene.{Scene, scene_of}
+use Rattle.core_store.specs.Scene.{Scene, scene_of}
 use Rattle.core_interp.specs.Session.{IsCallable}
 use Rattle.core_store.specs.declared.value.CoreValue.{CoreValue}
 use Rattle.wit_types.specs.PlainValue.{PlainValue}
@@ -14,8 +14,8 @@ use Rattle.comp_worlds.specs.Groups.{Nesting, deeper, Group, World, Nothing, Bel
 use Rattle.comp_worlds.specs.Locals.{exit, close}
 use Rattle.comp_worlds.specs.Calls.{on, begins_call}
 use Rattle.comp_worlds.specs.Hosts.{hosted}
-use Rattle.comp_frames.specs.Frames.{Awaiting, Returns, instance_in, is_left}
-use Rattle.call_targets.specs.Targets.{lifting_of}
+use Rattle.comp_frames.specs.Frames.{Awaiting, Serves, Returns, instance_in, is_left}
+use Rattle.instance_values.specs.Targets.{lifting_of}
 use Rattle.instance_state.specs.declared.instance.Instance.{Instance}
 use Rattle.call_frames.specs.declared.depth.Depth.{Depth}
 use Rattle.call_frames.specs.Steps.{BeginsCall}
@@ -23,17 +23,20 @@ use Rattle.call_frames.specs.declared.frames.Served.{Served}
 use Rattle.call_frames.specs.declared.frames.Due.{Due as CodeDue}
 use Rattle.call_frames.specs.declared.frames.Due.TheVariants as dues
 use Rattle.call_frames.specs.declared.frames.Back.{Back as CodeBack}
+use Rattle.call_frames.specs.declared.frames.Back.TheVariants as backs
+use Rattle.call_frames.specs.declared.frames.Stored.{Stored}
+use Rattle.call_frames.specs.declared.frames.Stored.TheVariants as stored
 use Rattle.call_frames.specs.declared.end.Stop.{Stop}
 use Rattle.call_frames.specs.declared.frames.Flow.{Flow}
 use Rattle.call_frames.specs.declared.frames.Flow.TheVariants as flows
 use Rattle.call_frames.specs.declared.frames.Purpose.TheVariants as purposes
 use Rattle.call_frames.specs.declared.frames.Service.{Service}
-use Rattle.frame_laws.specs.Shown.{depth_of, service_of, back_of}
-use Rattle.code_laws.specs.Laws.{nested}
+use Rattle.call_laws.specs.Shown.{depth_of, service_of, due_of, back_of}
+use Rattle.call_laws.specs.CodeLaws.{nested}
 use Rattle.comp_calls.specs.Fits.{scenes_of, Takes}
 use Rattle.comp_calls.specs.Waiting.{due_back, instance_of, ServiceFits}
 use Rattle.comp_calls.specs.Leads.{Moment, sizes_of, so_far, Same, Waits, Ends, Leads}
-use Rattle.comp_calls.specs.Functions.{CanBegin, CodeBegins, IsChanged, Does, LeadsOn, Serving, GoesBack, IsLeft, PostReturns, run, behind, back_to, answer_to}
+use Rattle.comp_calls.specs.Functions.{CanBegin, CodeBegins, IsChanged, Does, LeadsOn, Serving, GoesBack, IsLeft, IsStored, PostReturns, run, behind, back_to, answer_to}
 use Rattle.comp_calls.proofs.Following.{leads_by, after_begin, after_does, begin_ends}
 use Rattle.comp_calls.proofs.Leaving.{left_host, left_quietly, left_by, exit_goes}
 
@@ -98,7 +101,7 @@ module _ {S : Type 0} (h : HostStep S) where
 
   -- ---- an answered call is left
 
-  stays : (m : Moment S) → Same m m
+  pub stays : (m : Moment S) → Same m m
   stays m = record { group = refl; scenes = refl }
 
   pub host_leads : (old new : Moment S) (due : CodeDue) (back : CodeBack) (result : Result Flow Stop) → due ≡ dues.Host → GoesBack h old back result new → IsLeft h old due back result new
@@ -127,3 +130,17 @@ module _ {S : Type 0} (h : HostStep S) where
   pub left_there : (old new : Moment S) (due : CodeDue) (served : Served) (back : CodeBack) (stop : Stop) (result : Result Flow Stop) → due ≡ dues.Served served → Does exit served.instance old (Err stop) new → (after : Moment S) → IsLeft h old due back result after
   left_there old new due served back stop result e d after =
       subst (λ x. IsLeft h old x back result after) (sym e) (λ G waiting e w fits at. absurd (exit_goes h old new served.instance stop (subst (λ n. served.instance < n) (length-map old.instances (λ (i : Instance). scene_of i.code.store)) fits.0) d))
+
+  -- ---- all is stored
+
+  pub stored_params : (old new : Moment S) (then : Stored) (service : Service) (flat : List CoreValue) (result : Result Flow Stop) → then ≡ stored.Params service → Serving h old service flat result new → IsStored h old then flat result new
+  stored_params old new then service flat result e r =
+      subst (λ t. IsStored h old t flat result new) (sym e) (λ G waiting storing flats w fits count is.
+      subst (λ xs. Leads h G (so_far old (run h G (depth_of service.depth) service.instance (lifting_of service.lifting.value).code xs >> behind h G waiting service.instance (Serves (service_of service)))) old result new) (sym is)
+      (r G waiting w fits.0 (count ∙ ap length fits.1)))
+
+  pub stored_result : (old new : Moment S) (then : Stored) (due : CodeDue) (flat : List CoreValue) (result : Result Flow Stop) → then ≡ stored.Result due → IsLeft h old due (backs.Inside flat) result new → IsStored h old then flat result new
+  stored_result old new then due flat result e r =
+      subst (λ t. IsStored h old t flat result new) (sym e) (λ G waiting storing flats w fits count is.
+      subst (λ xs. Leads h G (so_far old (is_left G (hosted h) (nested 0) storing.depth (due_of due) >> λ _. back_to h G waiting xs)) old result new) (sym is)
+      (r G waiting storing.depth (subst (λ n. Waits h G old waiting (Some n)) (sym count) w) fits.0 fits.1))

@@ -5,7 +5,7 @@ use Rattle.virt_base.specs.declared.core_type.CoreType.{CoreType}
 use Rattle.virt_base.specs.declared.core_type.CoreType.TheVariants.{I32}
 use Rattle.wasm_ast.specs.declared.module.CoreFunc.{CoreFunc}
 use Rattle.core_store.specs.declared.value.StoreFunc.TheVariants.{Outside}
-use Rattle.core_eval.specs.Scene.{Scene, scene_of, results_at}
+use Rattle.core_store.specs.Scene.{Scene, scene_of, results_at}
 use Rattle.core_interp.specs.Session.{IsCallable}
 use Rattle.wit_types.specs.Plain.{PlainFunc}
 use Rattle.abi_layout.specs.Functions.{FlatFunc, lowered, core_params}

@@ -2,8 +2,8 @@
 use Rattle.std.specs.Prelude.{◌≡◌, ◌<◌, ℕ, List, [], ◌∷◌, length, reverse, Option, Some, None, Bool, true, false, Result, Ok, Err, slice_get, slice_set}
 use Rattle.virt_base.specs.declared.core_type.CoreType.TheVariants.{I32}
 use Rattle.core_store.specs.declared.value.CoreValue.{CoreValue}
-use Rattle.core_eval.specs.Scene.{Scene}
-use Rattle.core_eval.specs.Words.{words, values_in, HaveTypes}
+use Rattle.core_store.specs.Scene.{Scene}
+use Rattle.core_store.specs.Words.{words, values_in, HaveTypes}
 use Rattle.wit_types.specs.PlainValue.{PlainValue}
 use Rattle.wit_types.specs.HasType.{is_of}
 use Rattle.abi_layout.specs.Functions.{core_params}
@@ -26,7 +26,7 @@ use Rattle.instance_state.specs.declared.instance.Instance.{Instance}
 use Rattle.instance_state.specs.Shown.{config_of}
 use Rattle.instance_handles.specs.Loans.{AreLent}
 use Rattle.instance_values.specs.Passed.{options_of}
-use Rattle.call_targets.specs.Targets.{target_of, lifting_of}
+use Rattle.instance_values.specs.Targets.{target_of, lifting_of}
 use Rattle.call_frames.specs.declared.depth.Depth.{Depth}
 use Rattle.call_frames.specs.declared.end.Stop.{Stop}
 use Rattle.call_frames.specs.declared.end.Stop.TheVariants as stops
@@ -43,8 +43,8 @@ use Rattle.call_frames.specs.declared.frames.Stored.{Stored}
 use Rattle.call_frames.specs.declared.frames.Back.{Back}
 use Rattle.call_frames.specs.declared.frames.Due.{Due}
 use Rattle.call_frames.specs.declared.frames.Visit.{Visit}
-use Rattle.code_laws.specs.Laws.{nested}
-use Rattle.frame_laws.specs.Shown.{depth_of, asker_of, caller_of, service_of, due_of, next_of, storing_of, back_of, visits_of, purpose_of}
+use Rattle.call_laws.specs.CodeLaws.{nested}
+use Rattle.call_laws.specs.Shown.{depth_of, asker_of, caller_of, service_of, due_of, next_of, storing_of, back_of, visits_of, purpose_of}
 use Rattle.comp_calls.specs.Fits.{scenes_of, Takes, answers_of, HasMemory, OptionsFit, LiftingFits, PassesAlike}
 use Rattle.comp_calls.specs.Waiting.{due_to, due_back, due_next, due_behind, instance_of, IsDueAt, CallerFits, ServiceFits, DueFits, NextFits, StoringFits, GrantFits, PurposeFits, WillAnswer, IsRoomyFor, RoomOf}
 use Rattle.comp_calls.specs.Leads.{Moment, sizes_of, so_far, Same, Waits, GoesOn, Ends, Leads}

@@ -17,9 +17,9 @@ use Rattle.call_frames.specs.declared.frames.Flow.TheVariants as flows
 use Rattle.call_frames.specs.declared.frames.Frame.{Frame}
 use Rattle.call_frames.specs.declared.group.Group.{Group as CodeGroup}
 use Rattle.call_laws.specs.Configs.{configs_of, world_of}
-use Rattle.code_laws.specs.Laws.{nested}
-use Rattle.frame_laws.specs.Shown.{purpose_of}
-use Rattle.frame_laws.specs.Standing.{Calls, with_calls, AllStand, Goes}
+use Rattle.call_laws.specs.CodeLaws.{nested}
+use Rattle.call_laws.specs.Shown.{purpose_of}
+use Rattle.call_laws.specs.Standing.{Calls, with_calls, AllStand, Goes}
 use Rattle.comp_calls.specs.declared.world.World.{World as CodeWorld}
 use Rattle.comp_calls.specs.Fits.{scenes_of, Fits}
 use Rattle.comp_calls.specs.Waiting.{due_behind, FrameFits, AllAwait, AllRoomy}

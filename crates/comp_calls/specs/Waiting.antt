@@ -3,8 +3,8 @@
 use Rattle.std.specs.Prelude.{◌≡◌, ◌<◌, ℕ, List, [], ◌∷◌, ◌++◌, length, map, Option, Some, None, Bool, true, false}
 use Rattle.virt_base.specs.declared.core_type.CoreType.{CoreType}
 use Rattle.virt_base.specs.declared.core_type.CoreType.TheVariants.{I32}
-use Rattle.core_eval.specs.Scene.{Scene}
-use Rattle.core_eval.specs.Words.{values_in}
+use Rattle.core_store.specs.Scene.{Scene}
+use Rattle.core_store.specs.Words.{values_in}
 use Rattle.core_interp.specs.Session.{awaited}
 use Rattle.core_runs.specs.declared.calls.CoreCall.{CoreCall}
 use Rattle.wit_types.specs.PlainValue.{PlainValue}
@@ -25,8 +25,8 @@ use Rattle.call_frames.specs.declared.frames.Stored.{Stored}
 use Rattle.call_frames.specs.declared.frames.Stored.TheVariants as stored
 use Rattle.call_frames.specs.declared.frames.Due.{Due}
 use Rattle.call_frames.specs.declared.frames.Due.TheVariants as dues
-use Rattle.frame_laws.specs.Shown.{depth_of, caller_of, service_of, due_of, storing_of, back_of}
-use Rattle.frame_laws.specs.Standing.{Calls, with_calls}
+use Rattle.call_laws.specs.Shown.{depth_of, caller_of, service_of, due_of, storing_of, back_of}
+use Rattle.call_laws.specs.Standing.{Calls, with_calls}
 use Rattle.comp_calls.specs.Fits.{answers_of, OptionsFit, LiftingFits, Takes, HasMemory}
 
 -- ---- how many results go to the code outside, where there is some

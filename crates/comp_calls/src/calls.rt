@@ -10,10 +10,9 @@ use crate::world::World;
 use call_frames::{
     Call, Caller, Depth, Due, Flow, Stop, host_call, in_tuple, lift_in, out_of_tuple, word_at,
 };
-use call_targets::{Canon, Import, Target};
 use core_slots::CoreValues;
 use host_port::{Answer, Host};
-use instance_values::CallOptions;
+use instance_values::{CallOptions, Canon, Import, Target};
 use std::alloc::Global;
 use wit_types::{Value, Values};
 

@@ -2,6 +2,8 @@
 
 ghost use Rattle.std.specs.Prelude.{◌≡◌, ◌≤◌, ◌<◌, ◌+◌, OnOk};
 ghost use Rattle.comp_calls.specs.Work.{work, weight_behind};
+ghost use Rattle.comp_calls.specs.Leads.{at};
+ghost use Rattle.comp_calls.specs.Functions.{AsksFor, IsStored};
 
 use crate::world::World;
 use abi_store::StoreStep;
@@ -129,6 +131,7 @@ impl<H: Host> World<H> {
     /// All is stored, and these are the flat values.
     fn stored(&mut self, alloc: Global, then: Stored, flat: CoreValues) -> Result<Flow, Stop>
         ensures less { OnOk result (work self.new.budget self.new.frames.items ≤ work self.old.budget self.old.frames.items + weight_behind then) }
+        ensures leads { IsStored H.step (at H.kept self.old) then flat result (at H.kept self.new) }
     {
         match then {
             Stored::Params(service) => self.serve(alloc, service, &flat),
@@ -144,6 +147,7 @@ impl<H: Host> World<H> {
         len: u32,
     ) -> Result<Flow, Stop>
         ensures less { OnOk result (work self.new.budget self.new.frames.items ≤ work self.old.budget self.old.frames.items) }
+        ensures leads { AsksFor H.step (at H.kept self.old) storing align len result (at H.kept self.new) }
     {
         let Some(realloc) = storing.options.realloc else {
             return Err(Stop::Trapped);

@@ -7,9 +7,9 @@ ghost use Rattle.comp_calls.specs.Functions.{GoesBack, HasReturned, IsLeft, Post
 
 use crate::world::World;
 use call_frames::{Back, Caller, Depth, Due, Flow, Purpose, Served, Service, Stop, lift_in};
-use call_targets::Lifting;
 use core_slots::CoreValues;
 use host_port::Host;
+use instance_values::Lifting;
 use std::alloc::Global;
 use std::rc::Rc;
 use wit_types::Value;

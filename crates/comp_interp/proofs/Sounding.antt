@@ -6,7 +6,7 @@ use Rattle.wasm_ast.specs.Boxed.{Held as HeldValue}
 use Rattle.wasm_ast.specs.declared.module.Module.{Module}
 use Rattle.core_validate.specs.Validity.{IsValidModule}
 use Rattle.core_instance.specs.Matching.{HasCounts}
-use Rattle.comp_rules.specs.Resources.{numbered}
+use Rattle.comp_types.specs.GivenResources.{numbered}
 use Rattle.comp_link.specs.Plans.{NamedArg, Plan, Planned, End, Then, followed, if_some}
 use Rattle.comp_link.specs.Plans.{OfModule, OfCoreItems, CoreItemOf, OfComponent, OfItems, ItemOf, NewResource, Lifts, Lowers, MakesResource, ReadsResource, DropsResource, Imports, Exports}
 use Rattle.comp_link.specs.Linking.{Making, begun, and_stage, givens_of}

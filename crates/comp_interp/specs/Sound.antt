@@ -4,8 +4,8 @@ use Rattle.core_validate.specs.Validity.{IsValidModule}
 use Rattle.core_instance.specs.Matching.{HasCounts}
 use Rattle.comp_grammar.specs.Trees.{Tree}
 use Rattle.comp_grammar.specs.Components.{SpellsComponent}
-use Rattle.comp_rules.specs.Added.{after_tree, root}
-use Rattle.comp_rules.specs.Validity.{IsValidComponent}
+use Rattle.comp_types.specs.Added.{after_tree, root}
+use Rattle.comp_types.specs.Validity.{IsValidComponent}
 use Rattle.comp_link.specs.Plans.{Plan, Planned, End, Then, OfModule, OfComponent, plan_of}
 use Rattle.comp_plans.specs.declared.linked.Linked.{Linked}
 use Rattle.comp_plans.specs.Planned.{plan_in}

@@ -1,9 +1,9 @@
 use crate::assembly::Assembly;
-use call_targets::Canon;
 use comp_calls::Stop;
 use host_port::Host;
 use instance_handles::{Owner, Owners};
 use instance_making::Making;
+use instance_values::Canon;
 use std::alloc::Global;
 use virt_base::{CoreType, Items, NoMemory};
 use wasm_ast::{CanonOption, CoreFunc};
@@ -36,9 +36,6 @@ impl<H: Host> Assembly<H> {
         ty: CoreFunc,
         canon: Canon,
     ) -> Result<(), Stop> {
-        let Some(next) = making.canons.checked_add(1) else {
-            return Err(Stop::NoMemory);
-        };
         let number = making.instance as usize;
         let Some(instance) = self.world.instances.get_mut(number) else {
             return Err(Stop::Trapped);
@@ -48,8 +45,7 @@ impl<H: Host> Assembly<H> {
             return Err(Stop::Trapped);
         };
         canons.push(canon)?;
-        making.canons = next;
-        making.core_functions.push(place)?;
+        making.keep_canon(place)?;
         Ok(())
     }
 
@@ -110,7 +106,7 @@ impl<H: Host> Assembly<H> {
             instance: making.instance,
             destructor,
         })?;
-        making.resources.push(resource, number)?;
+        making.keep_resource(resource, number)?;
         Ok(())
     }
 }

@@ -1,5 +1,5 @@
-use call_targets::Target;
 use instance_making::{Given, Givens, MadeInstances};
+use instance_values::Target;
 use std::alloc::Global;
 use virt_base::{NoMemory, Text};
 

@@ -7,11 +7,11 @@ ghost use Rattle.comp_interp.specs.Levels.{Follows};
 use crate::assembly::Assembly;
 use crate::level::Level;
 use crate::part::module_at;
-use call_targets::Canon;
 use comp_calls::Stop;
 use comp_plans::{Linked, PlanItem};
 use host_port::Host;
 use instance_making::Making;
+use instance_values::Canon;
 use std::alloc::Global;
 use wasm_ast::{CoreArg, Module};
 
@@ -99,15 +99,15 @@ impl<H: Host> Assembly<H> {
                 self.lower(alloc, making, *func, options.as_slice(), ty)
             }
             PlanItem::MakesResource(resource) => {
-                let canon = Canon::New(making.resources.partner(*resource));
+                let canon = Canon::New(making.resource(*resource));
                 self.provide_word(alloc, making, canon)
             }
             PlanItem::ReadsResource(resource) => {
-                let canon = Canon::Rep(making.resources.partner(*resource));
+                let canon = Canon::Rep(making.resource(*resource));
                 self.provide_word(alloc, making, canon)
             }
             PlanItem::DropsResource(resource) => {
-                let canon = Canon::Drop(making.resources.partner(*resource));
+                let canon = Canon::Drop(making.resource(*resource));
                 self.provide_drop(alloc, making, canon)
             }
             PlanItem::OfCoreItems { exports } => {

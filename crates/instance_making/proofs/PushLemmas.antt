@@ -1,11 +1,13 @@
 -- An instance with one more item of a core sort.
-use Rattle.std.proofs.Common.{◌≡◌, ◌∙◌, ap, sym, subst, ℕ, List, [], ◌∷◌, ◌++◌, Option, Some, slice_get}
+use Rattle.std.proofs.Common.{◌≡◌, ◌∙◌, ap, sym, subst, ℕ, ◌+◌, List, [], ◌∷◌, ◌++◌, length, Option, Some, slice_get}
+use Rattle.wasm_ast.specs.declared.module.CoreFunc.{CoreFunc}
 use Rattle.std.specs.Option.{option_and_then}
 use Rattle.core_instance.specs.declared.external.Extern.{Extern}
 use Rattle.core_instance.specs.declared.external.Extern.TheVariants.{Func, Table, Memory, Global}
 use Rattle.core_instance.specs.declared.external.NamedExtern.{NamedExtern}
 use Rattle.wit_types.specs.Plain.{Name}
-use Rattle.comp_link.specs.Linking.{Givens as GroupGivens, Making as GroupMaking, core_find, and_core_item, and_core_instance}
+use Rattle.comp_worlds.specs.Groups.{Func as Canon}
+use Rattle.comp_link.specs.Linking.{Givens as GroupGivens, Making as GroupMaking, core_find, and_core_item, and_core_instance, with_canon}
 use Rattle.instance_making.specs.declared.named.Named.{Named}
 use Rattle.instance_making.specs.declared.making.Making.{Making}
 use Rattle.instance_making.specs.Named.{named_item}
@@ -91,6 +93,24 @@ and_core_items made m n g items exports h same e i = subst (λ (k : Making). Sta
   core_memories = h.core_memories;
   core_globals = h.core_globals;
   core_instances = subst (λ is. AreCoreInstances is (g.core_instances ++ exports ∷ [])) (sym e) (cores_and m.core_instances.items g.core_instances items exports h.core_instances i);
+  functions = h.functions;
+  instances = h.instances;
+  resources = h.resources;
+  exports = h.exports;
+})
+
+-- a canonical function more
+pub and_canon : (made : List GroupGivens) (m n : Making) (g : GroupMaking) (at : ℕ) (ty : CoreFunc) (canon : Canon) → at ≡ length g.shadow.functions → Stands made m g → n ≡ record m { core_functions = n.core_functions; canons = n.canons }
+    → n.core_functions.items ≡ m.core_functions.items ++ at ∷ [] → n.canons ≡ m.canons + 1 → Stands made n (with_canon g ty canon)
+and_canon made m n g at ty canon place h same e count = subst (λ (k : Making). Stands made k (with_canon g ty canon)) (sym same) (record {
+  instance = h.instance;
+  given = h.given;
+  canons = count ∙ ap (λ c. c + 1) h.canons;
+  core_functions = e ∙ ap (λ xs. xs ++ at ∷ []) h.core_functions ∙ ap (λ x. g.core_functions ++ x ∷ []) place;
+  core_tables = h.core_tables;
+  core_memories = h.core_memories;
+  core_globals = h.core_globals;
+  core_instances = h.core_instances;
   functions = h.functions;
   instances = h.instances;
   resources = h.resources;

@@ -1,7 +1,7 @@
 ghost use Rattle.std.specs.Prelude.{◌≡◌, ◌++◌, List, Option, Some, OnOk, option_map, option_copied};
 ghost use Rattle.comp_types.specs.Items.{KindItem, ResourceKind};
 ghost use Rattle.comp_types.specs.Views.{item_of, kind_of, entries_of};
-ghost use Rattle.comp_rules.specs.Resources.{numbered};
+ghost use Rattle.comp_types.specs.GivenResources.{numbered};
 ghost use Rattle.comp_link.specs.Linking.{Given as GroupGiven, Givens as GroupGivens, bound, bound_if, all_bound, own_bound};
 ghost use Rattle.instance_making.specs.Bound.{number_of, resource_of};
 ghost use Rattle.instance_making.specs.Made.{IsGiven, IsSame, IsInstance, AreMade};

@@ -1,8 +1,8 @@
 ghost use Rattle.std.specs.Prelude.{◌≡◌, IfOk};
 ghost use Rattle.comp_types.specs.Substitution.{partner_in, func_with};
 
-use call_targets::CallType;
 use comp_types::{ItemType, KnownFunc, Substitution, substitute};
+use instance_values::CallType;
 use std::alloc::Global;
 use std::rc::Rc;
 use virt_base::NoMemory;

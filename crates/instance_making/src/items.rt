@@ -3,7 +3,7 @@ ghost use Rattle.comp_types.specs.Views.{item_of};
 ghost use Rattle.comp_link.specs.Plans.{AFunc, AnInstanceAt, ItemOf, OfItems, Imports, Exports};
 ghost use Rattle.comp_link.specs.Linking.{Givens as GroupGivens, Making as GroupMaking, find, given_at as item_at, givens_of as items_of, link_item, with_component};
 ghost use Rattle.comp_plans.specs.Planned.{item_named, args_named};
-ghost use Rattle.comp_rules.specs.Resources.{numbered};
+ghost use Rattle.comp_types.specs.GivenResources.{numbered};
 ghost use Rattle.instance_making.specs.Named.{named_item};
 ghost use Rattle.instance_making.specs.Made.{IsSame, Holds, AreMade, IsInstance};
 ghost use Rattle.instance_making.specs.Shown.{Stands};

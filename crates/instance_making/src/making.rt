@@ -1,12 +1,16 @@
-ghost use Rattle.std.specs.Prelude.{◌≡◌, ◌++◌, [], ◌∷◌, List, Option, Some, OnOk};
-ghost use Rattle.comp_link.specs.Linking.{Givens as GroupGivens, Given as GroupGiven, GivenInstance, Making as GroupMaking, Whole, begun, and_item};
+ghost use Rattle.std.specs.Prelude.{◌≡◌, ◌++◌, [], ◌∷◌, ℕ, List, Option, Some, OnOk, length};
+ghost use Rattle.wasm_ast.specs.declared.module.CoreFunc.{CoreFunc};
+ghost use Rattle.comp_types.specs.Substitution.{partner_in};
+ghost use Rattle.comp_worlds.specs.Groups.{Func as Canon};
+ghost use Rattle.comp_link.specs.Linking.{Givens as GroupGivens, Given as GroupGiven, GivenInstance, Making as GroupMaking, Whole, begun, and_item, with_canon, with_resource};
 ghost use Rattle.instance_making.specs.Made.{IsGiven, IsSame, Holds, AreMade, IsInstance};
 ghost use Rattle.instance_making.specs.Shown.{Stands};
 
 use crate::given::{CoreItems, Given, Givens, MadeInstances};
 use crate::named::Named;
-use call_targets::Target;
+use crate::numbers::next_number;
 use comp_types::Substitution;
+use instance_values::Target;
 use std::alloc::Global;
 use virt_base::NoMemory;
 
@@ -88,6 +92,31 @@ impl Making {
         let number = made.len();
         made.push(exports)?;
         self.instances.push(number)?;
+        Ok(())
+    }
+
+    /// The number in the group of a resource of the component.
+    pub fn resource(&self, resource: u32) -> u32
+        ensures { (made : List GroupGivens) (g : GroupMaking) → Stands made self.now g → result ≡ partner_in g.resources resource }
+    {
+        self.resources.partner(resource)
+    }
+
+    /// A canonical function, of the next number, is the core function at this place of the store.
+    pub fn keep_canon(&mut self, place: u32) -> Result<(), NoMemory>
+        ensures { OnOk result ((made : List GroupGivens) (g : GroupMaking) (ty : CoreFunc) (canon : Canon) → place ≡ length g.shadow.functions → Stands made self.old g → Stands made self.new (with_canon g ty canon)) }
+    {
+        let canons = next_number(self.canons)?;
+        self.core_functions.push(place)?;
+        self.canons = canons;
+        Ok(())
+    }
+
+    /// A resource that the component defines has this number in the group.
+    pub fn keep_resource(&mut self, resource: u32, number: u32) -> Result<(), NoMemory>
+        ensures { OnOk result ((made : List GroupGivens) (g : GroupMaking) (destructor : Option ℕ) → number ≡ g.whole.next_resource → Stands made self.old g → Stands made self.new (with_resource g resource destructor)) }
+    {
+        self.resources.push(resource, number)?;
         Ok(())
     }
 }

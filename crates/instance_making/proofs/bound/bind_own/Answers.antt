@@ -1,7 +1,7 @@
 use Rattle.std.proofs.Common.{◌≡◌, ◌∙◌, ap, sym, subst, drop, ◌++◌, ◌+◌, ◌∷◌, []}
 use Rattle.std.proofs.lemmas.List.{drop_more, drop_all}
 use Rattle.comp_types.specs.Substitution.{partner_of}
-use Rattle.comp_rules.specs.Resources.{numbered}
+use Rattle.comp_types.specs.GivenResources.{numbered}
 use Rattle.comp_link.specs.Linking.{own_bound}
 use Rattle.instance_making.specs.Shown.{SamePartners}
 use Rattle.instance_making.proofs.PartnerLemmas.{partners_step, partners_done, partners_pair}

@@ -1,5 +1,5 @@
 use Rattle.std.proofs.Common.{drop, ◌++◌}
-use Rattle.comp_rules.specs.Resources.{numbered}
+use Rattle.comp_types.specs.GivenResources.{numbered}
 use Rattle.comp_link.specs.Linking.{own_bound}
 use Rattle.instance_making.specs.Shown.{SamePartners}
 use Rattle.instance_making.proofs.bound.bind_own.Given as goal

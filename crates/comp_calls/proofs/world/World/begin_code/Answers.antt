@@ -3,7 +3,7 @@ use Rattle.std.specs.Prelude.{Result, IsErrAnd, slice_get}
 use Rattle.std.proofs.lemmas.Option.{slice_get_read}
 use Rattle.comp_worlds.specs.Acts.{◌>>◌}
 use Rattle.call_frames.specs.Stops.{stop_of_store}
-use Rattle.frame_laws.specs.Shown.{depth_of, purpose_of}
+use Rattle.call_laws.specs.Shown.{depth_of, purpose_of}
 use Rattle.comp_calls.specs.Leads.{at, so_far}
 use Rattle.comp_calls.specs.Functions.{run, behind}
 use Rattle.comp_calls.proofs.Following.{with_instance}

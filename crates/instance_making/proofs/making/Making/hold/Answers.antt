@@ -1,6 +1,6 @@
 use Rattle.std.proofs.Common.{◌∙◌, ap, refl, ◌++◌, ◌∷◌, [], Some}
 use Rattle.comp_types.specs.Substitution.{partner_of}
-use Rattle.comp_rules.specs.Resources.{numbered}
+use Rattle.comp_types.specs.GivenResources.{numbered}
 use Rattle.comp_link.specs.Linking.{GivenInstance, own_bound, and_bound, and_item}
 use Rattle.instance_making.proofs.PartnerLemmas.{partners_append, own_same}
 use Rattle.instance_making.proofs.KeepLemmas.{with_bound, in_whole}
