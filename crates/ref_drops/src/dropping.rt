@@ -4,6 +4,7 @@ ghost use Rattle.reference_step.specs.State.{Reference};
 ghost use Rattle.reference_step.specs.Steps.{dropped, drops, lost};
 ghost use Rattle.reference_step.specs.Handles.{handle_at, is_host};
 ghost use Rattle.ref_answers.specs.Seen.{content_in, live_in};
+ghost use Rattle.ref_contents.specs.Contents.{KeepsContents, Nothing};
 ghost use Rattle.ref_drops.specs.Losses.{IsLoss, listed_at};
 
 use host_port::{Host, Resource};
@@ -39,6 +40,7 @@ fn lose<H: Host>(
     requires live { IsSome (slice_index_or live.old.handles id None) }
     requires kind { kind < 14 }
     ensures loss { OnOk result ((f : Forest) (r : Reference H.State) → IsLoss (lost H.step (listed_at r f listed.now live.old (H.kept inner.old).state) id kind (content_in f content)) (listed_at r f listed.now live.new (H.kept inner.new).state) (H.kept inner.old).seen (H.kept inner.new).seen) }
+    ensures keeps { OnOk result (KeepsContents Nothing live.old live.new) }
     ensures limits { OnOk result ((live.new.slots ≡ live.old.slots) × (live.new.files ≡ live.old.files)) }
 {
     live.remove(id);
@@ -62,6 +64,7 @@ fn drop_of_kind<H: Host>(
 ) -> Result<(), NoMemory>
     requires kind { kind < 14 }
     ensures loss { OnOk result ((f : Forest) (r : Reference H.State) → IsLoss (dropped H.step (listed_at r f listed.now live.old (H.kept inner.old).state) id kind (handle_at (live_in f live.old.handles) id)) (listed_at r f listed.now live.new (H.kept inner.new).state) (H.kept inner.old).seen (H.kept inner.new).seen) }
+    ensures keeps { OnOk result (KeepsContents Nothing live.old live.new) }
     ensures limits { OnOk result ((live.new.slots ≡ live.old.slots) × (live.new.files ≡ live.old.files)) }
 {
     match live.find(id) {
@@ -86,6 +89,7 @@ pub fn drop_live<H: Host>(
     id: u32,
 ) -> Result<(), NoMemory>
     ensures loss { OnOk result ((f : Forest) (r : Reference H.State) → IsLoss (drops H.step (listed_at r f listed.now live.old (H.kept inner.old).state) resource.now id) (listed_at r f listed.now live.new (H.kept inner.new).state) (H.kept inner.old).seen (H.kept inner.new).seen) }
+    ensures keeps { OnOk result (KeepsContents Nothing live.old live.new) }
     ensures limits { OnOk result ((live.new.slots ≡ live.old.slots) × (live.new.files ≡ live.old.files)) }
 {
     match listed.kind(resource) {

@@ -4,3 +4,4 @@ mod LedLemmas
 mod RangeLemmas
 mod SameLemmas
 mod ReadLemmas
+pub mod InsideLemmas

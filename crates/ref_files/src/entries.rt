@@ -1,7 +1,7 @@
 // wasi:filesystem/types, resource directory-entry-stream, where the stream is over a folder of a tree.
 #![tactic(auto, using(wit_types::proofs::ValueLemmas::values))]
 
-ghost use Rattle.std.specs.Prelude.{◌≡◌, ◌≤◌, ◌<◌, IfOk, drop};
+ghost use Rattle.std.specs.Prelude.{◌≡◌, ◌≤◌, ◌<◌, IfOk, drop, true};
 ghost use Rattle.tree_table.specs.Tables.{count_of};
 ghost use Rattle.reference_step.specs.EntryStreams as entries;
 ghost use Rattle.reference_step.specs.Handles.{Entries};
@@ -10,6 +10,7 @@ ghost use Rattle.reference_step.specs.State.{View};
 ghost use Rattle.wit_types.specs.PlainValue.{plain_value};
 ghost use Rattle.ref_answers.specs.Seen.{entries_of_node};
 ghost use Rattle.ref_answers.specs.Shown.{shown};
+ghost use Rattle.ref_files.specs.Inside.{row_inside};
 ghost use Rattle.ref_files.specs.Views.{HoldsTrees, node_entry};
 
 use crate::facts::node_type;
@@ -34,7 +35,8 @@ fn node_entry(alloc: Global, table: &Table, node: u32) -> Result<Value, NoMemory
 pub fn read_entry_row(alloc: Global, table: &Table, node: u32, place: u32) -> Result<Row, NoMemory>
     requires inside { node < count_of table.now }
     requires few { count_of table.now ≤ 65536 }
-    ensures { IfOk result (λ row. (v : View) → HoldsTrees table.now v → shown table.now row ≡ entries.read-directory-entry v (Entries (drop place (entries_of_node table.now node)))) }
+    ensures row { IfOk result (λ row. (v : View) → HoldsTrees table.now v → shown table.now row ≡ entries.read-directory-entry v (Entries (drop place (entries_of_node table.now node)))) }
+    ensures inside { IfOk result (λ row. row_inside (count_of table.now) row ≡ true) }
 {
     match child(table, node, place) {
         Some(at) => {

@@ -1,12 +1,13 @@
 // wasi:filesystem/types, `open-at` from a node of a tree.
 #![tactic(auto, using(wit_types::proofs::ValueLemmas::values, crate::proofs::NodeLemmas::node_rules, crate::proofs::SeenLemmas::seen_node, crate::proofs::SeenLemmas::seen_children, crate::proofs::SeenLemmas::seen_hash, crate::proofs::SeenLemmas::seen_lead))]
 
-ghost use Rattle.std.specs.Prelude.{◌≡◌, ◌<◌, ◌||◌, ℕ, Some, IfOk};
+ghost use Rattle.std.specs.Prelude.{◌≡◌, ◌<◌, ◌||◌, ℕ, Some, IfOk, true};
 ghost use Rattle.tree_table.specs.Tables.{Forest, count_of, node_of, tree_of, path_of};
 ghost use Rattle.tree_table.specs.Paths.{Fails};
 ghost use Rattle.reference_step.specs.Descriptors as descriptor;
 ghost use Rattle.reference_step.specs.State.{View};
 ghost use Rattle.ref_answers.specs.Shown.{shown};
+ghost use Rattle.ref_files.specs.Inside.{row_inside};
 ghost use Rattle.ref_files.specs.Views.{HoldsTrees, node_in};
 
 use crate::leading::lead;
@@ -37,7 +38,8 @@ fn asks_changes(flags: u32, rights: u32) -> bool
 /// What is opened where a text leads to a node.
 fn open_found(alloc: Global, table: &Table, node: u32, flags: u32) -> Result<Row, NoMemory>
     requires { node < count_of table.now }
-    ensures { IfOk result (λ row. shown table.now row ≡ descriptor.open_found (Some (node_of table.now node)) (tree_of table.now node) (path_of table.now node) flags) }
+    ensures row { IfOk result (λ row. shown table.now row ≡ descriptor.open_found (Some (node_of table.now node)) (tree_of table.now node) (path_of table.now node) flags) }
+    ensures inside { IfOk result (λ row. row_inside (count_of table.now) row ≡ true) }
 {
     if has_flag(flags, 2) {
         return match kind(table, node) {
@@ -60,7 +62,8 @@ fn open_found(alloc: Global, table: &Table, node: u32, flags: u32) -> Result<Row
 }
 
 fn open_missing(alloc: Global, code: u8, flags: u32) -> Result<Row, NoMemory>
-    ensures { IfOk result (λ row. (f : Forest) (v : View) (tree : ℕ) → shown f row ≡ descriptor.open_led v tree (Fails code) flags) }
+    ensures row { IfOk result (λ row. (f : Forest) (v : View) (tree : ℕ) → shown f row ≡ descriptor.open_led v tree (Fails code) flags) }
+    ensures inside { IfOk result (λ row. (nodes : ℕ) → row_inside nodes row ≡ true) }
 {
     if code == NO_ENTRY && has_flag(flags, 0) {
         fails(alloc, READ_ONLY)
@@ -80,7 +83,8 @@ pub fn open_row(
     rights: u32,
 ) -> Result<Row, NoMemory>
     requires { node < count_of table.now }
-    ensures { IfOk result (λ row. (v : View) → HoldsTrees table.now v → shown table.now row ≡ descriptor.open-at v (node_in table.now node) follow text.now flags rights) }
+    ensures row { IfOk result (λ row. (v : View) → HoldsTrees table.now v → shown table.now row ≡ descriptor.open-at v (node_in table.now node) follow text.now flags rights) }
+    ensures inside { IfOk result (λ row. row_inside (count_of table.now) row ≡ true) }
 {
     if asks_changes(flags, rights) {
         return fails(alloc, READ_ONLY);

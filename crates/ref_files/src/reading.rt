@@ -1,12 +1,13 @@
 // wasi:io/streams, resource input-stream, where the stream is from a file of a tree.
 #![tactic(auto, using(wit_types::proofs::ValueLemmas::values, crate::proofs::NodeLemmas::node_rules, crate::proofs::SeenLemmas::seen_node, crate::proofs::SeenLemmas::seen_children, crate::proofs::SeenLemmas::seen_hash, crate::proofs::SeenLemmas::seen_lead))]
 
-ghost use Rattle.std.specs.Prelude.{◌≡◌, ◌<◌, IfOk};
+ghost use Rattle.std.specs.Prelude.{◌≡◌, ◌<◌, IfOk, true};
 ghost use Rattle.tree_table.specs.Tables.{count_of, tree_of, path_of};
 ghost use Rattle.reference_step.specs.Handles.{FileAt};
 ghost use Rattle.reference_step.specs.InputStreams as input;
 ghost use Rattle.reference_step.specs.State.{View};
 ghost use Rattle.ref_answers.specs.Shown.{shown};
+ghost use Rattle.ref_files.specs.Inside.{row_inside};
 ghost use Rattle.ref_files.specs.Views.{HoldsTrees};
 
 use crate::facts::node_bytes;
@@ -25,7 +26,8 @@ pub fn read_stream_row(
     len: u64,
 ) -> Result<Row, NoMemory>
     requires { node < count_of table.now }
-    ensures { IfOk result (λ row. (v : View) → HoldsTrees table.now v → shown table.now row ≡ input.read v (FileAt (tree_of table.now node) (path_of table.now node) place) len) }
+    ensures row { IfOk result (λ row. (v : View) → HoldsTrees table.now v → shown table.now row ≡ input.read v (FileAt (tree_of table.now node) (path_of table.now node) place) len) }
+    ensures inside { IfOk result (λ row. row_inside (count_of table.now) row ≡ true) }
 {
     let content = node_bytes(table, node);
     let size = content.len() as u64;
@@ -51,7 +53,8 @@ pub fn skip_stream_row(
     len: u64,
 ) -> Result<Row, NoMemory>
     requires { node < count_of table.now }
-    ensures { IfOk result (λ row. (v : View) → HoldsTrees table.now v → shown table.now row ≡ input.skip v (FileAt (tree_of table.now node) (path_of table.now node) place) len) }
+    ensures row { IfOk result (λ row. (v : View) → HoldsTrees table.now v → shown table.now row ≡ input.skip v (FileAt (tree_of table.now node) (path_of table.now node) place) len) }
+    ensures inside { IfOk result (λ row. row_inside (count_of table.now) row ≡ true) }
 {
     let size = node_bytes(table, node).len() as u64;
     if size <= place {

@@ -1,11 +1,12 @@
 // wasi:filesystem/types, resource descriptor, where the descriptor is a node of a tree: each row under its WIT name.
 #![tactic(auto, using(wit_types::proofs::ValueLemmas::values, crate::proofs::NodeLemmas::node_rules, crate::proofs::SeenLemmas::seen_node, crate::proofs::SeenLemmas::seen_children, crate::proofs::SeenLemmas::seen_hash, crate::proofs::SeenLemmas::seen_lead))]
 
-ghost use Rattle.std.specs.Prelude.{◌≡◌, ◌<◌, Some, IfOk};
+ghost use Rattle.std.specs.Prelude.{◌≡◌, ◌<◌, Some, IfOk, true};
 ghost use Rattle.tree_table.specs.Tables.{count_of, node_of};
 ghost use Rattle.reference_step.specs.Descriptors as descriptor;
 ghost use Rattle.reference_step.specs.State.{View};
 ghost use Rattle.ref_answers.specs.Shown.{shown};
+ghost use Rattle.ref_files.specs.Inside.{row_inside};
 ghost use Rattle.ref_files.specs.Views.{AreTexts, HoldsTrees, node_in};
 
 use crate::facts::{node_hash, node_stat, node_type};
@@ -28,7 +29,8 @@ const NOT_DIRECTORY: u32 = 24;
 /// `read-via-stream`.
 pub fn stream_row(alloc: Global, table: &Table, node: u32, offset: u64) -> Result<Row, NoMemory>
     requires { node < count_of table.now }
-    ensures { IfOk result (λ row. (v : View) → HoldsTrees table.now v → shown table.now row ≡ descriptor.read-via-stream v (node_in table.now node) offset) }
+    ensures row { IfOk result (λ row. (v : View) → HoldsTrees table.now v → shown table.now row ≡ descriptor.read-via-stream v (node_in table.now node) offset) }
+    ensures inside { IfOk result (λ row. row_inside (count_of table.now) row ≡ true) }
 {
     match kind(table, node) {
         NodeKind::File => {
@@ -43,7 +45,8 @@ pub fn stream_row(alloc: Global, table: &Table, node: u32, offset: u64) -> Resul
 /// `get-type`.
 pub fn type_row(alloc: Global, table: &Table, node: u32) -> Result<Row, NoMemory>
     requires { node < count_of table.now }
-    ensures { IfOk result (λ row. (v : View) → HoldsTrees table.now v → shown table.now row ≡ descriptor.get-type v (node_in table.now node)) }
+    ensures row { IfOk result (λ row. (v : View) → HoldsTrees table.now v → shown table.now row ≡ descriptor.get-type v (node_in table.now node)) }
+    ensures inside { IfOk result (λ row. row_inside (count_of table.now) row ≡ true) }
 {
     Ok(returns(ok(alloc, label(node_type(table, node)))?))
 }
@@ -57,7 +60,8 @@ pub fn read_row(
     offset: u64,
 ) -> Result<Row, NoMemory>
     requires { node < count_of table.now }
-    ensures { IfOk result (λ row. (v : View) → HoldsTrees table.now v → shown table.now row ≡ descriptor.read v (node_in table.now node) len offset) }
+    ensures row { IfOk result (λ row. (v : View) → HoldsTrees table.now v → shown table.now row ≡ descriptor.read v (node_in table.now node) len offset) }
+    ensures inside { IfOk result (λ row. row_inside (count_of table.now) row ≡ true) }
 {
     match kind(table, node) {
         NodeKind::File => Ok(returns(bytes_from(alloc, content(table, node), len, offset)?)),
@@ -69,7 +73,8 @@ pub fn read_row(
 /// `read-directory`.
 pub fn read_directory_row(alloc: Global, table: &Table, node: u32) -> Result<Row, NoMemory>
     requires { node < count_of table.now }
-    ensures { IfOk result (λ row. (v : View) → HoldsTrees table.now v → shown table.now row ≡ descriptor.read-directory v (node_in table.now node)) }
+    ensures row { IfOk result (λ row. (v : View) → HoldsTrees table.now v → shown table.now row ≡ descriptor.read-directory v (node_in table.now node)) }
+    ensures inside { IfOk result (λ row. row_inside (count_of table.now) row ≡ true) }
 {
     match kind(table, node) {
         NodeKind::File => fails(alloc, NOT_DIRECTORY),
@@ -81,7 +86,8 @@ pub fn read_directory_row(alloc: Global, table: &Table, node: u32) -> Result<Row
 /// `stat`.
 pub fn stat_row(alloc: Global, table: &Table, node: u32) -> Result<Row, NoMemory>
     requires { node < count_of table.now }
-    ensures { IfOk result (λ row. (v : View) → HoldsTrees table.now v → shown table.now row ≡ descriptor.stat v (node_in table.now node)) }
+    ensures row { IfOk result (λ row. (v : View) → HoldsTrees table.now v → shown table.now row ≡ descriptor.stat v (node_in table.now node)) }
+    ensures inside { IfOk result (λ row. row_inside (count_of table.now) row ≡ true) }
 {
     Ok(returns(node_stat(alloc, table, node)?))
 }
@@ -95,7 +101,8 @@ pub fn stat_at_row(
     text: &[u8],
 ) -> Result<Row, NoMemory>
     requires { node < count_of table.now }
-    ensures { IfOk result (λ row. (v : View) → HoldsTrees table.now v → shown table.now row ≡ descriptor.stat-at v (node_in table.now node) flags text.now) }
+    ensures row { IfOk result (λ row. (v : View) → HoldsTrees table.now v → shown table.now row ≡ descriptor.stat-at v (node_in table.now node) flags text.now) }
+    ensures inside { IfOk result (λ row. row_inside (count_of table.now) row ≡ true) }
 {
     match lead(table, node, text, has_flag(flags, 0)) {
         Ok(at) => Ok(returns(node_stat(alloc, table, at)?)),
@@ -106,7 +113,8 @@ pub fn stat_at_row(
 /// `metadata-hash`.
 pub fn hash_row(alloc: Global, table: &Table, node: u32) -> Result<Row, NoMemory>
     requires { node < count_of table.now }
-    ensures { IfOk result (λ row. (v : View) → HoldsTrees table.now v → shown table.now row ≡ descriptor.metadata-hash v (node_in table.now node)) }
+    ensures row { IfOk result (λ row. (v : View) → HoldsTrees table.now v → shown table.now row ≡ descriptor.metadata-hash v (node_in table.now node)) }
+    ensures inside { IfOk result (λ row. row_inside (count_of table.now) row ≡ true) }
 {
     Ok(returns(node_hash(alloc, table, node)?))
 }
@@ -120,7 +128,8 @@ pub fn hash_at_row(
     text: &[u8],
 ) -> Result<Row, NoMemory>
     requires { node < count_of table.now }
-    ensures { IfOk result (λ row. (v : View) → HoldsTrees table.now v → shown table.now row ≡ descriptor.metadata-hash-at v (node_in table.now node) flags text.now) }
+    ensures row { IfOk result (λ row. (v : View) → HoldsTrees table.now v → shown table.now row ≡ descriptor.metadata-hash-at v (node_in table.now node) flags text.now) }
+    ensures inside { IfOk result (λ row. row_inside (count_of table.now) row ≡ true) }
 {
     match lead(table, node, text, has_flag(flags, 0)) {
         Ok(at) => Ok(returns(node_hash(alloc, table, at)?)),
@@ -132,7 +141,8 @@ pub fn hash_at_row(
 pub fn readlink_row(alloc: Global, table: &Table, node: u32, text: &[u8]) -> Result<Row, NoMemory>
     requires inside { node < count_of table.now }
     requires texts { AreTexts table.now }
-    ensures { IfOk result (λ row. (v : View) → HoldsTrees table.now v → shown table.now row ≡ descriptor.readlink-at v (node_in table.now node) text.now) }
+    ensures row { IfOk result (λ row. (v : View) → HoldsTrees table.now v → shown table.now row ≡ descriptor.readlink-at v (node_in table.now node) text.now) }
+    ensures inside { IfOk result (λ row. row_inside (count_of table.now) row ≡ true) }
 {
     match lead(table, node, text, false) {
         Ok(at) => link_row(alloc, table, at),
@@ -144,7 +154,8 @@ pub fn readlink_row(alloc: Global, table: &Table, node: u32, text: &[u8]) -> Res
 fn link_row(alloc: Global, table: &Table, node: u32) -> Result<Row, NoMemory>
     requires inside { node < count_of table.now }
     requires texts { AreTexts table.now }
-    ensures { IfOk result (λ row. shown table.now row ≡ descriptor.link_at (Some (node_of table.now node))) }
+    ensures row { IfOk result (λ row. shown table.now row ≡ descriptor.link_at (Some (node_of table.now node))) }
+    ensures inside { IfOk result (λ row. row_inside (count_of table.now) row ≡ true) }
 {
     match target(table, node) {
         Some(target) => {

@@ -8,6 +8,7 @@ ghost use Rattle.reference_step.specs.Steps.{asks, environment_gave, host_gave, 
 ghost use Rattle.ref_answers.specs.Seen.{live_in};
 ghost use Rattle.ref_live.specs.Lives.{count_of_kind};
 ghost use Rattle.ref_room.specs.Entering.{are_kinds, count_kind};
+ghost use Rattle.ref_contents.specs.Contents.{KeepsContents, Hosts};
 ghost use Rattle.ref_host_calls.specs.Requests.{IsNoted, listed_of, call_of, handles_in};
 ghost use Rattle.ref_host_calls.specs.Reactions.{IsReaction, state_at};
 
@@ -73,6 +74,7 @@ pub fn ask_host<H: Host>(
     requires kinds { (v : Option PlainValue) → are_kinds (handles_in request v) ≡ true }
     requires room { (v : Option PlainValue) (kind : ℕ) → count_kind kind (handles_in request v) + count_of_kind kind live.old.handles ≤ live.old.slots }
     ensures reaction { IfOk result (λ a. (f : Forest) (r : Reference H.State) → IsReaction (asks H.step (state_at r f request.entry.policy.now live.old (H.kept inner.old).state) (listed_of request.entry) (call_of request.entry) (λ s seen v. host_gave H.step s seen (listed_of request.entry) (call_of request.entry) v)) (plain_answer a) (state_at r f request.entry.policy.now live.new (H.kept inner.new).state) (H.kept inner.old).seen (H.kept inner.new).seen) }
+    ensures keeps { OnOk result (KeepsContents Hosts live.old live.new) }
     ensures limits { OnOk result ((live.new.slots ≡ live.old.slots) × (live.new.files ≡ live.old.files)) }
 {
     match ask(alloc, live, inner, request)? {

@@ -10,6 +10,7 @@ ghost use Rattle.reference_step.specs.Steps.{host_gave, environment_gave, value_
 ghost use Rattle.ref_live.specs.Lives.{count_of_kind};
 ghost use Rattle.ref_room.specs.Entering.{are_kinds, count_kind};
 ghost use Rattle.ref_guards.specs.Noted.{shown_all};
+ghost use Rattle.ref_contents.specs.Contents.{KeepsContents, Hosts};
 ghost use Rattle.ref_host_calls.specs.Requests.{IsNoted, listed_of, call_of, handles_in};
 ghost use Rattle.ref_host_calls.specs.Reactions.{state_at};
 
@@ -64,6 +65,7 @@ pub fn give<H: Host>(
     requires kinds { are_kinds (handles_in request (plain_option value)) ≡ true }
     requires room { (kind : ℕ) → count_kind kind (handles_in request (plain_option value)) + count_of_kind kind live.old.handles ≤ live.old.slots }
     ensures gave { IfOk result (λ a. (f : Forest) (r : Reference H.State) (seen : List PlainObservation) → host_gave H.step (state_at r f request.entry.policy.now live.old r.inner) seen (listed_of request.entry) (call_of request.entry) (plain_option value) ≡ record { seen = seen; answer = plain_answer a; next = state_at r f request.entry.policy.now live.new r.inner }) }
+    ensures keeps { OnOk result (KeepsContents Hosts live.old live.new) }
     ensures limits { OnOk result ((live.new.slots ≡ live.old.slots) × (live.new.files ≡ live.old.files)) }
 {
     let ty = &request.found.function.ty.result;

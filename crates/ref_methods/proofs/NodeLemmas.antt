@@ -10,7 +10,7 @@ use Rattle.ref_live.specs.declared.content.Content.{Content}
 use Rattle.ref_live.specs.declared.content.Content.TheVariants.{Host, Node, FileAt, EmptyIn, Discard, Always, Entries, ScratchRoot, ScratchEntries, ScratchFile, ScratchIn, ScratchOut}
 use Rattle.ref_answers.specs.Seen.{content_in}
 use Rattle.ref_files.specs.Views.{node_in}
-use Rattle.ref_methods.specs.Held.{node_inside}
+use Rattle.ref_files.specs.Inside.{node_inside}
 use Rattle.ref_methods.specs.Others.{node_of, crossing, same_as}
 
 -- the node of a content is one of so many, where that of the content is

@@ -1,8 +1,17 @@
--- Values one by one, and whether each pollable is the host's.
-use Rattle.std.proofs.Common.{◌≡◌, ◌+◌, ◌<◌, ◌≤◌, ℕ, zero, suc, List, [], ◌∷◌, ◌++◌, length, take, map, refl, ap, ◌∙◌, arith}
+-- Values one by one, whether each pollable is the host's, and that `poll` makes nothing.
+use Rattle.std.proofs.Common.{◌≡◌, ◌+◌, ◌<◌, ◌≤◌, ℕ, zero, suc, true, List, [], ◌∷◌, ◌++◌, length, take, map, Option, None, refl, ap, ◌∙◌, arith}
+use Rattle.tree_table.specs.Tables.{Forest}
 use Rattle.wit_types.specs.declared.value.Value.{Value}
 use Rattle.wit_types.specs.PlainValue.{PlainValue, PlainValues, End, More, values_of, byte_values}
+use Rattle.reference_step.specs.Handles.{Content, content_of}
+use Rattle.reference_step.specs.Pollables.{poll_of}
 use Rattle.reference_step.specs.Values.{nth, items}
+use Rattle.ref_answers.specs.declared.row.Row.{Row}
+use Rattle.ref_answers.specs.Seen.{live_in}
+use Rattle.ref_answers.specs.Shown.{shown}
+use Rattle.ref_files.specs.Inside.{row_inside}
+use Rattle.ref_files.proofs.InsideLemmas.{becomes_in, makes_in, row_plain}
+use Rattle.ref_live.specs.declared.content.Handle.{Handle}
 
 pub each_count : (vs : List Value) → length (items (values_of vs)) ≡ length vs
 each_count [] = refl
@@ -29,3 +38,19 @@ all_values End zero e = refl
 all_values End (suc n) e = refl
 all_values (More v vs) zero e = absurd (omega (arith, e))
 all_values (More v vs) (suc n) e = ap (λ rest. v ∷ rest) (all_values vs n (omega (arith, e)))
+
+-- it makes nothing
+makes_none : (content : ℕ → Content) (vs : List PlainValue) → makes_in (poll_of content vs) ≡ []
+makes_none content [] = refl
+makes_none content (v ∷ vs) = refl
+
+becomes_none : (content : ℕ → Content) (vs : List PlainValue) → becomes_in (poll_of content vs) ≡ None
+becomes_none content [] = refl
+becomes_none content (v ∷ vs) = refl
+
+module _ (row : Row) (handles : List (Option Handle)) (vs : List PlainValue) (nodes : ℕ) where
+  abbrev polled_by : Forest → ℕ → Content
+  polled_by f = content_of (live_in f handles)
+
+  pub poll_inside : ((f : Forest) → shown f row ≡ poll_of (polled_by f) vs) → row_inside nodes row ≡ true
+  poll_inside says = row_plain row (λ f. poll_of (polled_by f) vs) [] None nodes says (λ f. makes_none (polled_by f) vs) (λ f. becomes_none (polled_by f) vs)

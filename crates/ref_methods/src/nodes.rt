@@ -1,7 +1,7 @@
 // wasi:filesystem/types, where the descriptor is a node of a tree.
 #![tactic(auto, using(wit_types::proofs::ValueLemmas::values))]
 
-ghost use Rattle.std.specs.Prelude.{◌≡◌, ◌≤◌, ◌<◌, IfOk, IfSome};
+ghost use Rattle.std.specs.Prelude.{◌≡◌, ◌≤◌, ◌<◌, IfOk, IfSome, true};
 ghost use Rattle.tree_table.specs.Tables.{Forest, count_of};
 ghost use Rattle.wit_types.specs.PlainValue.{plain_values};
 ghost use Rattle.reference_step.specs.Descriptors as descriptor;
@@ -9,6 +9,7 @@ ghost use Rattle.reference_step.specs.Handles.{content_of};
 ghost use Rattle.reference_step.specs.State.{View, fails};
 ghost use Rattle.ref_answers.specs.Seen.{content_in, live_in};
 ghost use Rattle.ref_answers.specs.Shown.{shown};
+ghost use Rattle.ref_files.specs.Inside.{row_inside};
 ghost use Rattle.ref_files.specs.Views.{AreTexts, HoldsTrees, node_in};
 ghost use Rattle.ref_methods.specs.Held.{AreInside, AreWords};
 ghost use Rattle.ref_methods.specs.Methods.{look_row, pair_row, method_row};
@@ -45,7 +46,8 @@ fn look_row(
     requires inside { node < count_of table.now }
     requires texts { AreTexts table.now }
     requires words { AreWords (plain_values args.now) }
-    ensures { IfOk result (λ row. (v : View) → HoldsTrees table.now v → shown table.now row ≡ look_row look v (node_in table.now node) (plain_values args.now)) }
+    ensures row { IfOk result (λ row. (v : View) → HoldsTrees table.now v → shown table.now row ≡ look_row look v (node_in table.now node) (plain_values args.now)) }
+    ensures inside { IfOk result (λ row. row_inside (count_of table.now) row ≡ true) }
 {
     match look {
         Look::ReadViaStream => stream_row(alloc, table, node, number_at(args, 1)),
@@ -67,7 +69,8 @@ fn look_row(
 /// `open-at`: how the path is followed, the path, and what is asked of what it leads to.
 fn open_at_row(alloc: Global, table: &Table, node: u32, args: &Values) -> Result<Row, NoMemory>
     requires { node < count_of table.now }
-    ensures { IfOk result (λ row. (v : View) → HoldsTrees table.now v → shown table.now row ≡ look_row Look.OpenAt v (node_in table.now node) (plain_values args.now)) }
+    ensures row { IfOk result (λ row. (v : View) → HoldsTrees table.now v → shown table.now row ≡ look_row Look.OpenAt v (node_in table.now node) (plain_values args.now)) }
+    ensures inside { IfOk result (λ row. row_inside (count_of table.now) row ≡ true) }
 {
     let follow = flags_at(args, 1);
     let path = bytes_at(args, 2);
@@ -134,7 +137,8 @@ fn pair_row(
 ) -> Result<Row, NoMemory>
     requires inside { node < count_of table.now }
     requires others { AreInside (count_of table.now) live.now.handles }
-    ensures { IfOk result (λ row. (v : View) → HoldsTrees table.now v → v.content ≡ content_of (live_in table.now live.now.handles) → shown table.now row ≡ pair_row pair v (node_in table.now node) (plain_values args.now)) }
+    ensures row { IfOk result (λ row. (v : View) → HoldsTrees table.now v → v.content ≡ content_of (live_in table.now live.now.handles) → shown table.now row ≡ pair_row pair v (node_in table.now node) (plain_values args.now)) }
+    ensures inside { IfOk result (λ row. row_inside (count_of table.now) row ≡ true) }
 {
     match pair {
         Pair::LinkAt => crossing_row(alloc, node_of(content_at(live, args, 3))),
@@ -159,7 +163,8 @@ pub fn node_row(
     requires others { AreInside (count_of table.now) live.now.handles }
     requires texts { AreTexts table.now }
     requires words { AreWords (plain_values args.now) }
-    ensures { IfOk result (λ row. (v : View) → HoldsTrees table.now v → v.content ≡ content_of (live_in table.now live.now.handles) → shown table.now row ≡ method_row method v (node_in table.now node) (plain_values args.now)) }
+    ensures row { IfOk result (λ row. (v : View) → HoldsTrees table.now v → v.content ≡ content_of (live_in table.now live.now.handles) → shown table.now row ≡ method_row method v (node_in table.now node) (plain_values args.now)) }
+    ensures inside { IfOk result (λ row. row_inside (count_of table.now) row ≡ true) }
 {
     match method {
         Method::Looks(look) => look_row(alloc, table, node, look, args),

@@ -8,6 +8,7 @@ ghost use Rattle.reference_step.specs.Handles as reference;
 ghost use Rattle.reference_step.specs.State.{View};
 ghost use Rattle.ref_answers.specs.Seen.{content_in};
 ghost use Rattle.ref_answers.specs.Shown.{shown};
+ghost use Rattle.ref_files.specs.Inside.{row_inside};
 ghost use Rattle.ref_files.specs.Views.{HoldsTrees};
 ghost use Rattle.ref_live.specs.declared.content.Content.TheVariants as held;
 ghost use Rattle.ref_methods.specs.Methods.{look_row, pair_row, method_row};
@@ -106,7 +107,8 @@ pub fn listing_row(
 ) -> Result<Row, NoMemory>
     requires inside { node < count_of table.now }
     requires few { count_of table.now ≤ 65536 }
-    ensures { IfOk result (λ row. (v : View) (args : PlainValues) → HoldsTrees table.now v → length v.trees ≡ trees → shown table.now row ≡ method_row method v (content_in table.now (held.Entries node place)) args) }
+    ensures row { IfOk result (λ row. (v : View) (args : PlainValues) → HoldsTrees table.now v → length v.trees ≡ trees → shown table.now row ≡ method_row method v (content_in table.now (held.Entries node place)) args) }
+    ensures inside { IfOk result (λ row. (v : View) → length v.trees ≡ trees → row_inside (count_of table.now) row ≡ true) }
 {
     if is_next(method) {
         read_entry_row(alloc, table, node, place)

@@ -1,7 +1,7 @@
 // wasi:io/poll, where a pollable is not the host's.
 #![tactic(auto, using(wit_types::proofs::ValueLemmas::values, crate::proofs::PollLemmas::each_count, crate::proofs::PollLemmas::byte_count))]
 
-ghost use Rattle.std.specs.Prelude.{◌≡◌, IfOk, length, map};
+ghost use Rattle.std.specs.Prelude.{◌≡◌, IfOk, length, map, true, ℕ};
 ghost use Rattle.wit_types.specs.PlainValue.{plain_value, plain_values};
 ghost use Rattle.tree_table.specs.Tables.{Forest};
 ghost use Rattle.reference_step.specs.Handles.{content_of, is_host};
@@ -12,6 +12,7 @@ ghost use Rattle.reference_step.specs.Values.{id_in, items, list_in};
 ghost use Rattle.ref_answers.specs.Found.{found};
 ghost use Rattle.ref_answers.specs.Seen.{live_in};
 ghost use Rattle.ref_answers.specs.Shown.{shown};
+ghost use Rattle.ref_files.specs.Inside.{row_inside};
 ghost use Rattle.ref_rules.specs.Parts as parts;
 
 use ref_answers::{Row, block, poll, ready};
@@ -77,7 +78,8 @@ pub fn poll_row(
     function: &str,
     args: &Values,
 ) -> Result<Row, NoMemory>
-    ensures { IfOk result (λ row. (f : Forest) (v : View) → v.content ≡ content_of (live_in f live.now.handles) → shown f row ≡ found poll_rows function.now v (plain_values args.now)) }
+    ensures row { IfOk result (λ row. (f : Forest) (v : View) → v.content ≡ content_of (live_in f live.now.handles) → shown f row ≡ found poll_rows function.now v (plain_values args.now)) }
+    ensures inside { IfOk result (λ row. (nodes : ℕ) → row_inside nodes row ≡ true) }
 {
     if "[method]pollable.ready" == function {
         Ok(ready())

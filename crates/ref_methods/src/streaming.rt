@@ -8,6 +8,7 @@ ghost use Rattle.reference_step.specs.Handles as reference;
 ghost use Rattle.reference_step.specs.State.{View};
 ghost use Rattle.ref_answers.specs.Seen.{content_in};
 ghost use Rattle.ref_answers.specs.Shown.{shown};
+ghost use Rattle.ref_files.specs.Inside.{row_inside};
 ghost use Rattle.ref_files.specs.Views.{HoldsTrees};
 ghost use Rattle.ref_live.specs.declared.content.Content.TheVariants as held;
 ghost use Rattle.ref_methods.specs.Held.{AreWords};
@@ -38,7 +39,8 @@ pub fn file_input_row(
 ) -> Result<Row, NoMemory>
     requires inside { node < count_of table.now }
     requires words { AreWords (plain_values args.now) }
-    ensures { IfOk result (λ row. (v : View) → HoldsTrees table.now v → shown table.now row ≡ input_row method v (content_in table.now (held.FileAt node place)) (plain_values args.now)) }
+    ensures row { IfOk result (λ row. (v : View) → HoldsTrees table.now v → shown table.now row ≡ input_row method v (content_in table.now (held.FileAt node place)) (plain_values args.now)) }
+    ensures inside { IfOk result (λ row. row_inside (count_of table.now) row ≡ true) }
 {
     match method {
         InputMethod::Read => read_stream_row(alloc, table, node, place, number_at(args, 1)),

@@ -3,3 +3,4 @@ mod BesideLemmas
 mod OtherLemmas
 mod ByteLemmas
 mod ActLemmas
+mod InsideLemmas

@@ -1,7 +1,7 @@
 // wasi:filesystem/types, where the descriptor is a file of the scratch folder.
 #![tactic(auto, using(wit_types::proofs::ValueLemmas::values))]
 
-ghost use Rattle.std.specs.Prelude.{◌≡◌, Bool, IfOk, IsSome, length};
+ghost use Rattle.std.specs.Prelude.{◌≡◌, Bool, IfOk, IsSome, length, ℕ, true};
 ghost use Rattle.wit_types.specs.PlainValue.{plain_values};
 ghost use Rattle.tree_table.specs.Scratches.{file_at};
 ghost use Rattle.tree_table.specs.Tables.{Forest};
@@ -10,6 +10,7 @@ ghost use Rattle.reference_step.specs.Handles.{content_of, ScratchFile};
 ghost use Rattle.reference_step.specs.State.{View};
 ghost use Rattle.ref_answers.specs.Seen.{live_in};
 ghost use Rattle.ref_answers.specs.Shown.{shown};
+ghost use Rattle.ref_files.specs.Inside.{row_inside};
 ghost use Rattle.ref_methods.specs.Held.{AreWords};
 ghost use Rattle.ref_methods.specs.Methods.{look_row, change_row, pair_row, method_row};
 ghost use Rattle.ref_scratch.specs.Told.{told, settled};
@@ -131,7 +132,8 @@ fn pair_row(
     pair: Pair,
     args: &Values,
 ) -> Result<Row, NoMemory>
-    ensures { IfOk result (λ row. (f : Forest) (v : View) (may_write : Bool) → v.content ≡ content_of (live_in f live.now.handles) → shown f row ≡ pair_row pair v (ScratchFile file may_write) (plain_values args.now)) }
+    ensures row { IfOk result (λ row. (f : Forest) (v : View) (may_write : Bool) → v.content ≡ content_of (live_in f live.now.handles) → shown f row ≡ pair_row pair v (ScratchFile file may_write) (plain_values args.now)) }
+    ensures inside { IfOk result (λ row. (nodes : ℕ) → row_inside nodes row ≡ true) }
 {
     match pair {
         Pair::LinkAt => joined_row(alloc, beside_of(content_at(live, args, 3))),
@@ -157,7 +159,8 @@ pub fn file_row(
     requires there { IsSome (file_at folder.old file) }
     requires words { AreWords (plain_values args.now) }
     requires bytes { AreBytes (plain_values args.now) }
-    ensures { IfOk result (λ row. (f : Forest) (v : View) → length v.trees ≡ trees → v.content ≡ content_of (live_in f live.now.handles) → told f row folder.new ≡ settled folder.old (method_row method (record v { scratch = folder.old }) (ScratchFile file may_write) (plain_values args.now))) }
+    ensures row { IfOk result (λ row. (f : Forest) (v : View) → length v.trees ≡ trees → v.content ≡ content_of (live_in f live.now.handles) → told f row folder.new ≡ settled folder.old (method_row method (record v { scratch = folder.old }) (ScratchFile file may_write) (plain_values args.now))) }
+    ensures inside { IfOk result (λ row. (v : View) (nodes : ℕ) → length v.trees ≡ trees → row_inside nodes row ≡ true) }
 {
     match method {
         Method::Looks(look) => look_row(alloc, folder, trees, file, may_write, look, args),

@@ -9,9 +9,10 @@ ghost use Rattle.reference_step.specs.State.{View};
 ghost use Rattle.ref_answers.specs.Found.{found};
 ghost use Rattle.ref_answers.specs.Seen.{content_in, live_in};
 ghost use Rattle.ref_answers.specs.Shown.{shown};
+ghost use Rattle.ref_files.specs.Inside.{node_inside, row_inside};
 ghost use Rattle.ref_files.specs.Views.{AreTexts, HoldsTrees};
 ghost use Rattle.ref_live.specs.Lives.{is_open};
-ghost use Rattle.ref_methods.specs.Held.{AreInside, AreWords, node_inside};
+ghost use Rattle.ref_methods.specs.Held.{AreInside, AreWords};
 ghost use Rattle.ref_methods.specs.Methods.{method_row};
 ghost use Rattle.ref_scratch.specs.Told.{told, settled};
 ghost use Rattle.ref_virtual.specs.Acting.{Stays};
@@ -68,7 +69,8 @@ fn content_row(
     requires held { length folder.old.files ≡ live.now.files }
     requires words { AreWords (plain_values args.now) }
     requires bytes { AreBytes (plain_values args.now) }
-    ensures { IfOk result (λ row. (v : View) → HoldsTrees table.now v → length v.trees ≡ trees → v.content ≡ content_of (live_in table.now live.now.handles) → told table.now row folder.new ≡ settled folder.old (method_row method (record v { scratch = folder.old; held = λ n. is_open live.now.handles n }) (content_in table.now content) (plain_values args.now))) }
+    ensures row { IfOk result (λ row. (v : View) → HoldsTrees table.now v → length v.trees ≡ trees → v.content ≡ content_of (live_in table.now live.now.handles) → told table.now row folder.new ≡ settled folder.old (method_row method (record v { scratch = folder.old; held = λ n. is_open live.now.handles n }) (content_in table.now content) (plain_values args.now))) }
+    ensures inside { IfOk result (λ row. (v : View) → length v.trees ≡ trees → row_inside (count_of table.now) row ≡ true) }
 {
     match content {
         Content::Node(node) => node_row(alloc, table, live, node, method, args),
@@ -112,6 +114,7 @@ pub fn filesystem_row(
     ensures row { IfOk result (λ row. (v : View) → HoldsTrees table.now v → length v.trees ≡ trees → v.content ≡ content_of (live_in table.now live.now.handles) → told table.now row folder.new ≡ settled folder.old (found filesystem_rows function.now (record v { scratch = folder.old; held = λ n. is_open live.now.handles n }) (plain_values args.now))) }
     // Where it traps, the folder is as it was.
     ensures still { IfOk result (λ row. (v : View) → HoldsTrees table.now v → length v.trees ≡ trees → v.content ≡ content_of (live_in table.now live.now.handles) → Stays row folder.new folder.old) }
+    ensures inside { IfOk result (λ row. (v : View) → length v.trees ≡ trees → row_inside (count_of table.now) row ≡ true) }
 {
     match method_named(function) {
         Some(method) => {

@@ -1,7 +1,7 @@
 // wasi:filesystem/types, where the descriptor is the scratch folder.
 #![tactic(auto, using(wit_types::proofs::ValueLemmas::values))]
 
-ghost use Rattle.std.specs.Prelude.{◌≡◌, IfOk, length};
+ghost use Rattle.std.specs.Prelude.{◌≡◌, IfOk, length, ℕ, true};
 ghost use Rattle.wit_types.specs.PlainValue.{plain_values};
 ghost use Rattle.tree_table.specs.Tables.{Forest};
 ghost use Rattle.reference_step.specs.Handles.{content_of, ScratchRoot};
@@ -10,6 +10,7 @@ ghost use Rattle.reference_step.specs.Rows.{text};
 ghost use Rattle.reference_step.specs.State.{View};
 ghost use Rattle.ref_answers.specs.Seen.{live_in};
 ghost use Rattle.ref_answers.specs.Shown.{shown};
+ghost use Rattle.ref_files.specs.Inside.{row_inside};
 ghost use Rattle.ref_live.specs.Lives.{is_open};
 ghost use Rattle.ref_methods.specs.Methods.{look_row, change_row, pair_row, method_row};
 ghost use Rattle.ref_scratch.specs.Told.{told, settled};
@@ -138,7 +139,8 @@ fn pair_row(
     args: &Values,
 ) -> Result<Row, NoMemory>
     requires { length folder.old.files ≡ live.now.files }
-    ensures { IfOk result (λ row. (f : Forest) (v : View) → v.content ≡ content_of (live_in f live.now.handles) → told f row folder.new ≡ settled folder.old (pair_row pair (record v { scratch = folder.old; held = λ n. is_open live.now.handles n }) ScratchRoot (plain_values args.now))) }
+    ensures row { IfOk result (λ row. (f : Forest) (v : View) → v.content ≡ content_of (live_in f live.now.handles) → told f row folder.new ≡ settled folder.old (pair_row pair (record v { scratch = folder.old; held = λ n. is_open live.now.handles n }) ScratchRoot (plain_values args.now))) }
+    ensures inside { IfOk result (λ row. (v : View) (nodes : ℕ) → row_inside nodes row ≡ true) }
 {
     match pair {
         Pair::LinkAt => link_row(alloc, beside_of(content_at(live, args, 3))),
@@ -163,7 +165,8 @@ pub fn root_row(
     args: &Values,
 ) -> Result<Row, NoMemory>
     requires { length folder.old.files ≡ live.now.files }
-    ensures { IfOk result (λ row. (f : Forest) (v : View) → length v.trees ≡ trees → v.content ≡ content_of (live_in f live.now.handles) → told f row folder.new ≡ settled folder.old (method_row method (record v { scratch = folder.old; held = λ n. is_open live.now.handles n }) ScratchRoot (plain_values args.now))) }
+    ensures row { IfOk result (λ row. (f : Forest) (v : View) → length v.trees ≡ trees → v.content ≡ content_of (live_in f live.now.handles) → told f row folder.new ≡ settled folder.old (method_row method (record v { scratch = folder.old; held = λ n. is_open live.now.handles n }) ScratchRoot (plain_values args.now))) }
+    ensures inside { IfOk result (λ row. (v : View) (nodes : ℕ) → length v.trees ≡ trees → row_inside nodes row ≡ true) }
 {
     match method {
         Method::Looks(look) => look_row(alloc, folder, trees, look, args),

@@ -1,10 +1,11 @@
-ghost use Rattle.std.specs.Prelude.{◌≡◌, ◌≤◌, IfOk, length};
+ghost use Rattle.std.specs.Prelude.{◌≡◌, ◌≤◌, IfOk, length, true};
 ghost use Rattle.wit_types.specs.PlainValue.{plain_values};
 ghost use Rattle.tree_table.specs.Tables.{count_of, tree_count};
 ghost use Rattle.reference_step.specs.Handles.{content_of, is_held};
 ghost use Rattle.reference_step.specs.Rows.{row_of};
 ghost use Rattle.reference_step.specs.State.{View};
 ghost use Rattle.ref_answers.specs.Seen.{live_in};
+ghost use Rattle.ref_files.specs.Inside.{row_inside};
 ghost use Rattle.ref_files.specs.Views.{AreTexts, HoldsTrees};
 ghost use Rattle.ref_methods.specs.Held.{AreInside, AreWords};
 ghost use Rattle.ref_scratch.specs.Told.{told, settled};
@@ -50,6 +51,7 @@ pub fn row_of(
     ensures row { IfOk result (λ row. (v : View) → HoldsTrees table.now v → told table.now row folder.new ≡ settled folder.old (row_of interface function.now (record v { policy = policy.now; scratch = folder.old; content = content_of (live_in table.now live.now.handles); held = is_held (live_in table.now live.now.handles) }) (plain_values args.now))) }
     // Where it traps, the folder is as it was.
     ensures still { IfOk result (λ row. (v : View) → HoldsTrees table.now v → Stays row folder.new folder.old) }
+    ensures inside { IfOk result (λ row. (v : View) → HoldsTrees table.now v → row_inside (count_of table.now) row ≡ true) }
 {
     match interface_at(interface) {
         Interface::Rowless => Ok(Row::Traps),

@@ -1,5 +1,5 @@
 // wasi:io/streams: what a method answers goes by what its first handle stands for.
-ghost use Rattle.std.specs.Prelude.{◌≡◌, true, IfOk, IsSome};
+ghost use Rattle.std.specs.Prelude.{◌≡◌, true, IfOk, IsSome, ℕ};
 ghost use Rattle.wit_types.specs.PlainValue.{plain_values};
 ghost use Rattle.tree_table.specs.Scratches.{file_at};
 ghost use Rattle.tree_table.specs.Tables.{Forest, count_of};
@@ -9,8 +9,9 @@ ghost use Rattle.reference_step.specs.State.{View};
 ghost use Rattle.ref_answers.specs.Found.{found};
 ghost use Rattle.ref_answers.specs.Seen.{content_in, live_in};
 ghost use Rattle.ref_answers.specs.Shown.{shown};
+ghost use Rattle.ref_files.specs.Inside.{node_inside, row_inside};
 ghost use Rattle.ref_files.specs.Views.{HoldsTrees};
-ghost use Rattle.ref_methods.specs.Held.{AreInside, AreWords, node_inside};
+ghost use Rattle.ref_methods.specs.Held.{AreInside, AreWords};
 ghost use Rattle.ref_methods.specs.Methods.{input_row, output_row, stream_row};
 ghost use Rattle.ref_scratch.specs.Told.{told, settled};
 ghost use Rattle.ref_virtual.specs.Acting.{Stays};
@@ -102,7 +103,8 @@ fn input_row(
     requires inside { node_inside (count_of table.now) content ≡ true }
     requires there { file_open folder.now content }
     requires words { AreWords (plain_values args.now) }
-    ensures { IfOk result (λ row. (v : View) → HoldsTrees table.now v → shown table.now row ≡ input_row method (record v { scratch = folder.now }) (content_in table.now content) (plain_values args.now)) }
+    ensures row { IfOk result (λ row. (v : View) → HoldsTrees table.now v → shown table.now row ≡ input_row method (record v { scratch = folder.now }) (content_in table.now content) (plain_values args.now)) }
+    ensures inside { IfOk result (λ row. (v : View) → row_inside (count_of table.now) row ≡ true) }
 {
     match content {
         Content::FileAt(node, place) => file_input_row(alloc, table, node, place, method, args),
@@ -130,7 +132,8 @@ fn output_row(
     requires there { file_open folder.old content }
     requires words { AreWords (plain_values args.now) }
     requires bytes { AreBytes (plain_values args.now) }
-    ensures { IfOk result (λ row. (f : Forest) (v : View) → told f row folder.new ≡ settled folder.old (output_row method (record v { scratch = folder.old }) (content_in f content) (plain_values args.now))) }
+    ensures row { IfOk result (λ row. (f : Forest) (v : View) → told f row folder.new ≡ settled folder.old (output_row method (record v { scratch = folder.old }) (content_in f content) (plain_values args.now))) }
+    ensures inside { IfOk result (λ row. (v : View) (nodes : ℕ) → row_inside nodes row ≡ true) }
 {
     match content {
         Content::ScratchOut(file, place) => sink_row(alloc, folder, file, place, method, args),
@@ -161,7 +164,8 @@ fn method_row(
     requires there { file_open folder.old content }
     requires words { AreWords (plain_values args.now) }
     requires bytes { AreBytes (plain_values args.now) }
-    ensures { IfOk result (λ row. (v : View) → HoldsTrees table.now v → told table.now row folder.new ≡ settled folder.old (stream_row method (record v { scratch = folder.old }) (content_in table.now content) (plain_values args.now))) }
+    ensures row { IfOk result (λ row. (v : View) → HoldsTrees table.now v → told table.now row folder.new ≡ settled folder.old (stream_row method (record v { scratch = folder.old }) (content_in table.now content) (plain_values args.now))) }
+    ensures inside { IfOk result (λ row. (v : View) → row_inside (count_of table.now) row ≡ true) }
 {
     match method {
         StreamMethod::Input(input) => input_row(alloc, table, folder, content, input, args),
@@ -185,6 +189,7 @@ pub fn stream_row(
     ensures row { IfOk result (λ row. (v : View) → HoldsTrees table.now v → v.content ≡ content_of (live_in table.now live.now.handles) → told table.now row folder.new ≡ settled folder.old (found stream_rows function.now (record v { scratch = folder.old }) (plain_values args.now))) }
     // Where it traps, the folder is as it was.
     ensures still { IfOk result (λ row. (v : View) → HoldsTrees table.now v → v.content ≡ content_of (live_in table.now live.now.handles) → Stays row folder.new folder.old) }
+    ensures inside { IfOk result (λ row. (v : View) → row_inside (count_of table.now) row ≡ true) }
 {
     match stream_method_named(function) {
         Some(method) => {

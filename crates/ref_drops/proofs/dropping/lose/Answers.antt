@@ -1,6 +1,8 @@
 use Rattle.std.proofs.Common.{ap, ◌∙◌}
 use Rattle.host_port.specs.declared.call.Resource.{Resource}
 use Rattle.host_port.specs.Hosts.{drops}
+use Rattle.ref_contents.specs.Contents.{Nothing}
+use Rattle.ref_contents.proofs.KeepLaws.{on_always, keeps-free}
 use Rattle.ref_drops.proofs.LossLemmas.{on_map, loses_theirs, loses_ours}
 use Rattle.ref_drops.proofs.dropping.lose.Goals as goal
 
@@ -11,3 +13,9 @@ returns-in_ok-resource-in-Some-clause-loss g c = on_map c.drop_handle.result _ _
 
 pub returns-in-None-clause-loss : goal.returns-in-None-clause-loss
 returns-in-None-clause-loss g c = λ f r. loses_ours g.H.Host.step f r c.args.listed.now c.args.live.now c.remove.new.self c.args.id c.args.kind c.remove.ensures c.args.content (g.H.Host.kept c.args.inner.now) (c.in-None.ensures.none f)
+
+pub returns-in_ok-resource-in-Some-clause-keeps : goal.returns-in_ok-resource-in-Some-clause-keeps
+returns-in_ok-resource-in-Some-clause-keeps g c = on_always c.drop_handle.result _ (keeps-free Nothing c.args.live.now c.remove.new.self c.args.id c.remove.ensures)
+
+pub returns-in-None-clause-keeps : goal.returns-in-None-clause-keeps
+returns-in-None-clause-keeps g c = keeps-free Nothing c.args.live.now c.remove.new.self c.args.id c.remove.ensures

@@ -1,6 +1,8 @@
 use Rattle.std.proofs.Common.{refl, sym, ap, ◌∙◌}
 use Rattle.host_port.specs.Calls.{Gives, Trap, Ended, Bad, plain_answer, plain_option}
 use Rattle.reference_step.specs.Steps.{host_gave, to_host}
+use Rattle.ref_contents.specs.Contents.{Hosts}
+use Rattle.ref_contents.proofs.KeepLaws.{keeps-same}
 use Rattle.ref_host_calls.specs.Requests.{listed_of, call_of}
 use Rattle.ref_host_calls.specs.Reactions.{state_at}
 use Rattle.ref_host_calls.proofs.AskLemmas.{ok_map, reacts_as}
@@ -33,3 +35,12 @@ returns-in-Bad-clause-reaction g c = λ f r.
     let is = ap plain_answer (sym c.in-Bad.is) ∙ c.in_ok-value.ensures.answer f at in
     reacts_as g.H.Host.step at (to_host g.H.Host.step at (listed_of c.args.request) (call_of c.args.request)) (λ s seen v. host_gave g.H.Host.step s seen (listed_of c.args.request) (call_of c.args.request) v) Bad (g.H.Host.kept c.args.inner.now) (g.H.Host.kept c.ask.new.inner) is (c.in_ok-value.ensures.next f at)
     Bad (state_at r f c.args.request.policy.now c.args.live.now (g.H.Host.kept c.ask.new.inner).state) (λ seen. refl)
+
+pub returns-in-Trap-clause-keeps : goal.returns-in-Trap-clause-keeps
+returns-in-Trap-clause-keeps g c = keeps-same Hosts _ _ refl
+
+pub returns-in-Ended-clause-keeps : goal.returns-in-Ended-clause-keeps
+returns-in-Ended-clause-keeps g c = keeps-same Hosts _ _ refl
+
+pub returns-in-Bad-clause-keeps : goal.returns-in-Bad-clause-keeps
+returns-in-Bad-clause-keeps g c = keeps-same Hosts _ _ refl

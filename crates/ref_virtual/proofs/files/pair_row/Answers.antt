@@ -8,18 +8,19 @@ use Rattle.reference_step.specs.Values.{nth, id_in, text_in}
 use Rattle.ref_methods.proofs.HandleLemmas.{looked}
 use Rattle.ref_virtual.specs.Besides.{is_file, file_pair}
 use Rattle.ref_virtual.proofs.BesideLemmas.{file_with, file_same, rename_file}
+use Rattle.ref_files.proofs.InsideLemmas.{row_fixed}
 use Rattle.ref_virtual.proofs.files.pair_row.Goals as goal
 
-pub returns-in-LinkAt : goal.returns-in-LinkAt
-returns-in-LinkAt c =
+pub returns-in-LinkAt-clause-row : goal.returns-in-LinkAt-clause-row
+returns-in-LinkAt-clause-row c =
     let handles = c.args.live.now.handles in
     let id = id_in (nth 3 (plain_values c.args.args.now)) in
     rw c.in-LinkAt.is (IfOk-weaker c.joined_row.result _ _ (λ row says. λ f v w e.
     says f ∙ ap (λ b. link_pair (file_pair b)) c.beside_of.ensures
     ∙ ap link_pair (file_with f c.content_at.result ∙ ap with_file (looked f v handles id c.content_at.result e c.content_at.ensures))) c.joined_row.ensures)
 
-pub returns-in-RenameAt : goal.returns-in-RenameAt
-returns-in-RenameAt c =
+pub returns-in-RenameAt-clause-row : goal.returns-in-RenameAt-clause-row
+returns-in-RenameAt-clause-row c =
     let handles = c.args.live.now.handles in
     let a = plain_values c.args.args.now in
     let old = text_in (nth 1 a) in
@@ -30,8 +31,8 @@ returns-in-RenameAt c =
     ∙ ap (λ p. rename_pair v p old new)
     (ap file_pair c.beside_of-in-RenameAt.ensures ∙ file_with f other ∙ ap with_file (looked f v handles (id_in (nth 2 a)) other e c.content_at-in-RenameAt.ensures))) c.joined_row-in-RenameAt.ensures)
 
-pub returns-in-IsSameObject : goal.returns-in-IsSameObject
-returns-in-IsSameObject c = rw c.in-IsSameObject.is (λ f v w e.
+pub returns-in-IsSameObject-clause-row : goal.returns-in-IsSameObject-clause-row
+returns-in-IsSameObject-clause-row c = rw c.in-IsSameObject.is (λ f v w e.
     let handles = c.args.live.now.handles in
     let id = id_in (nth 1 (plain_values c.args.args.now)) in
     let other = c.content_at-in-IsSameObject.result in
@@ -39,3 +40,12 @@ returns-in-IsSameObject c = rw c.in-IsSameObject.is (λ f v w e.
     ∙ ap (λ b. returning (BoolValue b))
     (c.is_file.ensures ∙ ap (λ b. is_file b c.args.file) c.beside_of-other.ensures ∙ file_same f c.args.file other
     ∙ ap (same_file c.args.file) (looked f v handles id other e c.content_at-in-IsSameObject.ensures)))
+
+pub returns-in-LinkAt-clause-inside : goal.returns-in-LinkAt-clause-inside
+returns-in-LinkAt-clause-inside c = IfOk-weaker c.joined_row.result _ _ (λ row says. λ nodes. row_fixed row _ nodes says) c.joined_row.ensures
+
+pub returns-in-RenameAt-clause-inside : goal.returns-in-RenameAt-clause-inside
+returns-in-RenameAt-clause-inside c = IfOk-weaker c.joined_row-in-RenameAt.result _ _ (λ row says. λ nodes. row_fixed row _ nodes says) c.joined_row-in-RenameAt.ensures
+
+pub returns-in-IsSameObject-clause-inside : goal.returns-in-IsSameObject-clause-inside
+returns-in-IsSameObject-clause-inside c = λ nodes. row_fixed c.returns.result _ nodes c.returns.ensures

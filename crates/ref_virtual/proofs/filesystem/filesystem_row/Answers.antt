@@ -20,7 +20,7 @@ returns-in-Some-clause-row c = IfOk-weaker c.content_row.result _ _ (λ row says
     let w = record v { scratch = m; held = λ k. is_open handles k } in
     says v h t e
     ∙ ap (settled m) (ap (λ k. method_row c.in-Some.method w k a) (looked f w handles (id_in (nth 0 a)) c.content_at-content.result e c.content_at-content.ensures)
-    ∙ sym (c.in-Some.ensures w a))) c.content_row.ensures
+    ∙ sym (c.in-Some.ensures w a))) c.content_row.ensures.row
 
 pub returns-in-None-clause-row : goal.returns-in-None-clause-row
 returns-in-None-clause-row c = λ v h t e.
@@ -34,7 +34,10 @@ returns-in-Some-clause-still c = IfOk-weaker c.content_row.result _ _ (λ row sa
     let a = plain_values c.args.args.now in
     let w = record v { scratch = m; held = λ k. is_open c.args.live.now.handles k } in
     let at = content_in f c.content_at-content.result in
-    stays f row _ m (method_row c.in-Some.method w at a) (says v h t e) (method_acts w a c.in-Some.method at)) c.content_row.ensures
+    stays f row _ m (method_row c.in-Some.method w at a) (says v h t e) (method_acts w a c.in-Some.method at)) c.content_row.ensures.row
 
 pub returns-in-None-clause-still : goal.returns-in-None-clause-still
 returns-in-None-clause-still c = λ v h t e. refl
+
+pub returns-in-None-clause-inside : goal.returns-in-None-clause-inside
+returns-in-None-clause-inside c = λ v t. refl

@@ -12,10 +12,12 @@ use Rattle.ref_scratch.specs.Told.{settled}
 use Rattle.ref_virtual.specs.Besides.{is_root, root_pair}
 use Rattle.ref_virtual.proofs.BesideLemmas.{root_with, root_same}
 use Rattle.ref_virtual.proofs.ToldLemmas.{told_same}
+use Rattle.ref_files.proofs.InsideLemmas.{row_fixed}
+use Rattle.ref_virtual.proofs.InsideLemmas.{told_fixed}
 use Rattle.ref_virtual.proofs.roots.pair_row.Goals as goal
 
-pub returns-in-LinkAt : goal.returns-in-LinkAt
-returns-in-LinkAt c =
+pub returns-in-LinkAt-clause-row : goal.returns-in-LinkAt-clause-row
+returns-in-LinkAt-clause-row c =
     let m = c.args.folder.now in
     let handles = c.args.live.now.handles in
     let id = id_in (nth 3 (plain_values c.args.args.now)) in
@@ -23,8 +25,8 @@ returns-in-LinkAt c =
     told_same f m row _ (says f ∙ ap (λ b. link_pair (root_pair b)) c.beside_of.ensures
     ∙ ap link_pair (root_with f c.content_at.result ∙ ap with_root (looked f v handles id c.content_at.result e c.content_at.ensures)))) c.link_row.ensures)
 
-pub returns-in-RenameAt : goal.returns-in-RenameAt
-returns-in-RenameAt c =
+pub returns-in-RenameAt-clause-row : goal.returns-in-RenameAt-clause-row
+returns-in-RenameAt-clause-row c =
     let m = c.args.folder.now in
     let handles = c.args.live.now.handles in
     let a = plain_values c.args.args.now in
@@ -34,8 +36,8 @@ returns-in-RenameAt c =
     ∙ ap (λ p. settled m (rename_pair (record v { scratch = m; held = λ k. is_open handles k }) p (text_in (nth 1 a)) (text_in (nth 3 a))))
     (ap root_pair c.beside_of-beside.ensures ∙ root_with f other ∙ ap with_root (looked f v handles (id_in (nth 2 a)) other e c.content_at-in-RenameAt.ensures))) c.rename_beside.ensures)
 
-pub returns-in-IsSameObject : goal.returns-in-IsSameObject
-returns-in-IsSameObject c = rw c.in-IsSameObject.is (λ f v e.
+pub returns-in-IsSameObject-clause-row : goal.returns-in-IsSameObject-clause-row
+returns-in-IsSameObject-clause-row c = rw c.in-IsSameObject.is (λ f v e.
     let handles = c.args.live.now.handles in
     let id = id_in (nth 1 (plain_values c.args.args.now)) in
     let other = c.content_at-in-IsSameObject.result in
@@ -43,3 +45,12 @@ returns-in-IsSameObject c = rw c.in-IsSameObject.is (λ f v e.
     ∙ ap (λ b. returning (BoolValue b))
     (c.is_root.ensures ∙ ap is_root c.beside_of-other.ensures ∙ root_same f other
     ∙ ap descriptor.is_root (looked f v handles id other e c.content_at-in-IsSameObject.ensures))))
+
+pub returns-in-LinkAt-clause-inside : goal.returns-in-LinkAt-clause-inside
+returns-in-LinkAt-clause-inside c = IfOk-weaker c.link_row.result _ _ (λ row says. λ v nodes. row_fixed row _ nodes says) c.link_row.ensures
+
+pub returns-in-RenameAt-clause-inside : goal.returns-in-RenameAt-clause-inside
+returns-in-RenameAt-clause-inside c = IfOk-weaker c.rename_beside.result _ _ (λ row says. λ v nodes. told_fixed row _ _ nodes (λ f. says f v)) c.rename_beside.ensures
+
+pub returns-in-IsSameObject-clause-inside : goal.returns-in-IsSameObject-clause-inside
+returns-in-IsSameObject-clause-inside c = λ v nodes. row_fixed c.returns.result _ nodes c.returns.ensures

@@ -11,6 +11,8 @@ use Rattle.ref_answers.proofs.SeenLaws.{seen_is_held}
 use Rattle.ref_files.specs.Views.{HoldsTrees}
 use Rattle.ref_scratch.specs.Told.{settled}
 use Rattle.ref_virtual.proofs.ToldLemmas.{told_same, same_stays}
+use Rattle.tree_table.specs.Tables.{count_of}
+use Rattle.ref_files.proofs.InsideLemmas.{row_fixed}
 use Rattle.ref_virtual.proofs.rows.row_of.Goals as goal
 
 pub returns-in-Rowless-clause-row : goal.returns-in-Rowless-clause-row
@@ -38,7 +40,7 @@ returns-in-Poll-clause-row c = IfOk-weaker c.poll_row.result _ _ (λ row says. �
     let handles = c.args.live.now.handles in
     let a = plain_values c.args.args.now in
     let w : View = record v { policy = c.args.policy.now; scratch = m; content = content_of (live_in f handles); held = is_held (live_in f handles) } in
-    told_same f m row _ (says f w refl) ∙ ap (λ rs. settled m (found rs c.args.function.now w a)) c.in-Poll.ensures) c.poll_row.ensures
+    told_same f m row _ (says f w refl) ∙ ap (λ rs. settled m (found rs c.args.function.now w a)) c.in-Poll.ensures) c.poll_row.ensures.row
 
 pub returns-in-Streams-clause-row : goal.returns-in-Streams-clause-row
 returns-in-Streams-clause-row c = IfOk-weaker c.stream_row.result _ _ (λ row says. λ v h.
@@ -69,7 +71,7 @@ pub returns-in-Handleless-clause-still : goal.returns-in-Handleless-clause-still
 returns-in-Handleless-clause-still c = IfOk-weaker c.handleless_row.result _ _ (λ row says. λ v h. same_stays row c.args.folder.now) c.handleless_row.ensures
 
 pub returns-in-Poll-clause-still : goal.returns-in-Poll-clause-still
-returns-in-Poll-clause-still c = IfOk-weaker c.poll_row.result _ _ (λ row says. λ v h. same_stays row c.args.folder.now) c.poll_row.ensures
+returns-in-Poll-clause-still c = IfOk-weaker c.poll_row.result _ _ (λ row says. λ v h. same_stays row c.args.folder.now) c.poll_row.ensures.row
 
 pub returns-in-Streams-clause-still : goal.returns-in-Streams-clause-still
 returns-in-Streams-clause-still c = IfOk-weaker c.stream_row.result _ _ (λ row says. λ v h.
@@ -88,3 +90,18 @@ returns-in-FilesystemTypes-clause-still c = IfOk-weaker c.filesystem_row.result 
     let w : View = record v { policy = c.args.policy.now; scratch = m; content = content_of (live_in f handles); held = is_held (live_in f handles) } in
     let h' : HoldsTrees f w = record { trees = h.trees; holds = h.holds } in
     says w h' (sym h.holds.roots ∙ c.requires.trees) refl) c.filesystem_row.ensures.still
+
+pub returns-in-Rowless-clause-inside : goal.returns-in-Rowless-clause-inside
+returns-in-Rowless-clause-inside c = λ v h. refl
+
+pub returns-in-Handleless-clause-inside : goal.returns-in-Handleless-clause-inside
+returns-in-Handleless-clause-inside c = IfOk-weaker c.handleless_row.result _ _ (λ row says. λ v h. row_fixed row _ (count_of c.args.table.now) (λ f. says f v (plain_values c.args.args.now))) c.handleless_row.ensures
+
+pub returns-in-Poll-clause-inside : goal.returns-in-Poll-clause-inside
+returns-in-Poll-clause-inside c = IfOk-weaker c.poll_row.result _ _ (λ row is. λ v h. is (count_of c.args.table.now)) c.poll_row.ensures.inside
+
+pub returns-in-Streams-clause-inside : goal.returns-in-Streams-clause-inside
+returns-in-Streams-clause-inside c = IfOk-weaker c.stream_row.result _ _ (λ row is. λ v h. is v) c.stream_row.ensures.inside
+
+pub returns-in-FilesystemTypes-clause-inside : goal.returns-in-FilesystemTypes-clause-inside
+returns-in-FilesystemTypes-clause-inside c = IfOk-weaker c.filesystem_row.result _ _ (λ row is. λ v h. is v (sym h.holds.roots ∙ c.requires.trees)) c.filesystem_row.ensures.inside

@@ -17,7 +17,7 @@ returns-in-Some-clause-row c = IfOk-weaker c.method_row.result _ _ (λ row says.
     let w = record v { scratch = m } in
     says v h
     ∙ ap (settled m) (ap (λ k. stream_row c.in-Some.method w k a) (looked c.args.table.now w c.args.live.now.handles (id_in (nth 0 a)) c.content_at-content.result e c.content_at-content.ensures)
-    ∙ sym (c.in-Some.ensures w a))) c.method_row.ensures
+    ∙ sym (c.in-Some.ensures w a))) c.method_row.ensures.row
 
 pub returns-in-None-clause-row : goal.returns-in-None-clause-row
 returns-in-None-clause-row c = λ v h e.
@@ -31,7 +31,10 @@ returns-in-Some-clause-still c = IfOk-weaker c.method_row.result _ _ (λ row say
     let a = plain_values c.args.args.now in
     let w = record v { scratch = m } in
     let at = content_in f c.content_at-content.result in
-    stays f row _ m (stream_row c.in-Some.method w at a) (says v h) (stream_acts w a c.in-Some.method at)) c.method_row.ensures
+    stays f row _ m (stream_row c.in-Some.method w at a) (says v h) (stream_acts w a c.in-Some.method at)) c.method_row.ensures.row
 
 pub returns-in-None-clause-still : goal.returns-in-None-clause-still
 returns-in-None-clause-still c = λ v h e. refl
+
+pub returns-in-None-clause-inside : goal.returns-in-None-clause-inside
+returns-in-None-clause-inside c = λ v. refl

@@ -1,0 +1,2 @@
+mod TypeLaws
+mod ListedLaw
