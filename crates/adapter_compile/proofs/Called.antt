@@ -10,10 +10,10 @@ use Rattle.core_code.specs.Tree.{tree}
 use Rattle.core_store.specs.State.{State as StoreState}
 use Rattle.core_store.specs.declared.value.CoreSpaces.{CoreSpaces}
 use Rattle.core_store.specs.Locals.{each_local}
-use Rattle.core_eval.specs.Words.{words}
-use Rattle.core_eval.specs.Config.{Reply, Config, Outcome, Done, Out, Over as Stops, bare, spaces_of}
-use Rattle.core_eval.specs.Eval.{Enter, function_type, entered_store, left_store, call_end, enter_within, begun, entered, finish, outside, exec, go, eval}
-use Rattle.core_eval.proofs.Steps.{go_enter}
+use Rattle.core_store.specs.Words.{words}
+use Rattle.core_store.specs.Config.{Reply, Config, Outcome, Done, Out, Over as Stops, bare, spaces_of}
+use Rattle.core_store.specs.Eval.{Enter, function_type, entered_store, left_store, call_end, enter_within, begun, entered, finish, outside, exec, go, eval}
+use Rattle.core_store.proofs.Steps.{go_enter}
 use Rattle.handle_space.specs.HandleMap.{HandleMap}
 use Rattle.adapter_code.specs.declared.statement.Width.{Width}
 use Rattle.adapter_code.specs.declared.state.Local.{Local}

@@ -2,7 +2,7 @@
 use Rattle.std.proofs.Common.{◌≡◌, ℕ, List, [], ◌∷◌, ◌++◌, ap, ◌∙◌}
 use Rattle.handle_space.specs.HandleMap.{HandleMap}
 use Rattle.core_store.specs.declared.value.CoreValue.TheVariants.{I32}
-use Rattle.core_eval.specs.Config.{Reply, Outcome, Asks}
+use Rattle.core_store.specs.Config.{Reply, Outcome, Asks}
 use Rattle.adapter_code.specs.declared.state.Effect.{Effect}
 use Rattle.adapter_compile.specs.Handles.{Numbers, Refused, MakesNone, DropsNone, Follows, question, answer}
 

@@ -5,8 +5,8 @@ use Rattle.std.specs.Prelude.{map}
 use Rattle.wasm_ast.specs.declared.instr.BlockType.TheVariants.{Empty}
 use Rattle.wasm_ast.specs.declared.instr.Instr.{Instr}
 use Rattle.core_code.specs.Tree.{Seq, Stop, InBlock, tree}
-use Rattle.core_eval.specs.Config.{Reply, Out, Over as Stops}
-use Rattle.core_eval.specs.Eval.{exec, go}
+use Rattle.core_store.specs.Config.{Reply, Out, Over as Stops}
+use Rattle.core_store.specs.Eval.{exec, go}
 use Rattle.handle_space.specs.HandleMap.{HandleMap}
 use Rattle.adapter_code.specs.declared.statement.Width.{Width}
 use Rattle.adapter_code.specs.declared.state.CodeEnd.TheVariants.{Answer as Answers, Trap as Traps}

@@ -3,7 +3,7 @@ use Rattle.std.proofs.Common.{◌≡◌, ℕ, zero, suc, ◌+◌, ◌<◌, ◌^�
 use Rattle.std.specs.Prelude.{map, slice_get, slice_set, slice_index_or}
 use Rattle.core_memory.specs.Linear.{Linear}
 use Rattle.core_store.specs.State.{State as StoreState, memory_at}
-use Rattle.core_eval.specs.Effects.{with_memory}
+use Rattle.core_store.specs.Effects.{with_memory}
 use Rattle.adapter_code.specs.declared.statement.Width.{Width}
 use Rattle.adapter_code.specs.declared.statement.Width.TheVariants.{Narrow}
 use Rattle.adapter_code.specs.declared.state.Local.{Local}

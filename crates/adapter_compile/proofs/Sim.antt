@@ -3,8 +3,8 @@ use Rattle.std.proofs.Common.{◌≡◌, ℕ, zero, suc, ◌+◌, ◌*◌, ◌<�
 use Rattle.std.proofs.Math.Path.{fun_ext}
 use Rattle.std.specs.Prelude.{◌⊎◌, map, slice_get}
 use Rattle.core_code.specs.Tree.{Stop}
-use Rattle.core_eval.specs.Config.{Reply, Config, Trapped, Out, Break, Over as Stops, then_do}
-use Rattle.core_eval.specs.Eval.{block_end, exec, go}
+use Rattle.core_store.specs.Config.{Reply, Config, Trapped, Out, Break, Over as Stops, then_do}
+use Rattle.core_store.specs.Eval.{block_end, exec, go}
 use Rattle.handle_space.specs.HandleMap.{HandleMap}
 use Rattle.adapter_code.specs.declared.state.Effect.{Effect}
 use Rattle.adapter_code.specs.declared.state.CodeEnd.TheVariants.{Answer as Answers, Trap as Traps}

@@ -14,12 +14,12 @@ use Rattle.core_code.specs.Tree.{Seq, Then}
 use Rattle.core_memory.specs.Number.{bytes_of}
 use Rattle.core_memory.specs.Linear.{Linear, touched, loaded as loaded_from, written}
 use Rattle.core_store.specs.State.{memory_at}
-use Rattle.core_eval.specs.Effects.{with_memory, put_bytes}
-use Rattle.core_eval.specs.Words.{i32_in}
-use Rattle.core_eval.specs.Config.{Reply, Config, Out, then_do, with_stack, with_locals, with_store}
-use Rattle.core_eval.specs.Plain.{with_some, with_ok, calculate, load_bytes, store_bytes, extended, stored as stored_in}
-use Rattle.core_eval.specs.Eval.{advance, call_place, entered, replied, exec, go}
-use Rattle.core_eval.proofs.Steps.{go_enter}
+use Rattle.core_store.specs.Effects.{with_memory, put_bytes}
+use Rattle.core_store.specs.Words.{i32_in}
+use Rattle.core_store.specs.Config.{Reply, Config, Out, then_do, with_stack, with_locals, with_store}
+use Rattle.core_store.specs.Plain.{with_some, with_ok, calculate, load_bytes, store_bytes, extended, stored as stored_in}
+use Rattle.core_store.specs.Eval.{advance, call_place, entered, replied, exec, go}
+use Rattle.core_store.proofs.Steps.{go_enter}
 use Rattle.adapter_code.specs.declared.statement.Width.{Width}
 use Rattle.adapter_code.specs.declared.statement.Width.TheVariants.{Narrow, Broad}
 use Rattle.adapter_code.specs.declared.statement.IntOp.{IntOp}

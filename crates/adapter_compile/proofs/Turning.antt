@@ -7,10 +7,10 @@ use Rattle.std.specs.Prelude.{◌⊎◌, map, slice_get, slice_set, if◌then◌
 use Rattle.wasm_ast.specs.declared.instr.BlockType.TheVariants.{Empty}
 use Rattle.wasm_ast.specs.declared.instr.Instr.TheVariants.{BrIf}
 use Rattle.core_code.specs.Tree.{Seq, Stop, Then}
-use Rattle.core_eval.specs.Words.{i32_in}
-use Rattle.core_eval.specs.Config.{Reply, Config, Out, Next as Goes, Break, Over as Stops, Trapped, then_do, with_locals}
-use Rattle.core_eval.specs.Eval.{Turn, loop_end, choose, exec, go}
-use Rattle.core_eval.proofs.Steps.{go_turn}
+use Rattle.core_store.specs.Words.{i32_in}
+use Rattle.core_store.specs.Config.{Reply, Config, Out, Next as Goes, Break, Over as Stops, Trapped, then_do, with_locals}
+use Rattle.core_store.specs.Eval.{Turn, loop_end, choose, exec, go}
+use Rattle.core_store.proofs.Steps.{go_turn}
 use Rattle.handle_space.specs.HandleMap.{HandleMap}
 use Rattle.adapter_code.specs.declared.statement.Width.{Width}
 use Rattle.adapter_code.specs.declared.statement.Width.TheVariants.{Narrow}

@@ -9,10 +9,10 @@ use Rattle.wasm_ast.specs.declared.instr.Op.TheVariants as op
 use Rattle.wasm_ast.specs.declared.instr.Instr.TheVariants.{Plain, BrIf, Call}
 use Rattle.core_code.specs.Tree.{Seq, Stop, Then, InLoop, InIf}
 use Rattle.core_store.specs.declared.value.CoreValue.TheVariants.{I32}
-use Rattle.core_eval.specs.Words.{i32_in}
-use Rattle.core_eval.specs.Config.{Reply, Config, Next as Goes, Break, Over as Stops, Asks, then_do, with_stack, with_locals}
-use Rattle.core_eval.specs.Plain.{with_some}
-use Rattle.core_eval.specs.Eval.{Turn, advance, choose, replied, exec, go}
+use Rattle.core_store.specs.Words.{i32_in}
+use Rattle.core_store.specs.Config.{Reply, Config, Next as Goes, Break, Over as Stops, Asks, then_do, with_stack, with_locals}
+use Rattle.core_store.specs.Plain.{with_some}
+use Rattle.core_store.specs.Eval.{Turn, advance, choose, replied, exec, go}
 use Rattle.handle_space.specs.HandleMap.{Answered, own_entry, add, take_own}
 use Rattle.adapter_code.specs.declared.statement.Width.{Width}
 use Rattle.adapter_code.specs.declared.statement.Width.TheVariants.{Narrow, Broad}

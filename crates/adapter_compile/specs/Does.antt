@@ -15,9 +15,9 @@ use Rattle.core_store.specs.declared.value.CoreSpaces.{CoreSpaces}
 use Rattle.core_store.specs.declared.value.StoreFunc.TheVariants.{Inside}
 use Rattle.core_store.specs.State.{State as StoreState, memory_at, can_enter}
 use Rattle.core_store.specs.Locals.{each_local}
-use Rattle.core_eval.specs.Effects.{with_memory}
-use Rattle.core_eval.specs.Config.{Reply, Config, Outcome, Done, Spent, Trapped, Out, Over, spaces_of}
-use Rattle.core_eval.specs.Eval.{exec, go, eval}
+use Rattle.core_store.specs.Effects.{with_memory}
+use Rattle.core_store.specs.Config.{Reply, Config, Outcome, Done, Spent, Trapped, Out, Over, spaces_of}
+use Rattle.core_store.specs.Eval.{exec, go, eval}
 use Rattle.handle_space.specs.HandleMap.{HandleMap}
 use Rattle.adapter_code.specs.declared.statement.Width.{Width}
 use Rattle.adapter_code.specs.declared.statement.Width.TheVariants.{Narrow, Broad}

@@ -10,7 +10,7 @@ use Rattle.core_store.specs.declared.value.CoreSpaces.{CoreSpaces}
 use Rattle.core_store.specs.declared.value.StoreFunc.{StoreFunc}
 use Rattle.core_store.specs.declared.value.StoreFunc.TheVariants.{Outside}
 use Rattle.core_store.specs.State.{State as StoreState}
-use Rattle.core_eval.specs.Config.{Reply, Outcome, Asks}
+use Rattle.core_store.specs.Config.{Reply, Outcome, Asks}
 use Rattle.adapter_code.specs.declared.statement.Statement.{Statement, NewHandle, DropHandle}
 use Rattle.adapter_code.specs.declared.state.Effect.{Effect}
 use Rattle.adapter_code.specs.declared.state.Effect.TheVariants.{Made, Dropped}

@@ -13,7 +13,7 @@ use Rattle.core_store.specs.declared.value.StoreFunc.{StoreFunc}
 use Rattle.core_store.specs.declared.value.StoreFunc.TheVariants.{Inside}
 use Rattle.core_store.specs.Locals.{each_local}
 use Rattle.core_store.specs.State.{State as StoreState}
-use Rattle.core_eval.specs.Config.{spaces_of}
+use Rattle.core_store.specs.Config.{spaces_of}
 use Rattle.core_validate.specs.Items.{body_type}
 use Rattle.core_instance.specs.declared.external.Extern.{Extern}
 use Rattle.core_instance.specs.Spaces.{functions_of, memories_of}

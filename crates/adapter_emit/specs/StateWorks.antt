@@ -8,8 +8,8 @@ use Rattle.core_store.specs.declared.value.CoreSpaces.{CoreSpaces}
 use Rattle.core_store.specs.declared.value.StoreFunc.{StoreFunc}
 use Rattle.core_store.specs.declared.value.StoreFunc.TheVariants.{Outside}
 use Rattle.core_store.specs.State.{State as StoreState, memory_at, can_enter}
-use Rattle.core_eval.specs.Config.{Reply, Done, spaces_of}
-use Rattle.core_eval.specs.Eval.{eval}
+use Rattle.core_store.specs.Config.{Reply, Done, spaces_of}
+use Rattle.core_store.specs.Eval.{eval}
 use Rattle.core_instance.specs.declared.external.Extern.{Extern}
 use Rattle.core_instance.specs.declared.external.Extern.TheVariants.{Func}
 use Rattle.core_instance.specs.Instantiation.{instantiated}

@@ -3,7 +3,7 @@ use Rattle.std.specs.Prelude.{◌≡◌, ℕ, suc, ◌+◌, ◌<◌, List, [], �
 use Rattle.core_store.specs.declared.value.StoreFunc.{StoreFunc}
 use Rattle.core_store.specs.declared.value.StoreFunc.TheVariants.{Outside}
 use Rattle.core_store.specs.State.{State as StoreState, can_enter}
-use Rattle.core_eval.specs.Config.{spaces_of}
+use Rattle.core_store.specs.Config.{spaces_of}
 use Rattle.core_instance.specs.declared.external.Extern.{Extern}
 use Rattle.core_instance.specs.declared.external.Extern.TheVariants.{Func, Memory}
 use Rattle.core_instance.specs.Instantiation.{instantiated}

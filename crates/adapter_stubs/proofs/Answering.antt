@@ -9,9 +9,9 @@ use Rattle.wasm_ast.specs.declared.instr.Instr.TheVariants.{End}
 use Rattle.core_code.specs.Tree.{Stop, tree}
 use Rattle.core_store.specs.declared.value.CoreValue.TheVariants as values
 use Rattle.core_store.specs.State.{State as StoreState}
-use Rattle.core_eval.specs.Words.{value_in, values_in}
-use Rattle.core_eval.specs.Config.{Reply, Outcome, Done, Out, bare}
-use Rattle.core_eval.specs.Eval.{left_store, call_end, finish, exec, go}
+use Rattle.core_store.specs.Words.{value_in, values_in}
+use Rattle.core_store.specs.Config.{Reply, Outcome, Done, Out, bare}
+use Rattle.core_store.specs.Eval.{left_store, call_end, finish, exec, go}
 use Rattle.adapter_code.specs.declared.statement.Width.TheVariants.{Narrow}
 use Rattle.adapter_code.specs.declared.state.Local.{Local}
 use Rattle.adapter_code.specs.declared.state.Local.TheVariants.{Small, Wide}

@@ -9,9 +9,9 @@ use Rattle.wasm_ast.specs.declared.instr.Instr.TheVariants.{If, End, Call}
 use Rattle.core_code.specs.Tree.{Seq, Stop, Then, InBlock, InIf, Part, first, onto, placed, parts, tree}
 use Rattle.core_memory.specs.Linear.{Linear}
 use Rattle.core_store.specs.State.{State as StoreState, memory_at}
-use Rattle.core_eval.specs.Words.{words, word_of, values_in}
-use Rattle.core_eval.specs.Config.{Reply, Out, Over, Asks, then_do, with_stack}
-use Rattle.core_eval.specs.Eval.{block_end, choose, replied, exec, go}
+use Rattle.core_store.specs.Words.{words, word_of, values_in}
+use Rattle.core_store.specs.Config.{Reply, Out, Over, Asks, then_do, with_stack}
+use Rattle.core_store.specs.Eval.{block_end, choose, replied, exec, go}
 use Rattle.handle_space.specs.HandleMap.{HandleMap}
 use Rattle.adapter_code.specs.declared.statement.Width.{Width}
 use Rattle.adapter_code.specs.declared.statement.Width.TheVariants.{Narrow}

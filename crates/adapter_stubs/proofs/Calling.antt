@@ -13,9 +13,9 @@ use Rattle.wasm_ast.specs.declared.instr.Instr.TheVariants.{End}
 use Rattle.core_code.specs.Tree.{tree}
 use Rattle.core_store.specs.Locals.{each_local}
 use Rattle.core_store.specs.State.{memory_at}
-use Rattle.core_eval.specs.Words.{words, word_of, values_in}
-use Rattle.core_eval.specs.Config.{Reply, Outcome, Done, Asks, Spent, Trapped, Out, Over, then_do, bare}
-use Rattle.core_eval.specs.Eval.{left_store, block_end, call_end, finish, exec, go, eval}
+use Rattle.core_store.specs.Words.{words, word_of, values_in}
+use Rattle.core_store.specs.Config.{Reply, Outcome, Done, Asks, Spent, Trapped, Out, Over, then_do, bare}
+use Rattle.core_store.specs.Eval.{left_store, block_end, call_end, finish, exec, go, eval}
 use Rattle.handle_space.specs.HandleMap.{HandleMap}
 use Rattle.adapter_code.specs.declared.statement.Width.{Width}
 use Rattle.adapter_code.specs.declared.statement.Width.TheVariants.{Narrow}

@@ -7,9 +7,9 @@ use Rattle.virt_base.specs.declared.core_type.CoreType.TheVariants.{I32, I64, Fu
 use Rattle.core_store.specs.declared.value.CoreValue.{CoreValue}
 use Rattle.core_store.specs.declared.value.StoreFunc.{StoreFunc}
 use Rattle.core_store.specs.State.{memory_at}
-use Rattle.core_eval.specs.Words.{words}
-use Rattle.core_eval.specs.Config.{Reply, Outcome, Done, Asks, Spent}
-use Rattle.core_eval.specs.Eval.{entered_store, left_store, eval}
+use Rattle.core_store.specs.Words.{words}
+use Rattle.core_store.specs.Config.{Reply, Outcome, Done, Asks, Spent}
+use Rattle.core_store.specs.Eval.{entered_store, left_store, eval}
 use Rattle.handle_space.specs.HandleMap.{HandleMap}
 use Rattle.adapter_code.specs.declared.state.Local.{Local}
 use Rattle.adapter_code.specs.declared.state.Effect.{Effect}

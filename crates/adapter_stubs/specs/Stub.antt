@@ -6,9 +6,9 @@ use Rattle.wasm_ast.specs.declared.instr.Instr.{Instr}
 use Rattle.wasm_ast.specs.declared.instr.Instr.TheVariants.{If, End, Call}
 use Rattle.core_code.specs.Tree.{tree}
 use Rattle.core_store.specs.State.{memory_at}
-use Rattle.core_eval.specs.Words.{words, values_in}
-use Rattle.core_eval.specs.Config.{Reply, Over, Asks, then_do}
-use Rattle.core_eval.specs.Eval.{block_end, exec, go}
+use Rattle.core_store.specs.Words.{words, values_in}
+use Rattle.core_store.specs.Config.{Reply, Over, Asks, then_do}
+use Rattle.core_store.specs.Eval.{block_end, exec, go}
 use Rattle.handle_space.specs.HandleMap.{HandleMap}
 use Rattle.adapter_code.specs.declared.statement.Width.{Width}
 use Rattle.adapter_code.specs.declared.statement.Width.TheVariants.{Narrow}

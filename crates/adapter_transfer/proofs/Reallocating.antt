@@ -12,11 +12,11 @@ use Rattle.core_store.specs.declared.value.CoreValue.{CoreValue}
 use Rattle.core_store.specs.declared.value.CoreValue.TheVariants as values
 use Rattle.core_store.specs.declared.value.CoreSpaces.{CoreSpaces}
 use Rattle.core_store.specs.State.{State as StoreState}
-use Rattle.core_eval.specs.Words.{words, word_of, value_like}
-use Rattle.core_eval.specs.Config.{Reply, Config, Outcome, Done, Trapped, Out, Next, Over, then_do, with_store, bare, spaces_of}
-use Rattle.core_eval.specs.Plain.{with_some}
-use Rattle.core_eval.specs.Eval.{Enter, function_type, advance, entered_store, left_store, call_end, enter_within, entered, finish, outside, exec, go, eval}
-use Rattle.core_eval.proofs.Steps.{go_enter}
+use Rattle.core_store.specs.Words.{words, word_of, value_like}
+use Rattle.core_store.specs.Config.{Reply, Config, Outcome, Done, Trapped, Out, Next, Over, then_do, with_store, bare, spaces_of}
+use Rattle.core_store.specs.Plain.{with_some}
+use Rattle.core_store.specs.Eval.{Enter, function_type, advance, entered_store, left_store, call_end, enter_within, entered, finish, outside, exec, go, eval}
+use Rattle.core_store.proofs.Steps.{go_enter}
 use Rattle.adapter_code.specs.declared.layout.Layout.{Layout}
 use Rattle.adapter_code.specs.declared.statement.Width.{Width}
 use Rattle.adapter_code.specs.declared.statement.Width.TheVariants.{Narrow, Broad}

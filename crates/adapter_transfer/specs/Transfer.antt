@@ -13,8 +13,8 @@ use Rattle.core_store.specs.declared.value.CoreSpaces.{CoreSpaces}
 use Rattle.core_store.specs.declared.value.StoreFunc.TheVariants.{Inside}
 use Rattle.core_store.specs.Locals.{each_local}
 use Rattle.core_store.specs.State.{State as StoreState, can_enter}
-use Rattle.core_eval.specs.Config.{Reply, Outcome, Done, Trapped, spaces_of}
-use Rattle.core_eval.specs.Eval.{eval}
+use Rattle.core_store.specs.Config.{Reply, Outcome, Done, Trapped, spaces_of}
+use Rattle.core_store.specs.Eval.{eval}
 use Rattle.core_body.specs.declared.operand.Operand.TheVariants.{Known}
 use Rattle.core_body.specs.Context.{Context}
 use Rattle.core_body.specs.Typing.{Labels}

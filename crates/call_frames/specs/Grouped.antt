@@ -3,8 +3,8 @@ use Rattle.std.specs.Prelude.{ℕ, List, Option, Vec, slice_get}
 use Rattle.std.specs.Option.{option_map, option_and_then}
 use Rattle.std.specs.Global.{Global}
 use Rattle.comp_worlds.specs.Groups.{Func}
-use Rattle.call_targets.specs.declared.canon.Canon.{Canon}
-use Rattle.call_targets.specs.Targets.{func_of}
+use Rattle.instance_values.specs.declared.canon.Canon.{Canon}
+use Rattle.instance_values.specs.Targets.{func_of}
 
 -- the canonical function of a number, in the lists of all instances
 abbrev pub canon_in : List (Vec Canon Global) → ℕ → ℕ → Option Func

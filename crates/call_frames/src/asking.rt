@@ -4,8 +4,8 @@ ghost use Rattle.host_port.specs.Calls.{plain_call};
 ghost use Rattle.call_frames.specs.Asking.{called};
 
 use crate::tuples::values_in;
-use call_targets::Import;
 use host_port::HostCall;
+use instance_values::Import;
 use std::alloc::Global;
 use virt_base::NoMemory;
 use wit_types::{FuncType, Value, copy_func};

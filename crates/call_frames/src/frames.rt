@@ -3,10 +3,9 @@ ghost use Rattle.abi_store.specs.Plan.{is_due};
 
 use crate::depth::Depth;
 use abi_store::StorePlan;
-use call_targets::{Lifting, Target};
 use core_slots::CoreValues;
 use instance_handles::Loan;
-use instance_values::CallOptions;
+use instance_values::{CallOptions, Lifting, Target};
 use std::rc::Rc;
 use wit_types::Value;
 

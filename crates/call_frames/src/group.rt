@@ -1,11 +1,11 @@
 ghost use Rattle.std.specs.Prelude.{◌≡◌, IfOk, option_map};
-ghost use Rattle.call_targets.specs.Targets.{func_of};
+ghost use Rattle.instance_values.specs.Targets.{func_of};
 ghost use Rattle.call_frames.specs.Grouped.{canon_in};
 
-use call_targets::Canon;
 use host_port::Resource;
 use indexmap::IndexMap;
 use instance_handles::Owners;
+use instance_values::Canon;
 use std::alloc::Global;
 use virt_base::NoMemory;
 

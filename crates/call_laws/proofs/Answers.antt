@@ -12,8 +12,8 @@ use Rattle.comp_worlds.specs.Groups.{Nesting, Config, World, Nothing, Answer, In
 use Rattle.comp_worlds.specs.Calls.{below, below_end}
 use Rattle.comp_worlds.specs.Hosts.{call_of, passed_by, answered_by, reacts, hosted}
 use Rattle.value_numbers.proofs.Twice.{twice}
-use Rattle.call_targets.specs.declared.target.Import.{Import}
-use Rattle.call_targets.specs.Targets.{import_of}
+use Rattle.instance_values.specs.declared.target.Import.{Import}
+use Rattle.instance_values.specs.Targets.{import_of}
 use Rattle.call_frames.specs.declared.end.Stop.{Stop}
 use Rattle.call_frames.specs.declared.end.Stop.TheVariants as stops
 use Rattle.call_frames.specs.Asking.{called, Asks}

@@ -2,3 +2,12 @@ pub mod Begins
 pub mod Own
 pub mod Answers
 pub mod Worlds
+pub mod Backs
+pub mod Coding
+pub mod Storing
+pub mod Counting
+pub mod Lending
+pub mod Ending
+pub mod Changes
+pub mod Running
+pub mod Whole

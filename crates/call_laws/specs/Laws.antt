@@ -8,8 +8,8 @@ use Rattle.comp_worlds.specs.Passing.{params_tuple, answer_tuple}
 use Rattle.comp_worlds.specs.Groups.{Nesting, Nested, deeper, Config, World, Nothing, Answer, Inside}
 use Rattle.comp_worlds.specs.Calls.{below, begins_call}
 use Rattle.comp_worlds.specs.Hosts.{passed_by, hosted}
-use Rattle.call_targets.specs.declared.target.Import.{Import}
-use Rattle.call_targets.specs.Targets.{import_of}
+use Rattle.instance_values.specs.declared.target.Import.{Import}
+use Rattle.instance_values.specs.Targets.{import_of}
 use Rattle.call_frames.specs.declared.end.Stop.{Stop}
 use Rattle.call_frames.specs.declared.end.Stop.TheVariants as stops
 use Rattle.call_frames.specs.declared.depth.Depth.{Depth}

@@ -6,9 +6,9 @@ use Rattle.wasm_ast.specs.declared.component.Sort.{Sort}
 use Rattle.wasm_ast.specs.declared.component.Sort.TheVariants as sorts
 use Rattle.wit_types.specs.Plain.{Name}
 use Rattle.comp_grammar.specs.Trees.{Aliases}
-use Rattle.comp_rules.specs.Definitions.{AnExport}
-use Rattle.comp_rules.specs.Spaces.{Space}
-use Rattle.comp_rules.specs.Added.{after, after_part}
+use Rattle.comp_types.specs.Definitions.{AnExport}
+use Rattle.comp_types.specs.Spaces.{Space}
+use Rattle.comp_types.specs.Added.{after, after_part}
 use Rattle.comp_link.specs.Plans.{Scope, plan_all}
 use Rattle.comp_link.specs.Linking.{Givens, Making, link, target_in, exported, linked}
 use Rattle.comp_wraps.specs.Wrapping.{Handed, alias_at, exports_from}

@@ -2,7 +2,7 @@
 use Rattle.std.specs.Prelude.{◌≡◌, ℕ, ◌+◌, List, [], ◌∷◌, map, length}
 use Rattle.wit_types.specs.Plain.{Name}
 use Rattle.comp_grammar.specs.Trees.{Part, Tree, Aliases, Exports}
-use Rattle.comp_rules.specs.Added.{after_part, root}
+use Rattle.comp_types.specs.Added.{after_part, root}
 use Rattle.comp_link.specs.Plans.{no_scope}
 use Rattle.comp_link.specs.Linking.{Nothing, target_in, exported, linked}
 use Rattle.comp_wraps.specs.Wrapping.{Handed, alias_at, exports_from, AreExports}

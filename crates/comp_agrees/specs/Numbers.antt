@@ -2,7 +2,7 @@
 use Rattle.std.specs.Prelude.{◌≡◌, ℕ, ◌+◌, ◌-◌, ◌<◌, List, nat_lt, if◌then◌else◌, Option, Some, None}
 use Rattle.comp_types.specs.Substitution.{partner_of}
 use Rattle.comp_grammar.specs.Trees.{Tree}
-use Rattle.comp_rules.specs.Validity.{IsValidComponent}
+use Rattle.comp_types.specs.Validity.{IsValidComponent}
 use Rattle.comp_worlds.specs.Groups.{Import}
 use Rattle.comp_parts.specs.Parts.{IsImportOf}
 use Rattle.comp_link.specs.Linking.{group_of}

@@ -4,9 +4,9 @@ use Rattle.std.specs.Prelude.{option_map, nat_lt, if◌then◌else◌, ◌||◌}
 use Rattle.std.proofs.lemmas.Bool.Decides.{nat_tests}
 use Rattle.std.proofs.lemmas.List.{reverse-append, length-reverse, get_or-reverse}
 use Rattle.std.proofs.lemmas.Option.{slice_get_past, slice_get_cases, slice_get-get_or}
-use Rattle.comp_rules.specs.Spaces.{Space}
-use Rattle.comp_rules.specs.Rules.{leaves_component}
-use Rattle.comp_cores.specs.Found.{EachSome}
+use Rattle.comp_types.specs.Spaces.{Space}
+use Rattle.comp_types.specs.Rules.{leaves_component}
+use Rattle.comp_scopes.specs.Found.{EachSome}
 use Rattle.comp_scopes.specs.Stands.{Stands}
 use Rattle.comp_around.specs.declared.scopes.Level.{Level}
 use Rattle.comp_around.specs.declared.scopes.Scopes.{Scopes}

@@ -20,12 +20,12 @@ use Rattle.core_validate.specs.declared.item.CoreItem.{CoreItem}
 use Rattle.core_validate.specs.declared.item.CoreItem.TheVariants as core_items
 use Rattle.core_validate.specs.declared.item.ModuleType.{ModuleType}
 use Rattle.comp_types.specs.Items.{Item, Entries, FuncItem, InstanceItem, KindItem, look_up}
-use Rattle.comp_rules.specs.Declarations.{Declaration, ATypeDef, AnInstanceType, ATypeAlias, ATypeExport}
-use Rattle.comp_rules.specs.Spaces.{Space, TypeEntry, NestedComponent, and_item, and_type, entry_of, item_at}
-use Rattle.comp_rules.specs.Types.{kind_of}
-use Rattle.comp_rules.specs.CoreMatching.{core_look_up}
-use Rattle.comp_rules.specs.Definitions.{Definition, ACoreInstance, AnInstance, AnAlias, AType, ACanon, AnImport, AnExport}
-use Rattle.comp_rules.specs.Added.{after, after_declaration, and_resource, and_some_item, and_some_core_item, and_some_type, and_some_module, and_some_component, and_outer, and_index, and_instantiated, and_again, and_export_index, and_alias, named_items}
+use Rattle.comp_types.specs.Declarations.{Declaration, ATypeDef, AnInstanceType, ATypeAlias, ATypeExport}
+use Rattle.comp_types.specs.Spaces.{Space, TypeEntry, NestedComponent, and_item, and_type, entry_of, item_at}
+use Rattle.comp_types.specs.Types.{kind_of}
+use Rattle.comp_types.specs.CoreMatching.{core_look_up}
+use Rattle.comp_types.specs.Definitions.{Definition, ACoreInstance, AnInstance, AnAlias, AType, ACanon, AnImport, AnExport}
+use Rattle.comp_types.specs.Added.{after, after_declaration, and_resource, and_some_item, and_some_core_item, and_some_type, and_some_module, and_some_component, and_outer, and_index, and_instantiated, and_again, and_export_index, and_alias, named_items}
 use Rattle.comp_scopes.specs.declared.scope.Scope.{Scope}
 use Rattle.comp_scopes.specs.Stands.{Stands}
 use Rattle.comp_scopes.specs.Judged.{Judged}

@@ -1,6 +1,6 @@
 -- What is kept of the index spaces of a definition and of those around it, the innermost first.
 use Rattle.std.specs.Prelude.{◌≡◌, ℕ, ◌+◌, List, [], ◌∷◌, reverse, if◌then◌else◌, Option, Some, None, ⊤}
-use Rattle.comp_rules.specs.Spaces.{Space}
+use Rattle.comp_types.specs.Spaces.{Space}
 use Rattle.comp_scopes.specs.declared.scope.Scope.{Scope}
 use Rattle.comp_scopes.specs.Stands.{Stands}
 use Rattle.comp_around.specs.declared.scopes.Level.{Level}

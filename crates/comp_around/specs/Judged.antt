@@ -1,10 +1,10 @@
 -- What is answered of definitions, with the scopes around them: they are valid, and the innermost scope is what they add to, or the
 -- first at fault breaks this rule.
 use Rattle.std.specs.Prelude.{ℕ, List, Option, Some, None}
-use Rattle.comp_rules.specs.Spaces.{Space}
-use Rattle.comp_rules.specs.Definitions.{Definition}
-use Rattle.comp_rules.specs.Added.{after, after_all}
-use Rattle.comp_rules.specs.Validity.{IsValidDefinition, BreaksDefinition, AreValid, Break}
+use Rattle.comp_types.specs.Spaces.{Space}
+use Rattle.comp_types.specs.Definitions.{Definition}
+use Rattle.comp_types.specs.Added.{after, after_all}
+use Rattle.comp_types.specs.Validity.{IsValidDefinition, BreaksDefinition, AreValid, Break}
 use Rattle.comp_around.specs.declared.scopes.Scopes.{Scopes}
 use Rattle.comp_around.specs.Around.{StandAll}
 

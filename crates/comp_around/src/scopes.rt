@@ -1,8 +1,8 @@
 ghost use Rattle.std.specs.Prelude.{◌≡◌, [], ◌∷◌, List, OnOk, IsTrue, None, length, nat_lt, option_map, slice_get};
-ghost use Rattle.comp_rules.specs.Added.{entered, opened, root};
-ghost use Rattle.comp_rules.specs.Rules.{leaves_component};
-ghost use Rattle.comp_rules.specs.Spaces.{Space, empty_space};
-ghost use Rattle.comp_cores.specs.Found.{EachSome};
+ghost use Rattle.comp_types.specs.Added.{entered, opened, root};
+ghost use Rattle.comp_types.specs.Rules.{leaves_component};
+ghost use Rattle.comp_types.specs.Spaces.{Space, empty_space};
+ghost use Rattle.comp_scopes.specs.Found.{EachSome};
 ghost use Rattle.comp_scopes.specs.Stands.{Stands};
 
 use comp_scopes::Scope;

@@ -9,7 +9,7 @@ use Rattle.wit_types.specs.Layout.{flat_fields}
 use Rattle.abi_layout.specs.declared.flat_types.Flat.{Flat}
 use Rattle.abi_layout.specs.Flat.{types_of, within}
 use Rattle.abi_layout.specs.Functions.{params_spill, result_spills, core_params, flat_result, lifted}
-use Rattle.comp_rules.specs.CoreMatching.{same_core}
+use Rattle.comp_types.specs.CoreMatching.{same_core}
 use Rattle.comp_facts.specs.declared.facts.Facts.{Facts}
 use Rattle.comp_facts.specs.declared.funcs.FuncFacts.{FuncFacts}
 use Rattle.comp_facts.specs.Facts.{IsAnswerOf, IsFuncFactsOf}

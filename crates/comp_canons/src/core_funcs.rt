@@ -3,9 +3,9 @@ ghost use Rattle.std.specs.Cmp.Lexicographic.{pointwise};
 ghost use Rattle.virt_base.specs.declared.core_type.CoreType.TheVariants.{I32};
 ghost use Rattle.wit_types.specs.Plain.{PlainFunc};
 ghost use Rattle.abi_layout.specs.Functions.{core_params, lifted};
-ghost use Rattle.comp_rules.specs.CoreMatching.{same_core, same_func};
-ghost use Rattle.comp_rules.specs.Flat.{lifted_type};
-ghost use Rattle.comp_rules.specs.Rules.{is_destructor, post_return_type, realloc_type};
+ghost use Rattle.comp_types.specs.CoreMatching.{same_core, same_func};
+ghost use Rattle.comp_types.specs.Flat.{lifted_type};
+ghost use Rattle.comp_types.specs.Rules.{is_destructor, post_return_type, realloc_type};
 ghost use Rattle.comp_facts.specs.Facts.{IsFuncFactsOf};
 
 use abi_layout::Flat;

@@ -1,6 +1,6 @@
 ghost use Rattle.std.specs.Prelude.{◌≡◌, ◌||◌, not, false};
 ghost use Rattle.wasm_ast.specs.declared.component.CanonOption.{CanonOption};
-ghost use Rattle.comp_rules.specs.Rules.{is_same_option};
+ghost use Rattle.comp_types.specs.Rules.{is_same_option};
 
 use wasm_ast::CanonOption;
 

@@ -3,7 +3,7 @@ ghost use Rattle.std.specs.List.{list_all, list_any};
 ghost use Rattle.wasm_ast.specs.declared.component.CanonOption.TheVariants.{Realloc};
 ghost use Rattle.wasm_ast.specs.declared.module.CoreFunc.{CoreFunc};
 ghost use Rattle.wit_types.specs.Plain.{PlainFunc};
-ghost use Rattle.comp_rules.specs.Rules.{all_differ, is_memory, is_realloc, is_same_option, is_there_if_needed, lift_options, lower_options, option_is_sound, post_return_type};
+ghost use Rattle.comp_types.specs.Rules.{all_differ, is_memory, is_realloc, is_same_option, is_there_if_needed, lift_options, lower_options, option_is_sound, post_return_type};
 ghost use Rattle.comp_facts.specs.Facts.{IsFuncFactsOf};
 
 use crate::core_funcs::{is_post_return_of, is_realloc};

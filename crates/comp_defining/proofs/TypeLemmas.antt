@@ -3,20 +3,20 @@ use Rattle.std.proofs.Common.{◌≡◌, ◌∙◌, ap, refl, sym, subst, List, 
 use Rattle.std.specs.Prelude.{nat_le}
 use Rattle.std.proofs.lemmas.Bool.Decides.{nat_tests}
 use Rattle.wasm_ast.specs.declared.component.TypeDef.{TypeDef}
-use Rattle.comp_rules.specs.Spaces.{Space}
-use Rattle.comp_rules.specs.Declarations.{ATypeDef}
-use Rattle.comp_rules.specs.Definitions.{AType}
+use Rattle.comp_types.specs.Spaces.{Space}
+use Rattle.comp_types.specs.Declarations.{ATypeDef}
+use Rattle.comp_types.specs.Definitions.{AType}
 use Rattle.wasm_ast.specs.declared.component.TypeDef.TheVariants.{Resource}
-use Rattle.comp_rules.specs.Added.{after_declaration, and_depth, and_resource}
+use Rattle.comp_types.specs.Added.{after_declaration, and_depth, and_resource}
 use Rattle.comp_scopes.specs.Numbers.{HasNumbers}
 use Rattle.comp_scopes.specs.declared.numbers.Numbers.{Numbers}
 use Rattle.std.specs.List.{list_all}
 use Rattle.comp_names.specs.Labels.{is_label}
 use Rattle.comp_types.specs.Measures.{kind_depth}
-use Rattle.comp_rules.specs.Faults.{fault, first_failing}
-use Rattle.comp_rules.specs.Rules.{lengths_of, def_stands, def_is_filled, is_within_limits, def_has_values, resources_are_due, functions_are_sound, resources_are_sound, def_labels}
-use Rattle.comp_rules.specs.Types.{kind_of}
-use Rattle.comp_rules.proofs.FaultLaws.{all_hold, least_fails}
+use Rattle.comp_types.specs.Faults.{fault, first_failing}
+use Rattle.comp_types.specs.Rules.{lengths_of, def_stands, def_is_filled, is_within_limits, def_has_values, resources_are_due, functions_are_sound, resources_are_sound, def_labels}
+use Rattle.comp_types.specs.Types.{kind_of}
+use Rattle.comp_types.proofs.FaultLaws.{all_hold, least_fails}
 use Rattle.comp_scopes.specs.declared.scope.Scope.{Scope}
 use Rattle.comp_scopes.specs.Judged.{Judged}
 use Rattle.comp_scopes.specs.Stands.{Stands}

@@ -1,10 +1,10 @@
 ghost use Rattle.std.specs.Prelude.{◌≡◌, ℕ, List, IfOk, OnOk, Option, min};
 ghost use Rattle.wasm_ast.specs.declared.component.TypeDef.TheVariants.{Resource};
-ghost use Rattle.comp_rules.specs.Added.{after_declaration, and_depth, and_resource};
-ghost use Rattle.comp_rules.specs.Declarations.{ATypeDef};
-ghost use Rattle.comp_rules.specs.Definitions.{AType};
-ghost use Rattle.comp_rules.specs.Spaces.{Space};
-ghost use Rattle.comp_rules.specs.Types.{kind_of as kind_due};
+ghost use Rattle.comp_types.specs.Added.{after_declaration, and_depth, and_resource};
+ghost use Rattle.comp_types.specs.Declarations.{ATypeDef};
+ghost use Rattle.comp_types.specs.Definitions.{AType};
+ghost use Rattle.comp_types.specs.Spaces.{Space};
+ghost use Rattle.comp_types.specs.Types.{kind_of as kind_due};
 ghost use Rattle.comp_scopes.specs.Judged.{Judged};
 ghost use Rattle.comp_scopes.specs.Stands.{Stands};
 ghost use Rattle.comp_types.specs.Views.{kind_of};

@@ -5,7 +5,7 @@ use Rattle.comp_types.specs.Items.{Entries}
 use Rattle.comp_types.specs.Substitution.{partner_in, partner_of, and_pair, and_pair_to, entries_with}
 use Rattle.comp_types.proofs.MeetLaws.{equal_number}
 use Rattle.comp_types.proofs.PairLemmas.{partner-or, partner_or}
-use Rattle.comp_rules.specs.Resources.{renamed}
+use Rattle.comp_types.specs.GivenResources.{renamed}
 use Rattle.comp_describes.specs.Pairs.{FindAlike}
 
 abbrev Pairs : Type 0

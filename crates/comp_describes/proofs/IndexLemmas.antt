@@ -1,12 +1,12 @@
 -- An index that does not stand is the least fault of a definition (rule 3), whatever else fails.
 use Rattle.std.proofs.Common.{◌≡◌, ◌∙◌, ℕ, zero, suc, ◌<◌, List, refl, sym, true, false, arith}
 use Rattle.std.proofs.lemmas.Bool.{false≢true}
-use Rattle.comp_rules.specs.Spaces.{Space}
-use Rattle.comp_rules.specs.Definitions.{Definition}
-use Rattle.comp_rules.specs.Faults.{tests, test_at}
-use Rattle.comp_rules.specs.Rules.{indexes_stand}
-use Rattle.comp_rules.specs.Validity.{IsLeastOf}
-use Rattle.comp_rules.proofs.FaultLaws.{kept, made}
+use Rattle.comp_types.specs.Spaces.{Space}
+use Rattle.comp_types.specs.Definitions.{Definition}
+use Rattle.comp_types.specs.Faults.{tests, test_at}
+use Rattle.comp_types.specs.Rules.{indexes_stand}
+use Rattle.comp_types.specs.Validity.{IsLeastOf}
+use Rattle.comp_types.proofs.FaultLaws.{kept, made}
 
 before_three : (around : List Space) (s : Space) (d : Definition) (n : ℕ) → n < 3 → test_at (tests around s d) n ≡ true
 before_three around s d zero lt = refl

@@ -4,7 +4,7 @@ use Rattle.std.specs.Prelude.{Option as Opt, Some, None}
 use Rattle.wit_types.specs.Plain.{Plain, Parts, PlainFunc, ListType, RecordType, VariantType, OwnType, BorrowType, End as NoParts, More as Part, Bare}
 use Rattle.comp_types.specs.Items.{Item, Kind, Entries, FuncItem, InstanceItem, KindItem, ResourceKind, ValueKind, FuncKind, InstanceKind, End, More}
 use Rattle.comp_types.specs.Substitution.{partner_in, value_with, parts_with, answer_with, func_with, item_with, kind_with, entries_with}
-use Rattle.comp_rules.specs.Resources.{renamed}
+use Rattle.comp_types.specs.GivenResources.{renamed}
 
 abbrev none : ℕ → ℕ
 none = partner_in []

@@ -1,6 +1,6 @@
 -- What stands where the next number of a scope changes.
 use Rattle.std.proofs.Common.{◌≡◌, ℕ}
-use Rattle.comp_rules.specs.Spaces.{Space}
+use Rattle.comp_types.specs.Spaces.{Space}
 use Rattle.comp_scopes.specs.declared.scope.Scope.{Scope}
 use Rattle.comp_scopes.specs.Stands.{Stands}
 

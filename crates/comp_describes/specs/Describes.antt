@@ -3,9 +3,9 @@ use Rattle.std.specs.Prelude.{◌≡◌, ◌+◌, ℕ, List, length}
 use Rattle.wasm_ast.specs.declared.component.ExternDesc.{ExternDesc}
 use Rattle.comp_types.specs.Items.{Entries, InstanceItem}
 use Rattle.comp_types.specs.Views.{item_of}
-use Rattle.comp_rules.specs.Spaces.{Space}
-use Rattle.comp_rules.specs.Resources.{numbered, renamed}
-use Rattle.comp_rules.specs.Added.{described, brought, new_numbers}
+use Rattle.comp_types.specs.Spaces.{Space}
+use Rattle.comp_types.specs.GivenResources.{numbered, renamed}
+use Rattle.comp_types.specs.Added.{described, brought, new_numbers}
 use Rattle.comp_describes.specs.declared.descriptions.Described.{Described}
 
 pub record IsDescribed (s : Space) (desc : ExternDesc) (d : Described) : Type 0 where

@@ -1,7 +1,7 @@
 ghost use Rattle.std.specs.Prelude.{◌≡◌, IfOk, OnOk, Some, slice_get};
 ghost use Rattle.comp_types.specs.Views.{item_of};
-ghost use Rattle.comp_rules.specs.Added.{and_again, and_some_type};
-ghost use Rattle.comp_rules.specs.Spaces.{Space, TypeEntry, item_at};
+ghost use Rattle.comp_types.specs.Added.{and_again, and_some_type};
+ghost use Rattle.comp_types.specs.Spaces.{Space, TypeEntry, item_at};
 ghost use Rattle.comp_scopes.specs.Stands.{IsEntry, Stands};
 
 use comp_scopes::{KnownEntry, Scope};

@@ -4,7 +4,7 @@ ghost use Rattle.std.specs.Prelude.{◌≡◌, IfOk, List, ℕ, Some};
 ghost use Rattle.wit_types.specs.Plain.{More, Parts, plain, plain_result, fields_of};
 ghost use Rattle.comp_types.specs.Items.{FuncItem};
 ghost use Rattle.comp_types.specs.Views.{item_of};
-ghost use Rattle.comp_rules.specs.Rules.{annotation_fits, begins_with_borrow_of, has_resource, is_function_of, is_own_of, name_fits, resource_of};
+ghost use Rattle.comp_types.specs.Rules.{annotation_fits, begins_with_borrow_of, has_resource, is_function_of, is_own_of, name_fits, resource_of};
 
 use comp_names::{Annotation, annotation_of};
 use comp_types::{InstanceEntries, ItemType, KnownFunc, TypeItem};

@@ -2,9 +2,9 @@ ghost use Rattle.std.specs.Prelude.{◌≡◌, IfOk, OnOk, Some, []};
 ghost use Rattle.wasm_ast.specs.declared.component.ExternDesc.TheVariants.{Instance as AnInstance, Resource as AResource};
 ghost use Rattle.comp_types.specs.Items.{End};
 ghost use Rattle.comp_types.specs.Views.{item_of, kind_of};
-ghost use Rattle.comp_rules.specs.Added.{and_described, and_index, described, kind_item};
-ghost use Rattle.comp_rules.specs.Spaces.{Space, kind_at};
-ghost use Rattle.comp_rules.specs.Types.{instance_in};
+ghost use Rattle.comp_types.specs.Added.{and_described, and_index, described, kind_item};
+ghost use Rattle.comp_types.specs.Spaces.{Space, kind_at};
+ghost use Rattle.comp_types.specs.Types.{instance_in};
 ghost use Rattle.comp_scopes.specs.Stands.{Stands};
 ghost use Rattle.comp_describes.specs.Describes.{IsDescribed, IsNewInstance};
 

@@ -1,6 +1,6 @@
 ghost use Rattle.std.specs.Prelude.{◌≡◌, ◌+◌, ◌++◌, ◌∷◌, [], List, ℕ, IfOk, OnOk, length};
-ghost use Rattle.comp_rules.specs.Added.{new_numbers};
-ghost use Rattle.comp_rules.specs.Resources.{numbered};
+ghost use Rattle.comp_types.specs.Added.{new_numbers};
+ghost use Rattle.comp_types.specs.GivenResources.{numbered};
 ghost use Rattle.comp_describes.specs.Pairs.{FindAlike};
 
 use comp_types::Substitution;

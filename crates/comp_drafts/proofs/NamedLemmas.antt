@@ -9,8 +9,8 @@ use Rattle.wasm_ast.specs.declared.component.CoreArg.{CoreArg}
 use Rattle.wasm_ast.specs.declared.component.CoreInstance.TheVariants as core_instances
 use Rattle.wasm_ast.specs.declared.component.NamedItem.{NamedItem}
 use Rattle.wasm_ast.specs.declared.component.Instance.TheVariants as instances
-use Rattle.comp_rules.specs.Spaces.{Space, NestedComponent}
-use Rattle.comp_rules.specs.Resources.{numbered}
+use Rattle.comp_types.specs.Spaces.{Space, NestedComponent}
+use Rattle.comp_types.specs.GivenResources.{numbered}
 use Rattle.comp_link.specs.Plans.{NamedArg, Plan, Planned, OfModule, OfComponent, Scope, if_some, named_by, named_args, own_numbers, of_core_instance, of_instance}
 use Rattle.comp_plans.specs.declared.items.PlanArg.{PlanArg}
 use Rattle.comp_plans.specs.declared.items.PlanItem.TheVariants as items

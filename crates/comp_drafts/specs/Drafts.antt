@@ -3,7 +3,7 @@ use Rattle.std.specs.Prelude.{◌≡◌, ℕ, List, ◌++◌, map, Option, Some,
 use Rattle.std.specs.Option.{option_map}
 use Rattle.wasm_ast.specs.Boxed.{Held}
 use Rattle.wasm_ast.specs.declared.module.Module.{Module}
-use Rattle.comp_rules.specs.Spaces.{NestedComponent}
+use Rattle.comp_types.specs.Spaces.{NestedComponent}
 use Rattle.comp_link.specs.Plans.{Plan, End, Scope}
 use Rattle.comp_plans.specs.declared.items.PlanItem.{PlanItem}
 use Rattle.comp_plans.specs.Planned.{PlannedComponent, plan_item, plan_items}

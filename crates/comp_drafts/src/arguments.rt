@@ -3,7 +3,7 @@
 ghost use Rattle.std.specs.Prelude.{◌≡◌, IfOk};
 ghost use Rattle.comp_link.specs.Plans.{named_args, named_by};
 ghost use Rattle.comp_plans.specs.Planned.{args_named, item_named};
-ghost use Rattle.comp_rules.specs.Spaces.{Space};
+ghost use Rattle.comp_types.specs.Spaces.{Space};
 ghost use Rattle.comp_scopes.specs.Stands.{Stands};
 
 use crate::resources::resource_at;

@@ -3,8 +3,8 @@ ghost use Rattle.wasm_ast.specs.Boxed.{Held};
 ghost use Rattle.wasm_ast.specs.declared.module.Module.{Module};
 ghost use Rattle.comp_link.specs.Plans.{Exports, Imports, just, named_by};
 ghost use Rattle.comp_plans.specs.Planned.{PlannedComponent, plan_item};
-ghost use Rattle.comp_rules.specs.Added.{described};
-ghost use Rattle.comp_rules.specs.Spaces.{Space};
+ghost use Rattle.comp_types.specs.Added.{described};
+ghost use Rattle.comp_types.specs.Spaces.{Space};
 ghost use Rattle.comp_scopes.specs.Stands.{Stands};
 ghost use Rattle.comp_types.specs.Views.{item_of};
 

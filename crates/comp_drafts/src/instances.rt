@@ -4,7 +4,7 @@ ghost use Rattle.wasm_ast.specs.declared.component.Instance.TheVariants.{Instant
 ghost use Rattle.wasm_ast.specs.declared.module.Module.{Module};
 ghost use Rattle.comp_link.specs.Plans.{Scope as Named, of_instance};
 ghost use Rattle.comp_plans.specs.Planned.{PlannedComponent};
-ghost use Rattle.comp_rules.specs.Spaces.{Space};
+ghost use Rattle.comp_types.specs.Spaces.{Space};
 ghost use Rattle.comp_scopes.specs.Stands.{Stands};
 ghost use Rattle.comp_drafts.specs.Drafts.{NamesComponents, some_item};
 

@@ -1,6 +1,6 @@
 ghost use Rattle.std.specs.Prelude.{◌≡◌, Some};
-ghost use Rattle.comp_rules.specs.Spaces.{Space, kind_at};
-ghost use Rattle.comp_rules.specs.Types.{resource_in};
+ghost use Rattle.comp_types.specs.Spaces.{Space, kind_at};
+ghost use Rattle.comp_types.specs.Types.{resource_in};
 ghost use Rattle.comp_scopes.specs.Stands.{Stands};
 ghost use Rattle.comp_types.specs.Views.{kind_of};
 

@@ -1,8 +1,8 @@
 ghost use Rattle.std.specs.Prelude.{◌≡◌};
-ghost use Rattle.comp_rules.specs.Declarations.{ATypeDef};
-ghost use Rattle.comp_rules.specs.Definitions.{AType};
-ghost use Rattle.comp_rules.specs.Rules.{is_resource, resource_is_due, resources_are_due};
-ghost use Rattle.comp_rules.specs.Spaces.{Space};
+ghost use Rattle.comp_types.specs.Declarations.{ATypeDef};
+ghost use Rattle.comp_types.specs.Definitions.{AType};
+ghost use Rattle.comp_types.specs.Rules.{is_resource, resource_is_due, resources_are_due};
+ghost use Rattle.comp_types.specs.Spaces.{Space};
 ghost use Rattle.comp_scopes.specs.Stands.{Stands};
 ghost use Rattle.comp_types.specs.Views.{kind_of};
 

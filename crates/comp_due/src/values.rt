@@ -1,7 +1,7 @@
 ghost use Rattle.std.specs.Prelude.{◌≡◌};
 ghost use Rattle.std.specs.List.{list_all};
-ghost use Rattle.comp_rules.specs.Rules.{def_has_values, if_there, is_value, value_is_due};
-ghost use Rattle.comp_rules.specs.Spaces.{Space};
+ghost use Rattle.comp_types.specs.Rules.{def_has_values, if_there, is_value, value_is_due};
+ghost use Rattle.comp_types.specs.Spaces.{Space};
 ghost use Rattle.comp_scopes.specs.Stands.{Stands};
 ghost use Rattle.comp_types.specs.Views.{kind_of};
 

@@ -11,18 +11,18 @@ use Rattle.wasm_ast.specs.declared.component.NamedItem.{NamedItem}
 use Rattle.wasm_ast.specs.declared.component.CanonOption.{CanonOption}
 use Rattle.wasm_ast.specs.declared.component.ExternDesc.{ExternDesc}
 use Rattle.wasm_ast.specs.declared.component.ExternDesc.TheVariants as descs
-use Rattle.core_eval.proofs.Growing.{get_within}
+use Rattle.core_store.proofs.Growing.{get_within}
 use Rattle.core_instance.specs.declared.external.Extern.{Extern}
 use Rattle.core_instance.specs.declared.external.Extern.TheVariants.{Func, Table, Memory, Global}
 use Rattle.wit_types.specs.Plain.{PlainFunc}
 use Rattle.comp_types.specs.Items.{Item, Kind, Entries, FuncItem, InstanceItem, KindItem, ResourceKind, ValueKind, FuncKind, InstanceKind, More}
 use Rattle.comp_types.specs.Equality.{IsEqualType}
 use Rattle.comp_types.specs.Substitution.{partner_in}
-use Rattle.comp_rules.specs.Spaces.{Space, TypeEntry, and_item, kind_at, item_at}
-use Rattle.comp_rules.specs.Types.{func_in, instance_in, resource_in}
-use Rattle.comp_rules.specs.Resources.{renamed}
-use Rattle.comp_rules.specs.Added.{named_items, and_named, and_some_type, kind_item, and_index, brought, described}
-use Rattle.comp_rules.specs.Rules.{lengths_of, item_stands, desc_stands, IsKind, IsStated}
+use Rattle.comp_types.specs.Spaces.{Space, TypeEntry, and_item, kind_at, item_at}
+use Rattle.comp_types.specs.Types.{func_in, instance_in, resource_in}
+use Rattle.comp_types.specs.GivenResources.{renamed}
+use Rattle.comp_types.specs.Added.{named_items, and_named, and_some_type, kind_item, and_index, brought, described}
+use Rattle.comp_types.specs.Rules.{lengths_of, item_stands, desc_stands, IsKind, IsStated}
 use Rattle.comp_worlds.specs.Groups.{Target}
 use Rattle.comp_link.specs.Plans.{Named, named_by, resource_or_type, named_args}
 use Rattle.comp_link.specs.Linking.{Given, Givens, GivenFunc, GivenInstance, GivenResource, GivenType, Making, given_at, and_some_given, givens_of, and_item as and_made, and_core_item, with_lowered}

@@ -31,13 +31,13 @@ use Rattle.comp_names.specs.Same.{folded, is_same_name}
 use Rattle.comp_types.specs.Items.{Item, Entries, FuncItem, InstanceItem, KindItem, End, More, same_name, look_up, names, and_entry}
 use Rattle.comp_types.proofs.ValueLaws.{name-sound, name-same}
 use Rattle.comp_grammar.specs.Trees.{Part, Tree, CoreModule, Nested, CoreInstances, Instances, Aliases, Types, Canons, Imports, Exports, Custom, End as NoSection, More as Section}
-use Rattle.comp_rules.specs.Declarations.{Declaration, ATypeDef, AnInstanceType, ATypeAlias, ATypeExport}
-use Rattle.comp_rules.specs.Spaces.{Space, TypeEntry, NestedComponent, and_core_item, and_type, entry_of, and_item, item_at}
-use Rattle.comp_rules.specs.Types.{kind_of}
-use Rattle.comp_rules.specs.CoreMatching.{core_look_up}
-use Rattle.comp_rules.specs.Definitions.{Definition, ACoreInstance, AnInstance, AnAlias, AType, ACanon, AnImport, AnExport, definitions}
-use Rattle.comp_rules.specs.Added.{and_again, and_export_index, and_instantiated, and_some_item, and_some_core_item, and_some_type, and_some_module, and_some_component, and_outer, described, and_index, and_resource, after, after_all, after_part, after_tree, named_items}
-use Rattle.comp_rules.specs.Rules.{is_new_in}
+use Rattle.comp_types.specs.Declarations.{Declaration, ATypeDef, AnInstanceType, ATypeAlias, ATypeExport}
+use Rattle.comp_types.specs.Spaces.{Space, TypeEntry, NestedComponent, and_core_item, and_type, entry_of, and_item, item_at}
+use Rattle.comp_types.specs.Types.{kind_of}
+use Rattle.comp_types.specs.CoreMatching.{core_look_up}
+use Rattle.comp_types.specs.Definitions.{Definition, ACoreInstance, AnInstance, AnAlias, AType, ACanon, AnImport, AnExport, definitions}
+use Rattle.comp_types.specs.Added.{and_again, and_export_index, and_instantiated, and_some_item, and_some_core_item, and_some_type, and_some_module, and_some_component, and_outer, described, and_index, and_resource, after, after_all, after_part, after_tree, named_items}
+use Rattle.comp_types.specs.Rules.{is_new_in}
 
 -- what is found in the first is found in the second
 abbrev pub Within : Entries → Entries → Type 0

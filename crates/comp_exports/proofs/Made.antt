@@ -31,15 +31,15 @@ use Rattle.wit_types.specs.Plain.{Name}
 use Rattle.comp_types.specs.Items.{Item, Entries, FuncItem, InstanceItem, KindItem, ResourceKind, ValueKind, FuncKind, InstanceKind, End as NoEntries, More as Entry, same_name, look_up}
 use Rattle.comp_types.specs.Substitution.{partner_in}
 use Rattle.comp_grammar.specs.Trees.{Part, Tree, CoreModule, Nested, CoreInstances, Instances, Aliases, Types, Canons, Imports as ImportsPart, Exports as ExportsPart, Custom, End as NoParts, More as Section}
-use Rattle.comp_rules.specs.Declarations.{Declaration, Declarations, ATypeDef, AnInstanceType, ATypeAlias, ATypeExport, Done, Then as ThenDeclared, grouped}
-use Rattle.comp_rules.specs.Definitions.{Definition, ACoreInstance, AnInstance, AnAlias, AType, ACanon, AnImport, AnExport, definitions, types_in}
-use Rattle.comp_rules.specs.Spaces.{Space, TypeEntry, NestedComponent, item_at, kind_at}
-use Rattle.comp_rules.specs.Types.{resource_in}
-use Rattle.comp_rules.specs.Resources.{given_by, numbered}
-use Rattle.comp_rules.specs.CoreMatching.{core_look_up}
-use Rattle.comp_rules.specs.Added.{and_again, and_index, and_export_index, and_instantiated, and_some_item, and_some_core_item, and_some_type, and_some_module, and_some_component, and_some_entry, and_outer, and_instance, described, exported, named_items, after, after_all, after_part, after_tree, entered, nested_of, root}
-use Rattle.comp_rules.specs.Rules.{is_of_sort, exports_sort, has_item, if_there, lengths_of, item_stands, desc_stands, IsStated, IsStatedIfAny, MeetsComponent}
-use Rattle.comp_rules.specs.Validity.{IsValidDefinition, AllHold, AreValid, IsValidPart, IsValidTree}
+use Rattle.comp_types.specs.Declarations.{Declaration, Declarations, ATypeDef, AnInstanceType, ATypeAlias, ATypeExport, Done, Then as ThenDeclared, grouped}
+use Rattle.comp_types.specs.Definitions.{Definition, ACoreInstance, AnInstance, AnAlias, AType, ACanon, AnImport, AnExport, definitions, types_in}
+use Rattle.comp_types.specs.Spaces.{Space, TypeEntry, NestedComponent, item_at, kind_at}
+use Rattle.comp_types.specs.Types.{resource_in}
+use Rattle.comp_types.specs.GivenResources.{given_by, numbered}
+use Rattle.comp_types.specs.CoreMatching.{core_look_up}
+use Rattle.comp_types.specs.Added.{and_again, and_index, and_export_index, and_instantiated, and_some_item, and_some_core_item, and_some_type, and_some_module, and_some_component, and_some_entry, and_outer, and_instance, described, exported, named_items, after, after_all, after_part, after_tree, entered, nested_of, root}
+use Rattle.comp_types.specs.Rules.{is_of_sort, exports_sort, has_item, if_there, lengths_of, item_stands, desc_stands, IsStated, IsStatedIfAny, MeetsComponent}
+use Rattle.comp_types.specs.Validity.{IsValidDefinition, AllHold, AreValid, IsValidPart, IsValidTree}
 use Rattle.comp_worlds.specs.Groups.{Begins}
 use Rattle.comp_link.specs.Plans.{Plan, End, Then, OfModule, OfComponent, MakesResource, DropsResource, ReadsResource, Imports, Exports, Scope, no_scope, and_plan, and_module, if_some, just, followed, named_by, named_args, of_core_instance, own_numbers, of_instance, of_alias, of_type, of_canon, planned_by, and_outer as scope_and_outer, scope_after, plan_all, plan_part, plan_tree}
 use Rattle.comp_link.specs.Linking.{Given, Givens, find, Whole, Making, begun, and_stage, core_find, and_given, givens_of, and_item as and_made, item_in, and_export, link_item, link, outside, all_outside, all_known, behind_known}

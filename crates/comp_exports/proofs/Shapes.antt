@@ -6,7 +6,7 @@ use Rattle.comp_types.specs.Substitution.{item_with, kind_with, entries_with}
 use Rattle.comp_types.specs.Equality.{IsSameItem, IsSameKind, HasEach}
 use Rattle.comp_types.specs.Subtyping.{IsArgument, AreGiven}
 use Rattle.comp_types.proofs.ValueLaws.{name-sound}
-use Rattle.comp_rules.specs.Rules.{is_resource}
+use Rattle.comp_types.specs.Rules.{is_resource}
 use Rattle.comp_link.specs.Linking.{Given, Givens, GivenFunc, GivenInstance, GivenResource, GivenType, Nothing, Giving, find, and_given}
 use Rattle.comp_exports.specs.Exports.{Either, IsOf, Finds, AreExportsOf}
 

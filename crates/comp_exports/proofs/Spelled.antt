@@ -18,7 +18,7 @@ use Rattle.comp_grammar.specs.Items.{canon, component_import}
 use Rattle.comp_grammar.specs.TypeSections.{definition, declaration, Due, is_none_open, declared, opened, declarations_of, open_after, after_item, type_walk, all_due, type_items}
 use Rattle.comp_grammar.specs.Components.{add, custom_in, core_module_in, core_instances_in, instances_in, aliases_in, types_in, canons_in, imports_in, exports_in, custom, placed_module, placed, nested_section, low_section, high_section, section, sections, parts_of, all_sections, component, SpellsComponent}
 use Rattle.comp_grammar.proofs.BuiltLaws.{built_is, parts_built}
-use Rattle.comp_rules.specs.Declarations.{Declaration, Declarations, ATypeDef, AnInstanceType, ATypeAlias, ATypeExport, Done, Then, first_of, behind, defined, grouped}
+use Rattle.comp_types.specs.Declarations.{Declaration, Declarations, ATypeDef, AnInstanceType, ATypeAlias, ATypeExport, Done, Then, first_of, behind, defined, grouped}
 use Rattle.comp_exports.specs.Sections.{IsDefined, AreDefined, DefinesIn, DefinesTypes}
 
 -- ---- a section of types

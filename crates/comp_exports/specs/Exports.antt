@@ -4,9 +4,9 @@ use Rattle.wit_types.specs.Plain.{Name}
 use Rattle.comp_types.specs.Items.{Item, Entries, FuncItem, InstanceItem, KindItem, End, More, same_name, look_up}
 use Rattle.comp_grammar.specs.Trees.{Tree}
 use Rattle.comp_grammar.specs.Components.{SpellsComponent}
-use Rattle.comp_rules.specs.Rules.{is_resource}
-use Rattle.comp_rules.specs.Added.{type_of}
-use Rattle.comp_rules.specs.Validity.{IsValidComponent}
+use Rattle.comp_types.specs.Rules.{is_resource}
+use Rattle.comp_types.specs.Added.{type_of}
+use Rattle.comp_types.specs.Validity.{IsValidComponent}
 use Rattle.comp_link.specs.Linking.{Given, Givens, GivenFunc, GivenInstance, GivenResource, GivenType, Nothing, Giving, linked}
 use Rattle.comp_exports.specs.Sections.{DefinesTypes}
 

@@ -1,6 +1,6 @@
 -- A section of types defines types (Component Model, Binary.md, "Type Definitions"): what declares an export stands in an instance type.
 use Rattle.comp_grammar.specs.Trees.{Part, Tree, Nested, Types, End, More}
-use Rattle.comp_rules.specs.Declarations.{Declaration, Declarations, ATypeExport, Done, Then, grouped}
+use Rattle.comp_types.specs.Declarations.{Declaration, Declarations, ATypeExport, Done, Then, grouped}
 
 abbrev pub IsDefined : Declaration → Type 0
 IsDefined (ATypeExport name desc) = ⊥

@@ -8,8 +8,8 @@ use Rattle.std.proofs.lemmas.List.Elements.{All-nil, All-cons, All-head, All-tai
 use Rattle.comp_types.specs.Subtyping.{Takes}
 use Rattle.comp_types.specs.Substitution.{partner_of, and_pair, and_pair_to}
 use Rattle.comp_types.proofs.MeetLaws.{equal_number}
-use Rattle.comp_rules.specs.Resources.{is_among, distinct}
-use Rattle.comp_rules.specs.Rules.{as_they_are}
+use Rattle.comp_types.specs.GivenResources.{is_among, distinct}
+use Rattle.comp_types.specs.Rules.{as_they_are}
 use Rattle.comp_resources.proofs.OnceLemmas.{each-of_none, each-among}
 use Rattle.comp_externs.specs.Takes.{TakesAlike}
 

@@ -12,15 +12,15 @@ use Rattle.wasm_ast.specs.declared.component.ComponentImport.{ComponentImport}
 use Rattle.wasm_ast.specs.declared.component.ExternDesc.{ExternDesc}
 use Rattle.comp_names.specs.Names.{is_legal}
 use Rattle.comp_types.specs.Items.{Item, FuncItem, InstanceItem, KindItem}
-use Rattle.comp_rules.specs.Spaces.{Space, TypeEntry, item_at}
-use Rattle.comp_rules.specs.Declarations.{ATypeExport}
-use Rattle.comp_rules.specs.Definitions.{Definition, AType, AnImport, AnExport}
-use Rattle.comp_rules.specs.Added.{after, described, exported}
-use Rattle.comp_rules.specs.Resources.{is_among}
-use Rattle.comp_rules.specs.Faults.{tests, test_at, first_failing, fault}
-use Rattle.comp_rules.specs.Rules.{IsStated, IsStatedIfAny, StatedTypesFit, annotations_fit, desc_has_kind, desc_stands, export_stands, if_there, is_new_in, item_stands, lengths_of, name_fits, named_in_desc}
-use Rattle.comp_rules.specs.Validity.{IsLeastOf}
-use Rattle.comp_rules.proofs.FaultLaws.{kept, made, all_hold, least_fails}
+use Rattle.comp_types.specs.Spaces.{Space, TypeEntry, item_at}
+use Rattle.comp_types.specs.Declarations.{ATypeExport}
+use Rattle.comp_types.specs.Definitions.{Definition, AType, AnImport, AnExport}
+use Rattle.comp_types.specs.Added.{after, described, exported}
+use Rattle.comp_types.specs.GivenResources.{is_among}
+use Rattle.comp_types.specs.Faults.{tests, test_at, first_failing, fault}
+use Rattle.comp_types.specs.Rules.{IsStated, IsStatedIfAny, StatedTypesFit, annotations_fit, desc_has_kind, desc_stands, export_stands, if_there, is_new_in, item_stands, lengths_of, name_fits, named_in_desc}
+use Rattle.comp_types.specs.Validity.{IsLeastOf}
+use Rattle.comp_types.proofs.FaultLaws.{kept, made, all_hold, least_fails}
 use Rattle.comp_scopes.specs.declared.scope.Scope.{Scope}
 use Rattle.comp_scopes.specs.Judged.{Judged}
 use Rattle.comp_scopes.specs.Stands.{Stands}

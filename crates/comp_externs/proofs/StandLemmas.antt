@@ -6,8 +6,8 @@ use Rattle.wasm_ast.specs.declared.component.Sort.{Sort}
 use Rattle.wasm_ast.specs.declared.component.Sort.TheVariants as sorts
 use Rattle.wasm_ast.specs.declared.component.ComponentExport.{ComponentExport}
 use Rattle.comp_types.specs.Items.{Item, Entries, FuncItem, InstanceItem, KindItem, and_entry}
-use Rattle.comp_rules.specs.Spaces.{Space, TypeEntry, and_item, item_at}
-use Rattle.comp_rules.specs.Added.{and_index, and_again, and_described, and_export, and_export_index, and_some_entry, and_some_type, and_some_item, described, exported}
+use Rattle.comp_types.specs.Spaces.{Space, TypeEntry, and_item, item_at}
+use Rattle.comp_types.specs.Added.{and_index, and_again, and_described, and_export, and_export_index, and_some_entry, and_some_type, and_some_item, described, exported}
 use Rattle.comp_scopes.specs.declared.named.NamedEntries.{NamedEntries}
 use Rattle.comp_scopes.specs.declared.numbers.Numbers.{Numbers}
 use Rattle.comp_scopes.specs.declared.scope.Scope.{Scope}

@@ -6,8 +6,8 @@ use Rattle.std.specs.Prelude.{is_some}
 use Rattle.std.proofs.lemmas.List.Elements.{All-nil}
 use Rattle.wasm_ast.specs.declared.component.ExternDesc.TheVariants.{Resource}
 use Rattle.comp_types.specs.Items.{Item, Entries, End, FuncItem, InstanceItem, KindItem, ResourceKind, ValueKind, FuncKind, InstanceKind}
-use Rattle.comp_rules.specs.Spaces.{Space}
-use Rattle.comp_rules.specs.Rules.{IsInstanceOf, IsStated, resource_of}
+use Rattle.comp_types.specs.Spaces.{Space}
+use Rattle.comp_types.specs.Rules.{IsInstanceOf, IsStated, resource_of}
 use Rattle.comp_types.specs.Equality.{IsEqualType}
 use Rattle.comp_types.specs.Subtyping.{IsSubtype}
 use Rattle.comp_externs.specs.Takes.{TakesAlike}

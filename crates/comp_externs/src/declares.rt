@@ -1,11 +1,11 @@
 ghost use Rattle.std.specs.Prelude.{◌≡◌, List, IfOk, OnOk, min, slice_get, true};
 ghost use Rattle.comp_types.specs.Views.{item_of};
-ghost use Rattle.comp_rules.specs.Added.{and_type_export, depth_in, described, described_depth};
-ghost use Rattle.comp_rules.specs.Declarations.{ATypeExport};
-ghost use Rattle.comp_rules.specs.Definitions.{AType};
-ghost use Rattle.comp_rules.specs.Faults.{fault};
-ghost use Rattle.comp_rules.specs.Rules.{desc_stands, lengths_of};
-ghost use Rattle.comp_rules.specs.Spaces.{Space};
+ghost use Rattle.comp_types.specs.Added.{and_type_export, depth_in, described, described_depth};
+ghost use Rattle.comp_types.specs.Declarations.{ATypeExport};
+ghost use Rattle.comp_types.specs.Definitions.{AType};
+ghost use Rattle.comp_types.specs.Faults.{fault};
+ghost use Rattle.comp_types.specs.Rules.{desc_stands, lengths_of};
+ghost use Rattle.comp_types.specs.Spaces.{Space};
 ghost use Rattle.comp_scopes.specs.Judged.{Judged};
 ghost use Rattle.comp_scopes.specs.Stands.{Stands};
 ghost use Rattle.comp_describes.specs.Describes.{IsDescribed};

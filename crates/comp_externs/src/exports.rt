@@ -1,9 +1,9 @@
 ghost use Rattle.std.specs.Prelude.{◌≡◌, List, IfOk, OnOk, None, Some, true};
 ghost use Rattle.comp_types.specs.Views.{item_of};
-ghost use Rattle.comp_rules.specs.Added.{and_export};
-ghost use Rattle.comp_rules.specs.Definitions.{AnExport};
-ghost use Rattle.comp_rules.specs.Rules.{desc_has_kind, export_stands, if_there, lengths_of};
-ghost use Rattle.comp_rules.specs.Spaces.{Space, item_at};
+ghost use Rattle.comp_types.specs.Added.{and_export};
+ghost use Rattle.comp_types.specs.Definitions.{AnExport};
+ghost use Rattle.comp_types.specs.Rules.{desc_has_kind, export_stands, if_there, lengths_of};
+ghost use Rattle.comp_types.specs.Spaces.{Space, item_at};
 ghost use Rattle.comp_scopes.specs.Judged.{Judged};
 ghost use Rattle.comp_scopes.specs.Stands.{Stands};
 ghost use Rattle.comp_describes.specs.Describes.{IsDescribed};

@@ -1,12 +1,12 @@
 ghost use Rattle.std.specs.Prelude.{◌≡◌, List, IfOk, OnOk, true};
 ghost use Rattle.std.specs.List.{list_all};
 ghost use Rattle.comp_types.specs.Views.{item_of};
-ghost use Rattle.comp_rules.specs.Added.{and_import, described};
-ghost use Rattle.comp_rules.specs.Definitions.{AnImport};
-ghost use Rattle.comp_rules.specs.Faults.{fault};
-ghost use Rattle.comp_rules.specs.Resources.{is_among};
-ghost use Rattle.comp_rules.specs.Rules.{desc_stands, lengths_of, named_in_desc};
-ghost use Rattle.comp_rules.specs.Spaces.{Space};
+ghost use Rattle.comp_types.specs.Added.{and_import, described};
+ghost use Rattle.comp_types.specs.Definitions.{AnImport};
+ghost use Rattle.comp_types.specs.Faults.{fault};
+ghost use Rattle.comp_types.specs.GivenResources.{is_among};
+ghost use Rattle.comp_types.specs.Rules.{desc_stands, lengths_of, named_in_desc};
+ghost use Rattle.comp_types.specs.Spaces.{Space};
 ghost use Rattle.comp_scopes.specs.Judged.{Judged};
 ghost use Rattle.comp_scopes.specs.Stands.{Stands};
 ghost use Rattle.comp_describes.specs.Describes.{IsDescribed};

@@ -1,9 +1,9 @@
 ghost use Rattle.std.specs.Prelude.{◌≡◌, IfOk, [], None, Some};
 ghost use Rattle.comp_types.specs.Views.{kind_of};
-ghost use Rattle.comp_rules.specs.Resources.{distinct, named_in_func, named_in_kind};
-ghost use Rattle.comp_rules.specs.Rules.{desc_has_kind, if_there, is_func, is_instance, named_at, named_in_desc};
-ghost use Rattle.comp_rules.specs.Spaces.{Space, kind_at};
-ghost use Rattle.comp_rules.specs.Types.{func_in};
+ghost use Rattle.comp_types.specs.GivenResources.{distinct, named_in_func, named_in_kind};
+ghost use Rattle.comp_types.specs.Rules.{desc_has_kind, if_there, is_func, is_instance, named_at, named_in_desc};
+ghost use Rattle.comp_types.specs.Spaces.{Space, kind_at};
+ghost use Rattle.comp_types.specs.Types.{func_in};
 ghost use Rattle.comp_scopes.specs.Stands.{Stands};
 
 use comp_functions::{is_func_at, is_instance_at};

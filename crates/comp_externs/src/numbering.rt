@@ -1,6 +1,6 @@
 ghost use Rattle.std.specs.Prelude.{◌≡◌, ◌++◌, [], ◌∷◌, List, ℕ, IfOk, OnOk};
 ghost use Rattle.std.specs.List.{list_all};
-ghost use Rattle.comp_rules.specs.Resources.{distinct, is_among, named_in, without};
+ghost use Rattle.comp_types.specs.GivenResources.{distinct, is_among, named_in, without};
 ghost use Rattle.comp_scopes.specs.Numbers.{HasNumbers};
 
 use comp_resources::{Resources, resources_of_entries};

@@ -4,10 +4,10 @@ ghost use Rattle.wasm_ast.specs.declared.component.ExternDesc.TheVariants.{Func 
 ghost use Rattle.comp_types.specs.Items.{InstanceItem};
 ghost use Rattle.comp_types.specs.Subtyping.{IsSubtype};
 ghost use Rattle.comp_types.specs.Views.{item_of, kind_of};
-ghost use Rattle.comp_rules.specs.Resources.{named_in_kind};
-ghost use Rattle.comp_rules.specs.Rules.{IsInstanceOf, IsKind, IsStated, as_they_are, resource_of};
-ghost use Rattle.comp_rules.specs.Spaces.{Space, kind_at};
-ghost use Rattle.comp_rules.specs.Types.{instance_in};
+ghost use Rattle.comp_types.specs.GivenResources.{named_in_kind};
+ghost use Rattle.comp_types.specs.Rules.{IsInstanceOf, IsKind, IsStated, as_they_are, resource_of};
+ghost use Rattle.comp_types.specs.Spaces.{Space, kind_at};
+ghost use Rattle.comp_types.specs.Types.{instance_in};
 ghost use Rattle.comp_scopes.specs.Stands.{Stands};
 ghost use Rattle.comp_externs.specs.Takes.{TakesAlike};
 

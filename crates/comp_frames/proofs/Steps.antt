@@ -3,7 +3,7 @@ use Rattle.std.proofs.Common.{◌≡◌, ℕ, List, [], ◌∷◌, Option, Some,
 use Rattle.std.specs.Prelude.{◌==◌}
 use Rattle.core_store.specs.declared.value.CoreValue.{CoreValue}
 use Rattle.core_store.specs.declared.value.CoreValue.TheVariants as values
-use Rattle.core_eval.specs.Words.{words, values_in}
+use Rattle.core_store.specs.Words.{words, values_in}
 use Rattle.abi_layout.specs.Functions.{lowered, core_params}
 use Rattle.host_port.specs.Calls.{PlainAnswer, Gives, Trap, Ended, Bad}
 use Rattle.host_port.specs.Hosts.{HostStep}

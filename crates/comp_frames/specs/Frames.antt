@@ -4,8 +4,8 @@
 use Rattle.std.specs.Prelude.{ℕ, List, [], ◌∷◌, Option, Some, None, Bool, true, false}
 use Rattle.virt_base.specs.declared.core_type.CoreType.{CoreType}
 use Rattle.core_store.specs.declared.value.CoreValue.{CoreValue}
-use Rattle.core_eval.specs.Words.{words, values_in}
-use Rattle.core_eval.specs.Config.{Reply}
+use Rattle.core_store.specs.Words.{words, values_in}
+use Rattle.core_store.specs.Config.{Reply}
 use Rattle.wit_types.specs.PlainValue.{PlainValue}
 use Rattle.abi_layout.specs.Functions.{lowered}
 use Rattle.abi_layout.specs.Storing.{Lowered}

@@ -2,8 +2,8 @@
 use Rattle.std.specs.Prelude.{◌≡◌, ℕ, if◌then◌else◌, List, [], ◌∷◌, Option, Some, None, Bool, true, false}
 use Rattle.core_store.specs.declared.value.CoreValue.{CoreValue}
 use Rattle.core_store.specs.declared.value.CoreValue.TheVariants as values
-use Rattle.core_eval.specs.Words.{words, values_in}
-use Rattle.core_eval.specs.Config.{Reply}
+use Rattle.core_store.specs.Words.{words, values_in}
+use Rattle.core_store.specs.Config.{Reply}
 use Rattle.wit_types.specs.Plain.{Plain}
 use Rattle.wit_types.specs.PlainValue.{PlainValue}
 use Rattle.abi_layout.specs.Functions.{lowered, core_params}

@@ -1,8 +1,8 @@
 ghost use Rattle.std.specs.Prelude.{◌≡◌, IfOk, Some};
 ghost use Rattle.comp_types.specs.Views.{kind_of};
 ghost use Rattle.comp_facts.specs.Facts.{IsFuncFactsOf};
-ghost use Rattle.comp_rules.specs.Spaces.{Space, kind_at};
-ghost use Rattle.comp_rules.specs.Types.{func_in, no_func};
+ghost use Rattle.comp_types.specs.Spaces.{Space, kind_at};
+ghost use Rattle.comp_types.specs.Types.{func_in, no_func};
 ghost use Rattle.comp_scopes.specs.Stands.{Stands};
 
 use comp_facts::{FuncFacts, PartFacts};

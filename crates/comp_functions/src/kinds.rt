@@ -1,7 +1,7 @@
 ghost use Rattle.std.specs.Prelude.{◌≡◌};
 ghost use Rattle.comp_types.specs.Views.{kind_of};
-ghost use Rattle.comp_rules.specs.Rules.{if_there, is_func, is_instance};
-ghost use Rattle.comp_rules.specs.Spaces.{Space, kind_at};
+ghost use Rattle.comp_types.specs.Rules.{if_there, is_func, is_instance};
+ghost use Rattle.comp_types.specs.Spaces.{Space, kind_at};
 ghost use Rattle.comp_scopes.specs.Stands.{Stands};
 
 use comp_scopes::Scope;

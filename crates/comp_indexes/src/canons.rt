@@ -1,10 +1,10 @@
 ghost use Rattle.std.specs.Prelude.{◌≡◌};
 ghost use Rattle.std.specs.List.{list_all};
-ghost use Rattle.comp_rules.specs.Rules.{canon_stands, export_stands, option_stands};
+ghost use Rattle.comp_types.specs.Rules.{canon_stands, export_stands, option_stands};
 
 use crate::instances::item_stands;
 use crate::types::{desc_stands, is_below};
-use comp_rules::Lengths;
+use comp_types::Lengths;
 use wasm_ast::{Canon, CanonOption, ComponentExport};
 
 fn option_stands(lengths: &Lengths, option: CanonOption) -> bool

@@ -1,9 +1,9 @@
 ghost use Rattle.std.specs.Prelude.{◌≡◌, nat_lt};
 ghost use Rattle.std.specs.List.{list_all};
-ghost use Rattle.comp_rules.specs.Rules.{alias_stands, core_instance_stands, core_item_stands, instance_stands, item_stands};
+ghost use Rattle.comp_types.specs.Rules.{alias_stands, core_instance_stands, core_item_stands, instance_stands, item_stands};
 
 use crate::types::{is_below, outer_stands};
-use comp_rules::Lengths;
+use comp_types::Lengths;
 use wasm_ast::{Alias, CoreArg, CoreExport, CoreInstance, CoreSort, Instance, NamedItem, Sort};
 
 fn core_item_stands(lengths: &Lengths, sort: CoreSort, index: u32) -> bool

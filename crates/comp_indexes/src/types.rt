@@ -1,8 +1,8 @@
 ghost use Rattle.std.specs.Prelude.{◌≡◌, nat_lt};
 ghost use Rattle.std.specs.List.{list_all};
-ghost use Rattle.comp_rules.specs.Rules.{def_stands, desc_stands, if_there, outer_stands, some_value_stands, type_alias_stands, value_stands};
+ghost use Rattle.comp_types.specs.Rules.{def_stands, desc_stands, if_there, outer_stands, some_value_stands, type_alias_stands, value_stands};
 
-use comp_rules::Lengths;
+use comp_types::Lengths;
 use wasm_ast::{CaseType, ExternDesc, LabelType, OuterSort, TypeAlias, TypeDef, ValType};
 
 /// Whether an index is below a length.

@@ -12,7 +12,7 @@ use Rattle.comp_facts.specs.Measures.{answer_depth, func_depth}
 use Rattle.comp_types.specs.Items.{Item, Kind, Entries, FuncItem, InstanceItem, KindItem, ResourceKind, ValueKind, FuncKind, InstanceKind, End, More, same_name, look_up, and_entry}
 use Rattle.comp_types.specs.Measures.{item_depth, kind_depth, entries_depth}
 use Rattle.comp_types.specs.Substitution.{partner_in, value_with, parts_with, answer_with, func_with, item_with, kind_with, entries_with}
-use Rattle.comp_rules.specs.Resources.{without, named_in_value, named_in_parts, named_in_answer, named_in_func, named_in_item, named_in_kind, named_in, renamed, given_by, given_for}
+use Rattle.comp_types.specs.GivenResources.{without, named_in_value, named_in_parts, named_in_answer, named_in_func, named_in_item, named_in_kind, named_in, renamed, given_by, given_for}
 use Rattle.comp_inside.specs.Later.{later, pair_later}
 use Rattle.comp_inside.specs.Linked.{Each}
 use Rattle.comp_inside.proofs.Numbers.{partner_later, without_later}

@@ -23,8 +23,8 @@ use Rattle.core_instance.specs.Instantiation.{instantiated, instance_of}
 use Rattle.wit_types.specs.Plain.{Name, PlainFunc}
 use Rattle.comp_types.specs.Items.{Item, Entries, FuncItem, InstanceItem, KindItem, ResourceKind, ValueKind, FuncKind, InstanceKind, End as NoEntries, More as Entry, same_name}
 use Rattle.comp_types.specs.Substitution.{partner_in, func_with, item_with, entries_with}
-use Rattle.comp_rules.specs.Resources.{named_in_func}
-use Rattle.comp_rules.specs.Added.{takes_and_gives, takes_one}
+use Rattle.comp_types.specs.GivenResources.{named_in_func}
+use Rattle.comp_types.specs.Added.{takes_and_gives, takes_one}
 use Rattle.comp_worlds.specs.Groups.{Target, Mine, Func as Canon, LoweredFunc, ResourceNew, ResourceDrop, ResourceRep, Stage, Provides, Makes, Begins}
 use Rattle.comp_parts.specs.Parts.{stage_to, stages_to}
 use Rattle.comp_link.specs.Plans.{Named, AFunc, AnInstanceAt, AResource, AValueType, NamedArg, Plan, Planned, End, Then, OfModule, OfCoreItems, CoreItemOf, OfComponent, OfItems, ItemOf, NewResource, Lifts, Lowers, MakesResource, DropsResource, ReadsResource, Imports, Exports}

@@ -7,7 +7,7 @@ use Rattle.std.proofs.Math.Path.{ap₂}
 use Rattle.std.proofs.lemmas.Bool.{eqb-true, eqb-false}
 use Rattle.std.proofs.lemmas.List.{length-map}
 use Rattle.comp_types.specs.Substitution.{partner_in}
-use Rattle.comp_rules.specs.Resources.{is_among, without, distinct, numbered}
+use Rattle.comp_types.specs.GivenResources.{is_among, without, distinct, numbered}
 use Rattle.comp_inside.specs.Later.{later, pair_later}
 
 -- what stands at an index, where more stands behind

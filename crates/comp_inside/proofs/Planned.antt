@@ -23,11 +23,11 @@ use Rattle.wasm_ast.specs.declared.component.Canon.{Canon}
 use Rattle.wasm_ast.specs.declared.component.Canon.TheVariants as canons
 use Rattle.comp_types.specs.Substitution.{func_with, item_with}
 use Rattle.comp_grammar.specs.Trees.{Part, Tree, CoreModule, Nested, CoreInstances, Instances, Aliases, Types, Canons, Imports as ImportsPart, Exports as ExportsPart, Custom, End as NoParts, More as Section}
-use Rattle.comp_rules.specs.Declarations.{Declaration, ATypeDef, AnInstanceType, ATypeAlias, ATypeExport}
-use Rattle.comp_rules.specs.Definitions.{Definition, ACoreInstance, AnInstance, AnAlias, AType, ACanon, AnImport, AnExport, definitions}
-use Rattle.comp_rules.specs.Spaces.{Space, NestedComponent, empty_space, kind_at}
-use Rattle.comp_rules.specs.Types.{func_in, resource_in}
-use Rattle.comp_rules.specs.Added.{described, lowered_at, after, after_part, after_tree, entered, root}
+use Rattle.comp_types.specs.Declarations.{Declaration, ATypeDef, AnInstanceType, ATypeAlias, ATypeExport}
+use Rattle.comp_types.specs.Definitions.{Definition, ACoreInstance, AnInstance, AnAlias, AType, ACanon, AnImport, AnExport, definitions}
+use Rattle.comp_types.specs.Spaces.{Space, NestedComponent, empty_space, kind_at}
+use Rattle.comp_types.specs.Types.{func_in, resource_in}
+use Rattle.comp_types.specs.Added.{described, lowered_at, after, after_part, after_tree, entered, root}
 use Rattle.comp_link.specs.Plans.{Plan, Planned, End, Then, OfModule, OfComponent, OfItems, Lifts, Lowers, MakesResource, DropsResource, ReadsResource, Imports, Exports, Scope, no_scope, and_plan, and_module, if_some, just, followed, resource_or_type, named_by, named_args, of_core_instance, own_numbers, of_instance, of_alias, of_type, of_canon, planned_by, and_outer, scope_after, Reached, behind, plan_all, plan_part, plan_tree}
 use Rattle.comp_inside.specs.Later.{later, pair_later, nested_later, space_later, named_later, arg_later, planned_later, plan_later, Defines, DefineAll, Stays, StaysWhole, SpacesInside, PlannedInside}
 use Rattle.comp_inside.proofs.Numbers.{got_within, numbered_later}

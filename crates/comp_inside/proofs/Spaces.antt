@@ -41,14 +41,14 @@ use Rattle.comp_types.specs.Items.{Item, Kind, Entries, FuncItem, InstanceItem, 
 use Rattle.comp_types.specs.Substitution.{value_with, parts_with, answer_with, func_with, item_with, kind_with, entries_with}
 use Rattle.comp_types.proofs.WithLemmas.{with-bare, with-case_part}
 use Rattle.comp_grammar.specs.Trees.{Part as Section, Tree, CoreModule, Nested, CoreInstances, Instances, Aliases, Types, Canons, Imports, Exports, Custom, End as NoSections, More as Sections}
-use Rattle.comp_rules.specs.Declarations.{Declaration, Declarations, ATypeDef, AnInstanceType, ATypeAlias, ATypeExport, Done, Then}
-use Rattle.comp_rules.specs.Definitions.{Definition, ACoreInstance, AnInstance, AnAlias, AType, ACanon, AnImport, AnExport, definitions}
-use Rattle.comp_rules.specs.Spaces.{Space, TypeEntry, NestedComponent, core_space, kind_at, item_at, and_core_item, and_type, entry_of, and_item}
-use Rattle.comp_rules.specs.Types.{value_in, func_in, resource_in, instance_in, value_of, fields_of, cases_of, unnamed, handle_of, func_of, kind_of}
-use Rattle.comp_rules.specs.Flat.{core_type}
-use Rattle.comp_rules.specs.Resources.{without, named_in, distinct, numbered, renamed, given_by}
-use Rattle.comp_rules.specs.CoreMatching.{core_look_up}
-use Rattle.comp_rules.specs.Added.{and_core_named, core_named, core_exports, and_named, named_items, and_instantiated, and_instance, and_some_item, and_some_core_item, and_some_type, and_some_module, and_component, and_some_component, and_outer, and_alias, brought, kind_item, described, depth_in, described_depth, and_index, and_described, new_numbers, and_resource, and_type_def, and_depth, opened, instance_type, and_instance_type, and_type_alias, and_type_export, after_declaration, after_declarations, lowered_at, and_canon, and_import, and_again, and_some_entry, and_export, after, after_all, entered, nested_of, and_nested, after_part, after_tree}
+use Rattle.comp_types.specs.Declarations.{Declaration, Declarations, ATypeDef, AnInstanceType, ATypeAlias, ATypeExport, Done, Then}
+use Rattle.comp_types.specs.Definitions.{Definition, ACoreInstance, AnInstance, AnAlias, AType, ACanon, AnImport, AnExport, definitions}
+use Rattle.comp_types.specs.Spaces.{Space, TypeEntry, NestedComponent, core_space, kind_at, item_at, and_core_item, and_type, entry_of, and_item}
+use Rattle.comp_types.specs.Types.{value_in, func_in, resource_in, instance_in, value_of, fields_of, cases_of, unnamed, handle_of, func_of, kind_of}
+use Rattle.comp_types.specs.Flat.{core_type}
+use Rattle.comp_types.specs.GivenResources.{without, named_in, distinct, numbered, renamed, given_by}
+use Rattle.comp_types.specs.CoreMatching.{core_look_up}
+use Rattle.comp_types.specs.Added.{and_core_named, core_named, core_exports, and_named, named_items, and_instantiated, and_instance, and_some_item, and_some_core_item, and_some_type, and_some_module, and_component, and_some_component, and_outer, and_alias, brought, kind_item, described, depth_in, described_depth, and_index, and_described, new_numbers, and_resource, and_type_def, and_depth, opened, instance_type, and_instance_type, and_type_alias, and_type_export, after_declaration, after_declarations, lowered_at, and_canon, and_import, and_again, and_some_entry, and_export, after, after_all, entered, nested_of, and_nested, after_part, after_tree}
 use Rattle.comp_renames.proofs.Types.{lowered_with}
 use Rattle.comp_inside.specs.Later.{later, pair_later, entry_later, nested_later, space_later, Declares, DeclareAll, Defines, DefineAll, Stays, StaysWhole}
 use Rattle.comp_inside.proofs.Numbers.{got_within, without_later, distinct_later, next_later, numbered_later, lengths_later}

@@ -7,12 +7,12 @@ use Rattle.wasm_ast.specs.declared.component.OuterSort.TheVariants as outer_sort
 use Rattle.wasm_ast.specs.declared.component.Alias.TheVariants as aliases
 use Rattle.wasm_ast.specs.declared.component.TypeAlias.TheVariants as type_aliases
 use Rattle.comp_grammar.specs.Trees.{Part, Tree, CoreModule, Nested, CoreInstances, Instances, Aliases, Types, Canons, Imports, Exports, Custom, End, More}
-use Rattle.comp_rules.specs.Declarations.{Declaration, Declarations, ATypeDef, AnInstanceType, ATypeAlias, ATypeExport, Done, Then}
-use Rattle.comp_rules.specs.Definitions.{Definition, ACoreInstance, AnInstance, AnAlias, AType, ACanon, AnImport, AnExport, definitions}
-use Rattle.comp_rules.specs.Spaces.{Space}
-use Rattle.comp_rules.specs.Added.{opened, entered, after_declaration, after, after_part, root}
-use Rattle.comp_rules.specs.Rules.{if_there, leaves_component, names_none, type_stays, outer_stays}
-use Rattle.comp_rules.specs.Validity.{IsValidDeclaration, AreValidDeclarations, IsValidDefinition, AreValid, IsValidPart, IsValidTree}
+use Rattle.comp_types.specs.Declarations.{Declaration, Declarations, ATypeDef, AnInstanceType, ATypeAlias, ATypeExport, Done, Then}
+use Rattle.comp_types.specs.Definitions.{Definition, ACoreInstance, AnInstance, AnAlias, AType, ACanon, AnImport, AnExport, definitions}
+use Rattle.comp_types.specs.Spaces.{Space}
+use Rattle.comp_types.specs.Added.{opened, entered, after_declaration, after, after_part, root}
+use Rattle.comp_types.specs.Rules.{if_there, leaves_component, names_none, type_stays, outer_stays}
+use Rattle.comp_types.specs.Validity.{IsValidDeclaration, AreValidDeclarations, IsValidDefinition, AreValid, IsValidPart, IsValidTree}
 use Rattle.comp_inside.specs.Later.{Declares, DeclareAll, Defines, DefineAll, Stays, StaysWhole, ValidStay}
 
 type_within : (scopes : List Space) (count i : ℕ) → type_stays scopes count i ≡ true → count < length scopes

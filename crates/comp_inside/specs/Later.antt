@@ -5,11 +5,11 @@ use Rattle.wasm_ast.specs.declared.component.Alias.TheVariants as aliases
 use Rattle.wasm_ast.specs.declared.component.TypeAlias.TheVariants as type_aliases
 use Rattle.comp_types.specs.Substitution.{func_with, item_with, kind_with, entries_with}
 use Rattle.comp_grammar.specs.Trees.{Part, Tree, CoreModule, Nested, End as NoParts, More as Section}
-use Rattle.comp_rules.specs.Declarations.{Declaration, Declarations, ATypeDef, AnInstanceType, ATypeAlias, ATypeExport, Done, Then as Declaring}
-use Rattle.comp_rules.specs.Definitions.{Definition, AnAlias, AType, definitions}
-use Rattle.comp_rules.specs.Spaces.{Space, TypeEntry, NestedComponent, empty_space}
-use Rattle.comp_rules.specs.Added.{after_tree, root}
-use Rattle.comp_rules.specs.Validity.{IsValidComponent}
+use Rattle.comp_types.specs.Declarations.{Declaration, Declarations, ATypeDef, AnInstanceType, ATypeAlias, ATypeExport, Done, Then as Declaring}
+use Rattle.comp_types.specs.Definitions.{Definition, AnAlias, AType, definitions}
+use Rattle.comp_types.specs.Spaces.{Space, TypeEntry, NestedComponent, empty_space}
+use Rattle.comp_types.specs.Added.{after_tree, root}
+use Rattle.comp_types.specs.Validity.{IsValidComponent}
 use Rattle.comp_link.specs.Plans.{Named, AFunc, AnInstanceAt, AResource, AValueType, NamedArg, Plan, Planned, End, Then, OfModule, OfCoreItems, CoreItemOf, OfComponent, OfItems, ItemOf, NewResource, Lifts, Lowers, MakesResource, DropsResource, ReadsResource, Imports, Exports, Scope, no_scope, plan_tree, plan_of}
 
 abbrev pub later : ℕ → ℕ → ℕ

@@ -9,14 +9,14 @@ use Rattle.wasm_ast.specs.declared.component.TypeAlias.{TypeAlias}
 use Rattle.comp_names.specs.Names.{is_legal}
 use Rattle.comp_names.specs.Same.{is_same_name}
 use Rattle.comp_types.specs.Items.{Entries, End, InstanceItem}
-use Rattle.comp_rules.specs.Spaces.{Space, NestedComponent, and_item}
-use Rattle.comp_rules.specs.Declarations.{ATypeAlias}
-use Rattle.comp_rules.specs.Definitions.{AType, AnInstance}
-use Rattle.comp_rules.specs.Added.{after, and_instantiated, named_items}
-use Rattle.comp_rules.specs.Faults.{fault, first_failing}
-use Rattle.comp_rules.specs.Resources.{given_by, numbered, renamed}
-use Rattle.comp_rules.specs.Rules.{all_differ, instance_stands, lengths_of, names_fit_in, MeetsComponent}
-use Rattle.comp_rules.proofs.FaultLaws.{all_hold, least_fails, arguments_fail}
+use Rattle.comp_types.specs.Spaces.{Space, NestedComponent, and_item}
+use Rattle.comp_types.specs.Declarations.{ATypeAlias}
+use Rattle.comp_types.specs.Definitions.{AType, AnInstance}
+use Rattle.comp_types.specs.Added.{after, and_instantiated, named_items}
+use Rattle.comp_types.specs.Faults.{fault, first_failing}
+use Rattle.comp_types.specs.GivenResources.{given_by, numbered, renamed}
+use Rattle.comp_types.specs.Rules.{all_differ, instance_stands, lengths_of, names_fit_in, MeetsComponent}
+use Rattle.comp_types.proofs.FaultLaws.{all_hold, least_fails, arguments_fail}
 use Rattle.comp_scopes.specs.declared.scope.Scope.{Scope}
 use Rattle.comp_scopes.specs.Judged.{Judged}
 use Rattle.comp_scopes.specs.Stands.{Stands}

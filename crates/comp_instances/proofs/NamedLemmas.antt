@@ -3,8 +3,8 @@ use Rattle.std.proofs.Common.{◌≡◌, ◌∙◌, ap, refl, List, [], ◌∷�
 use Rattle.wasm_ast.specs.declared.component.NamedItem.{NamedItem}
 use Rattle.wit_types.specs.Plain.{Name}
 use Rattle.comp_types.specs.Items.{Item, Entries, End}
-use Rattle.comp_rules.specs.Spaces.{Space, item_at}
-use Rattle.comp_rules.specs.Added.{and_named, and_some_entry, named_items}
+use Rattle.comp_types.specs.Spaces.{Space, item_at}
+use Rattle.comp_types.specs.Added.{and_named, and_some_entry, named_items}
 
 end_one : (o : Option Item) (n : Name) → and_named o n End ≡ and_some_entry End n o
 end_one None n = refl

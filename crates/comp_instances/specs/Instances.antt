@@ -1,8 +1,8 @@
 -- The instance that a component makes.
 use Rattle.std.specs.Prelude.{◌≡◌, ◌+◌, ◌++◌, ℕ, Option, Some, None, length}
 use Rattle.comp_types.specs.Items.{Entries, End}
-use Rattle.comp_rules.specs.Spaces.{Space, NestedComponent}
-use Rattle.comp_rules.specs.Resources.{given_by, numbered, renamed}
+use Rattle.comp_types.specs.Spaces.{Space, NestedComponent}
+use Rattle.comp_types.specs.GivenResources.{given_by, numbered, renamed}
 use Rattle.comp_instances.specs.declared.made.Made.{Made}
 
 -- the exports of the component with what the arguments give for the resources of its imports, and its own resources new

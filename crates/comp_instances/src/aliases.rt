@@ -4,12 +4,12 @@ ghost use Rattle.wasm_ast.specs.declared.component.Alias.TheVariants.{Export as 
 ghost use Rattle.wasm_ast.specs.declared.component.TypeAlias.TheVariants.{Export as ATypeExport};
 ghost use Rattle.comp_types.specs.Items.{look_up};
 ghost use Rattle.comp_types.specs.Views.{item_of};
-ghost use Rattle.comp_rules.specs.Added.{and_some_item};
-ghost use Rattle.comp_rules.specs.Declarations.{ATypeAlias};
-ghost use Rattle.comp_rules.specs.Definitions.{AType, AnAlias};
-ghost use Rattle.comp_rules.specs.Faults.{fault};
-ghost use Rattle.comp_rules.specs.Rules.{exports_sort, if_there, is_of_sort, lengths_of};
-ghost use Rattle.comp_rules.specs.Spaces.{Space};
+ghost use Rattle.comp_types.specs.Added.{and_some_item};
+ghost use Rattle.comp_types.specs.Declarations.{ATypeAlias};
+ghost use Rattle.comp_types.specs.Definitions.{AType, AnAlias};
+ghost use Rattle.comp_types.specs.Faults.{fault};
+ghost use Rattle.comp_types.specs.Rules.{exports_sort, if_there, is_of_sort, lengths_of};
+ghost use Rattle.comp_types.specs.Spaces.{Space};
 ghost use Rattle.comp_scopes.specs.Judged.{Judged};
 ghost use Rattle.comp_scopes.specs.Stands.{Stands};
 

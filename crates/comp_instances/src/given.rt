@@ -1,7 +1,7 @@
 ghost use Rattle.std.specs.Prelude.{◌≡◌, OnOk, Some};
 ghost use Rattle.comp_types.specs.Items.{InstanceItem, KindItem, ResourceKind, look_up};
 ghost use Rattle.comp_types.specs.Views.{entries_of, item_of};
-ghost use Rattle.comp_rules.specs.Resources.{given_by, given_for};
+ghost use Rattle.comp_types.specs.GivenResources.{given_by, given_for};
 ghost use Rattle.comp_instances.specs.Given.{and_pairs};
 
 use comp_types::{InstanceEntries, InstanceEntry, InstanceType, ItemType, Substitution, TypeItem};

@@ -1,8 +1,8 @@
 ghost use Rattle.std.specs.Prelude.{◌≡◌, [], IfOk, OnOk, option_map};
 ghost use Rattle.comp_types.specs.Views.{item_of};
-ghost use Rattle.comp_rules.specs.Added.{and_some_entry, named_items};
-ghost use Rattle.comp_rules.specs.Rules.{if_there, name_fits, names_fit_in};
-ghost use Rattle.comp_rules.specs.Spaces.{Space};
+ghost use Rattle.comp_types.specs.Added.{and_some_entry, named_items};
+ghost use Rattle.comp_types.specs.Rules.{if_there, name_fits, names_fit_in};
+ghost use Rattle.comp_types.specs.Spaces.{Space};
 ghost use Rattle.comp_scopes.specs.Stands.{Stands};
 
 use comp_describes::name_fits;

@@ -1,18 +1,17 @@
 ghost use Rattle.std.specs.Prelude.{◌≡◌, List, IfOk, OnOk, true};
 ghost use Rattle.wasm_ast.specs.declared.component.Instance.TheVariants.{Inline};
 ghost use Rattle.comp_types.specs.Items.{InstanceItem};
-ghost use Rattle.comp_rules.specs.Added.{named_items};
-ghost use Rattle.comp_rules.specs.Definitions.{AnInstance};
-ghost use Rattle.comp_rules.specs.Faults.{fault};
-ghost use Rattle.comp_rules.specs.Rules.{instance_stands, lengths_of};
-ghost use Rattle.comp_rules.specs.Spaces.{Space, and_item};
+ghost use Rattle.comp_types.specs.Added.{named_items};
+ghost use Rattle.comp_types.specs.Definitions.{AnInstance};
+ghost use Rattle.comp_types.specs.Faults.{fault};
+ghost use Rattle.comp_types.specs.Rules.{instance_stands, lengths_of};
+ghost use Rattle.comp_types.specs.Spaces.{Space, and_item};
 ghost use Rattle.comp_scopes.specs.Judged.{Judged};
 ghost use Rattle.comp_scopes.specs.Stands.{Stands};
 
 use crate::inline::{named_items, names_fit};
 use crate::instantiate::define_instantiated;
-use comp_indexes::instance_stands;
-use comp_labels::{names_are_legal, names_differ};
+use comp_indexes::{instance_stands, names_are_legal, names_differ};
 use comp_scopes::Scope;
 use comp_types::InstanceType;
 use std::alloc::Global;

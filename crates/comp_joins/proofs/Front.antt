@@ -2,8 +2,8 @@
 use Rattle.std.proofs.Common.{◌≡◌, List, [], ◌∷◌, refl, ◌∙◌, ap}
 use Rattle.std.specs.Prelude.{slice_get}
 use Rattle.comp_grammar.specs.Trees.{Part, Tree, Nested, End as NoParts, More as Section}
-use Rattle.comp_rules.specs.Spaces.{Space}
-use Rattle.comp_rules.specs.Added.{after_part, root}
+use Rattle.comp_types.specs.Spaces.{Space}
+use Rattle.comp_types.specs.Added.{after_part, root}
 use Rattle.comp_link.specs.Plans.{Plan, Planned, End, Then, OfModule, OfCoreItems, CoreItemOf, OfComponent, OfItems, ItemOf, NewResource, Lifts, Lowers, MakesResource, DropsResource, ReadsResource, Imports, Exports, Scope, no_scope, followed, own_numbers, plan_part, plan_tree}
 use Rattle.comp_link.specs.Linking.{find, Making, given_at, item_in, with_component, link_item, link, linked}
 use Rattle.comp_inside.specs.Linked.{unmade}

@@ -11,7 +11,7 @@ use Rattle.wit_types.specs.Plain.{Name, PlainFunc}
 use Rattle.comp_types.specs.Items.{Item, Entries, FuncItem, InstanceItem, KindItem, ResourceKind, ValueKind, FuncKind, InstanceKind, End as NoEntries, More as Entry, same_name}
 use Rattle.comp_types.specs.Substitution.{partner_in}
 use Rattle.comp_grammar.specs.Trees.{Tree}
-use Rattle.comp_rules.specs.Resources.{named_in_func}
+use Rattle.comp_types.specs.GivenResources.{named_in_func}
 use Rattle.comp_worlds.specs.Groups.{Target, Mine, Theirs, Import, Func as Canon, LoweredFunc, ResourceNew, ResourceDrop, ResourceRep, Owner, Begins}
 use Rattle.comp_parts.specs.Parts.{DropsSome}
 use Rattle.comp_link.specs.Plans.{Named, AFunc, AnInstanceAt, AResource, AValueType, NamedArg, Plan, Planned, End, Then, OfModule, OfCoreItems, CoreItemOf, OfComponent, OfItems, ItemOf, NewResource, Lifts, Lowers, MakesResource, DropsResource, ReadsResource, Imports, Exports, plan_of}

@@ -8,8 +8,8 @@ use Rattle.wasm_ast.specs.declared.component.Instance.TheVariants as instances
 use Rattle.wit_types.specs.Plain.{Name, End as NoTypes}
 use Rattle.comp_types.specs.Items.{Item, Entries, FuncItem, InstanceItem, KindItem, ResourceKind, ValueKind, FuncKind, InstanceKind, End as NoEntries, More as Entry}
 use Rattle.comp_grammar.specs.Trees.{Part, Tree, Nested, Instances, End as NoParts, More as Section}
-use Rattle.comp_rules.specs.Spaces.{Space}
-use Rattle.comp_rules.specs.Added.{entered, after_part, after_tree, root}
+use Rattle.comp_types.specs.Spaces.{Space}
+use Rattle.comp_types.specs.Added.{entered, after_part, after_tree, root}
 use Rattle.comp_types.specs.Substitution.{func_with, entries_with}
 use Rattle.comp_worlds.specs.Groups.{Import, Target, Theirs, type_of, Begins, Group}
 use Rattle.comp_parts.specs.Parts.{IsImportOf}

@@ -2,8 +2,8 @@
 
 ghost use Rattle.std.specs.Prelude.{◌≡◌, [], IfOk, Some, map, option_map};
 ghost use Rattle.comp_types.specs.Items.{End, InstanceKind, ValueKind};
-ghost use Rattle.comp_rules.specs.Spaces.{Space, kind_at};
-ghost use Rattle.comp_rules.specs.Types.{cases_of, fields_of, func_of, handle_of, kind_of as kind_due, option_of, resource_in, result_of, unnamed, value_of};
+ghost use Rattle.comp_types.specs.Spaces.{Space, kind_at};
+ghost use Rattle.comp_types.specs.Types.{cases_of, fields_of, func_of, handle_of, kind_of as kind_due, option_of, resource_in, result_of, unnamed, value_of};
 ghost use Rattle.comp_scopes.specs.Stands.{Stands};
 ghost use Rattle.comp_types.specs.Views.{kind_of};
 ghost use Rattle.wit_types.specs.Plain.{AsEnum, AsRecord, AsTuple, AsVariant, BorrowType, FlagsType, ListType, OwnType, RecordType, VariantType, bare};

@@ -1,8 +1,8 @@
 ghost use Rattle.std.specs.Prelude.{◌≡◌, [], IfOk, OnOk, map, option_map};
 ghost use Rattle.comp_facts.specs.Facts.{AreFactsOf, and_part};
 ghost use Rattle.comp_kinds.specs.Parts.{and_case};
-ghost use Rattle.comp_rules.specs.Spaces.{Space};
-ghost use Rattle.comp_rules.specs.Types.{cases_of as cases_due, fields_of as fields_due, unnamed, value_of};
+ghost use Rattle.comp_types.specs.Spaces.{Space};
+ghost use Rattle.comp_types.specs.Types.{cases_of as cases_due, fields_of as fields_due, unnamed, value_of};
 ghost use Rattle.comp_scopes.specs.Stands.{Stands};
 ghost use Rattle.wit_types.specs.Plain.{Name, Parts, cases_of, fields_of, payload_of, plain, types_of};
 

@@ -1,7 +1,7 @@
 ghost use Rattle.std.specs.Prelude.{◌≡◌, IfOk, Some, option_map};
 ghost use Rattle.comp_facts.specs.Primitives.{primitive_type};
-ghost use Rattle.comp_rules.specs.Spaces.{Space};
-ghost use Rattle.comp_rules.specs.Types.{value_in, value_of};
+ghost use Rattle.comp_types.specs.Spaces.{Space};
+ghost use Rattle.comp_types.specs.Types.{value_in, value_of};
 ghost use Rattle.comp_scopes.specs.Stands.{Stands};
 ghost use Rattle.comp_types.specs.Views.{kind_of};
 ghost use Rattle.wit_types.specs.Plain.{plain};

@@ -14,13 +14,13 @@ use Rattle.core_validate.specs.declared.item.ModuleType.{ModuleType}
 use Rattle.wit_types.specs.Plain.{Name}
 use Rattle.comp_types.specs.Items.{Item, Entries, FuncItem, InstanceItem, KindItem, ResourceKind, look_up}
 use Rattle.comp_types.specs.Subtyping.{MeetsImports}
-use Rattle.comp_rules.specs.Declarations.{Declarations, ATypeDef}
-use Rattle.comp_rules.specs.Definitions.{AType}
-use Rattle.comp_rules.specs.Resources.{is_among, named_in, renamed, given_by, numbered}
-use Rattle.comp_rules.specs.Spaces.{Space, TypeEntry, NestedComponent, item_at, and_item, entry_of}
-use Rattle.comp_rules.specs.Added.{brought, described, new_numbers, and_index, and_import, and_export, and_some_entry, and_some_item, and_some_type, and_some_module, and_outer, and_instantiated, and_instance_type, named_items, opened, instance_type, after_declarations, after}
-use Rattle.comp_rules.specs.Rules.{is_new_in}
-use Rattle.comp_rules.specs.Validity.{AreValidDeclarations}
+use Rattle.comp_types.specs.Declarations.{Declarations, ATypeDef}
+use Rattle.comp_types.specs.Definitions.{AType}
+use Rattle.comp_types.specs.GivenResources.{is_among, named_in, renamed, given_by, numbered}
+use Rattle.comp_types.specs.Spaces.{Space, TypeEntry, NestedComponent, item_at, and_item, entry_of}
+use Rattle.comp_types.specs.Added.{brought, described, new_numbers, and_index, and_import, and_export, and_some_entry, and_some_item, and_some_type, and_some_module, and_outer, and_instantiated, and_instance_type, named_items, opened, instance_type, after_declarations, after}
+use Rattle.comp_types.specs.Rules.{is_new_in}
+use Rattle.comp_types.specs.Validity.{AreValidDeclarations}
 use Rattle.comp_inside.specs.Linked.{Each, IsBrought}
 use Rattle.comp_knows.proofs.Names.{each_among, ItemNames, KindNames, AllName}
 use Rattle.comp_knows.proofs.Described.{Wider, IfSome, IsOwn, ComponentNames, KnowsAt, Knows, every_get, described_known, described_shown}

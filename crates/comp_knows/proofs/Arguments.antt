@@ -7,7 +7,7 @@ use Rattle.comp_types.specs.Substitution.{partner_in}
 use Rattle.comp_types.specs.Equality.{IsSameItem, HasEach}
 use Rattle.comp_types.specs.Subtyping.{IsArgument, AreGiven}
 use Rattle.comp_types.proofs.ValueLaws.{name-sound}
-use Rattle.comp_rules.specs.Resources.{given_by, given_for}
+use Rattle.comp_types.specs.GivenResources.{given_by, given_for}
 use Rattle.comp_inside.specs.Linked.{IsBrought}
 use Rattle.comp_exports.proofs.Shapes.{some_same}
 use Rattle.comp_knows.proofs.Shown.{found_at, Shown, none_found, brought_first, brought_second}

@@ -8,10 +8,10 @@ use Rattle.wasm_ast.specs.declared.component.Sort.TheVariants as sorts
 use Rattle.core_instance.specs.declared.external.Extern.{Extern}
 use Rattle.core_instance.specs.declared.external.Extern.TheVariants.{Func, Table, Memory, Global}
 use Rattle.comp_types.specs.Items.{Item, Entries, InstanceItem, KindItem, ResourceKind, End as NoEntries, More}
-use Rattle.comp_rules.specs.Resources.{named_in, named_in_item, numbered}
-use Rattle.comp_rules.specs.Spaces.{Space, kind_at}
-use Rattle.comp_rules.specs.Types.{resource_in}
-use Rattle.comp_rules.specs.Added.{new_numbers}
+use Rattle.comp_types.specs.GivenResources.{named_in, named_in_item, numbered}
+use Rattle.comp_types.specs.Spaces.{Space, kind_at}
+use Rattle.comp_types.specs.Types.{resource_in}
+use Rattle.comp_types.specs.Added.{new_numbers}
 use Rattle.comp_worlds.specs.Groups.{Target}
 use Rattle.comp_link.specs.Plans.{Plan, End, Then, followed, resource_or_type, named_by, named_args}
 use Rattle.comp_link.specs.Linking.{Given, Givens, GivenFunc, GivenInstance, GivenResource, GivenType, find, bound, all_bound, Making, and_core_item, and_item, with_lowered, own_bound, link_item, link}

@@ -11,14 +11,14 @@ use Rattle.wasm_ast.specs.declared.component.TypeDef.{TypeDef}
 use Rattle.wasm_ast.specs.declared.component.TypeDef.TheVariants as defs
 use Rattle.wit_types.specs.Plain.{Name}
 use Rattle.comp_types.specs.Items.{Item, Entries, FuncItem, InstanceItem, KindItem, ResourceKind, InstanceKind, look_up, and_entry}
-use Rattle.comp_rules.specs.Declarations.{Declaration, Declarations, ATypeDef, AnInstanceType, ATypeAlias, ATypeExport, Done, Then}
-use Rattle.comp_rules.specs.Resources.{is_among, numbered}
-use Rattle.comp_rules.specs.Spaces.{Space, TypeEntry, core_func_at, kind_at, and_item, and_type, entry_of}
-use Rattle.comp_rules.specs.Types.{instance_in, kind_of}
-use Rattle.comp_rules.specs.Added.{brought, described, kind_item, new_numbers, and_index, and_some_item, and_some_type, and_outer, and_type_export, opened, instance_type, after_declaration, after_declarations}
-use Rattle.comp_rules.specs.Rules.{is_new_in, if_there, is_destructor, resources_are_sound}
-use Rattle.comp_rules.specs.Definitions.{AType}
-use Rattle.comp_rules.specs.Validity.{IsValidDeclaration, AreValidDeclarations}
+use Rattle.comp_types.specs.Declarations.{Declaration, Declarations, ATypeDef, AnInstanceType, ATypeAlias, ATypeExport, Done, Then}
+use Rattle.comp_types.specs.GivenResources.{is_among, numbered}
+use Rattle.comp_types.specs.Spaces.{Space, TypeEntry, core_func_at, kind_at, and_item, and_type, entry_of}
+use Rattle.comp_types.specs.Types.{instance_in, kind_of}
+use Rattle.comp_types.specs.Added.{brought, described, kind_item, new_numbers, and_index, and_some_item, and_some_type, and_outer, and_type_export, opened, instance_type, after_declaration, after_declarations}
+use Rattle.comp_types.specs.Rules.{is_new_in, if_there, is_destructor, resources_are_sound}
+use Rattle.comp_types.specs.Definitions.{AType}
+use Rattle.comp_types.specs.Validity.{IsValidDeclaration, AreValidDeclarations}
 use Rattle.comp_inside.specs.Linked.{Each}
 use Rattle.comp_exports.proofs.Kept.{found_before, found_new}
 use Rattle.comp_knows.proofs.Shown.{found_at, Shown, none_found}

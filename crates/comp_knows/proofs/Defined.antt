@@ -13,9 +13,9 @@ use Rattle.wasm_ast.specs.declared.component.TypeDef.TheVariants as defs
 use Rattle.wit_types.specs.Plain.{Plain, Parts, OwnType, BorrowType, End, bare, case_part}
 use Rattle.comp_facts.specs.Primitives.{primitive_type}
 use Rattle.comp_types.specs.Items.{Kind, ResourceKind, ValueKind, FuncKind, InstanceKind}
-use Rattle.comp_rules.specs.Resources.{named_in_value, named_in_parts, named_in_answer}
-use Rattle.comp_rules.specs.Spaces.{Space, kind_at}
-use Rattle.comp_rules.specs.Types.{value_in, resource_in, value_of, fields_of, cases_of, unnamed, handle_of, option_of, result_of, kind_of}
+use Rattle.comp_types.specs.GivenResources.{named_in_value, named_in_parts, named_in_answer}
+use Rattle.comp_types.specs.Spaces.{Space, kind_at}
+use Rattle.comp_types.specs.Types.{value_in, resource_in, value_of, fields_of, cases_of, unnamed, handle_of, option_of, result_of, kind_of}
 use Rattle.comp_inside.specs.Linked.{Each}
 use Rattle.comp_knows.proofs.Names.{each_both, KindNames}
 use Rattle.comp_knows.proofs.Described.{IfSome, Knows, kind_known}

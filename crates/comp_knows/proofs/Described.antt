@@ -9,10 +9,10 @@ use Rattle.wasm_ast.specs.declared.component.ExternDesc.TheVariants as descs
 use Rattle.wit_types.specs.Plain.{Plain, Parts, PlainFunc, BoolType, SignedType, UnsignedType, CharType, StringType, ListType, RecordType, VariantType, FlagsType, OwnType, BorrowType, End as NoParts, More as Part, Bare}
 use Rattle.comp_types.specs.Items.{Item, Kind, Entries, FuncItem, InstanceItem, KindItem, ResourceKind, ValueKind, FuncKind, InstanceKind, End, More}
 use Rattle.comp_types.specs.Substitution.{partner_in, value_with, parts_with, answer_with, func_with, item_with, kind_with, entries_with}
-use Rattle.comp_rules.specs.Resources.{is_among, named_in_func, named_in_item, named_in, numbered}
-use Rattle.comp_rules.specs.Spaces.{Space, TypeEntry, NestedComponent, kind_at}
-use Rattle.comp_rules.specs.Types.{func_in, instance_in}
-use Rattle.comp_rules.specs.Added.{brought, described, kind_item, new_numbers}
+use Rattle.comp_types.specs.GivenResources.{is_among, named_in_func, named_in_item, named_in, numbered}
+use Rattle.comp_types.specs.Spaces.{Space, TypeEntry, NestedComponent, kind_at}
+use Rattle.comp_types.specs.Types.{func_in, instance_in}
+use Rattle.comp_types.specs.Added.{brought, described, kind_item, new_numbers}
 use Rattle.comp_inside.specs.Linked.{Each}
 use Rattle.comp_knows.proofs.Shown.{Shown, shown_with}
 use Rattle.comp_knows.proofs.Names.{each_then, OwnOr, Apart, ItemNames, KindNames, AllName, Spares, item_named, all_named, item_renamed, all_renamed, numbered_apart, numbered_each}

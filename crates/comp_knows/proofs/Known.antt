@@ -28,15 +28,15 @@ use Rattle.core_validate.specs.declared.item.CoreItem.TheVariants as core_items
 use Rattle.wit_types.specs.Plain.{Name}
 use Rattle.comp_types.specs.Items.{Item, Entries, FuncItem, InstanceItem, look_up}
 use Rattle.comp_grammar.specs.Trees.{Part, Tree, CoreModule, Nested, CoreInstances, Instances, Aliases, Types, Canons, Imports as ImportsPart, Exports as ExportsPart, Custom, End as NoParts, More as Section}
-use Rattle.comp_rules.specs.Declarations.{Declaration, ATypeDef, AnInstanceType, ATypeAlias, ATypeExport, grouped}
-use Rattle.comp_rules.specs.Definitions.{Definition, ACoreInstance, AnInstance, AnAlias, AType, ACanon, AnImport, AnExport, definitions}
-use Rattle.comp_rules.specs.Resources.{named_in, numbered}
-use Rattle.comp_rules.specs.Spaces.{Space, NestedComponent, kind_at, item_at, and_item, entry_of}
-use Rattle.comp_rules.specs.Types.{func_in, resource_in, kind_of}
-use Rattle.comp_rules.specs.CoreMatching.{core_look_up}
-use Rattle.comp_rules.specs.Added.{brought, described, new_numbers, and_import, and_export, and_instantiated, and_instance, and_some_item, and_some_core_item, and_outer, named_items, after, after_all, after_part, after_tree, lowered_at, and_nested, entered, nested_of, root}
-use Rattle.comp_rules.specs.Rules.{lengths_of, item_stands, desc_stands, if_there, outer_stays, IsStated, IsStatedIfAny, MeetsComponent}
-use Rattle.comp_rules.specs.Validity.{IsValidDefinition, AllHold, AreValid, IsValidPart, IsValidTree}
+use Rattle.comp_types.specs.Declarations.{Declaration, ATypeDef, AnInstanceType, ATypeAlias, ATypeExport, grouped}
+use Rattle.comp_types.specs.Definitions.{Definition, ACoreInstance, AnInstance, AnAlias, AType, ACanon, AnImport, AnExport, definitions}
+use Rattle.comp_types.specs.GivenResources.{named_in, numbered}
+use Rattle.comp_types.specs.Spaces.{Space, NestedComponent, kind_at, item_at, and_item, entry_of}
+use Rattle.comp_types.specs.Types.{func_in, resource_in, kind_of}
+use Rattle.comp_types.specs.CoreMatching.{core_look_up}
+use Rattle.comp_types.specs.Added.{brought, described, new_numbers, and_import, and_export, and_instantiated, and_instance, and_some_item, and_some_core_item, and_outer, named_items, after, after_all, after_part, after_tree, lowered_at, and_nested, entered, nested_of, root}
+use Rattle.comp_types.specs.Rules.{lengths_of, item_stands, desc_stands, if_there, outer_stays, IsStated, IsStatedIfAny, MeetsComponent}
+use Rattle.comp_types.specs.Validity.{IsValidDefinition, AllHold, AreValid, IsValidPart, IsValidTree}
 use Rattle.comp_worlds.specs.Groups.{Begins}
 use Rattle.comp_link.specs.Plans.{Plan, OfModule, OfComponent, MakesResource, DropsResource, ReadsResource, Imports, Exports, Scope, no_scope, if_some, just, named_by, named_args, of_core_instance, own_numbers, of_instance, of_alias, of_canon, planned_by, scope_after, plan_all, plan_part, plan_tree}
 use Rattle.comp_link.specs.Linking.{Given, Givens, bound, bound_if, Whole, Making, begun, and_stage, core_find, givens_of, item_in, and_item as and_made, and_export as and_out, link, all_outside}

@@ -5,8 +5,8 @@ use Rattle.std.proofs.lemmas.Bool.{false≢true, eqb-true, eqb-false}
 use Rattle.wit_types.specs.Plain.{Plain, Parts, PlainFunc, BoolType, SignedType, UnsignedType, CharType, StringType, ListType, RecordType, VariantType, FlagsType, OwnType, BorrowType, End as NoParts, More as Part, Bare}
 use Rattle.comp_types.specs.Items.{Item, Kind, Entries, FuncItem, InstanceItem, KindItem, ResourceKind, ValueKind, FuncKind, InstanceKind, End, More}
 use Rattle.comp_types.specs.Substitution.{partner_in, value_with, parts_with, answer_with, func_with, item_with, kind_with, entries_with}
-use Rattle.comp_rules.specs.Resources.{is_among, without, named_in_value, named_in_parts, named_in_answer, named_in_func, named_in_item, named_in_kind, named_in, numbered}
-use Rattle.comp_rules.specs.Added.{new_numbers}
+use Rattle.comp_types.specs.GivenResources.{is_among, without, named_in_value, named_in_parts, named_in_answer, named_in_func, named_in_item, named_in_kind, named_in, numbered}
+use Rattle.comp_types.specs.Added.{new_numbers}
 use Rattle.comp_inside.specs.Linked.{Each}
 use Rattle.comp_knows.proofs.Shown.{Shown, shown_with}
 

@@ -4,9 +4,9 @@ use Rattle.std.specs.List.{filter}
 use Rattle.std.proofs.lemmas.Bool.{false≢true, eqb-true, eqb-false}
 use Rattle.wit_types.specs.Plain.{Name}
 use Rattle.comp_types.specs.Items.{Item, Entries, FuncItem, InstanceItem, KindItem, ResourceKind, ValueKind, FuncKind, InstanceKind, End, More, same_name, look_up}
-use Rattle.comp_rules.specs.Resources.{is_among, distinct, named_in, named_in_item, given_by, given_for}
-use Rattle.comp_rules.specs.Spaces.{Space, NestedComponent}
-use Rattle.comp_rules.specs.Added.{nested_of}
+use Rattle.comp_types.specs.GivenResources.{is_among, distinct, named_in, named_in_item, given_by, given_for}
+use Rattle.comp_types.specs.Spaces.{Space, NestedComponent}
+use Rattle.comp_types.specs.Added.{nested_of}
 use Rattle.comp_inside.specs.Linked.{Each, IsBrought}
 use Rattle.comp_exports.proofs.Shapes.{some_same}
 use Rattle.comp_knows.proofs.Shown.{found_at, Shown, none_found}

@@ -4,9 +4,9 @@ use Rattle.std.proofs.Common.{◌≡◌, ◌⊎◌, inl, inr, ℕ, zero, suc, �
 use Rattle.std.specs.Prelude.{slice_get, nat_lt}
 use Rattle.std.proofs.lemmas.Bool.{false≢true, and_parts}
 use Rattle.comp_types.specs.Items.{InstanceItem, KindItem}
-use Rattle.comp_rules.specs.Resources.{named_in, named_in_kind}
-use Rattle.comp_rules.specs.Spaces.{Space, TypeEntry, NestedComponent}
-use Rattle.comp_rules.specs.Rules.{if_there, is_filled, leaves_component, names_none, type_stays}
+use Rattle.comp_types.specs.GivenResources.{named_in, named_in_kind}
+use Rattle.comp_types.specs.Spaces.{Space, TypeEntry, NestedComponent}
+use Rattle.comp_types.specs.Rules.{if_there, is_filled, leaves_component, names_none, type_stays}
 use Rattle.comp_inside.specs.Linked.{Each}
 use Rattle.comp_knows.proofs.Names.{each_then, Apart, KindNames}
 use Rattle.comp_knows.proofs.Described.{Every, every_then, every_get, IfSome, Wider, item_wider, item_carried, Brings, IsOwn, ComponentNames, component_wider, Knows}

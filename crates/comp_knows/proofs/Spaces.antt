@@ -9,9 +9,9 @@ use Rattle.wit_types.specs.Plain.{Name, PlainFunc}
 use Rattle.comp_types.specs.Items.{Item, Kind, Entries, FuncItem, InstanceItem, KindItem, End, More, and_entry}
 use Rattle.comp_types.specs.Substitution.{partner_in}
 use Rattle.comp_types.specs.Subtyping.{AreGiven}
-use Rattle.comp_rules.specs.Resources.{is_among, named_in, named_in_func, renamed, given_by, numbered}
-use Rattle.comp_rules.specs.Spaces.{Space, TypeEntry, NestedComponent, kind_at, item_at, and_type, entry_of, and_item}
-use Rattle.comp_rules.specs.Added.{and_named, named_items, and_some_item, and_some_type, and_component, and_some_component, new_numbers}
+use Rattle.comp_types.specs.GivenResources.{is_among, named_in, named_in_func, renamed, given_by, numbered}
+use Rattle.comp_types.specs.Spaces.{Space, TypeEntry, NestedComponent, kind_at, item_at, and_type, entry_of, and_item}
+use Rattle.comp_types.specs.Added.{and_named, named_items, and_some_item, and_some_type, and_component, and_some_component, new_numbers}
 use Rattle.comp_inside.specs.Linked.{Each, IsBrought}
 use Rattle.comp_knows.proofs.Names.{each_then, ItemNames, KindNames, AllName, Spares, all_renamed, numbered_apart}
 use Rattle.comp_knows.proofs.Described.{Wider, item_wider, every_and, every_then, every_get, IfSome, Brings, ComponentNames, component_wider, KnowsAt, Knows, kind_known, new_each}

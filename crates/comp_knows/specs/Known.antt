@@ -1,8 +1,8 @@
 -- What a plan names is known whatever the numbers of resources become, where its own stay in order. (This project's own.)
 use Rattle.std.specs.Prelude.{◌≡◌, ℕ, ◌+◌, ◌≤◌, ◌<◌, List, true}
 use Rattle.comp_grammar.specs.Trees.{Tree}
-use Rattle.comp_rules.specs.Spaces.{Space, empty_space}
-use Rattle.comp_rules.specs.Validity.{IsValidComponent}
+use Rattle.comp_types.specs.Spaces.{Space, empty_space}
+use Rattle.comp_types.specs.Validity.{IsValidComponent}
 use Rattle.comp_link.specs.Plans.{Plan, Scope, no_scope, plan_tree, plan_of}
 use Rattle.comp_link.specs.Linking.{Making, link, linked}
 use Rattle.comp_exports.specs.Sections.{DefinesTypes}

@@ -3,13 +3,13 @@ use Rattle.std.proofs.Common.{◌≡◌, ap, sym, List, ℕ, Some, None, slice_g
 use Rattle.std.specs.Option.{option_and_then}
 use mathlib.Core.Path.{fun_ext}
 use Rattle.wasm_ast.specs.declared.component.Canon.{Canon}
-use Rattle.comp_rules.specs.Spaces.{Space, core_type_of, core_func_at}
-use Rattle.comp_rules.specs.Definitions.{ACanon}
-use Rattle.comp_rules.specs.Added.{after}
-use Rattle.comp_rules.specs.Faults.{fault}
-use Rattle.comp_rules.proofs.FaultLaws.{all_hold, least_fails}
-use Rattle.comp_cores.specs.declared.scope.CoreScope.{CoreScope}
-use Rattle.comp_cores.specs.Scopes.{IsCoreOf, func_in}
+use Rattle.comp_types.specs.Spaces.{Space, core_type_of, core_func_at}
+use Rattle.comp_types.specs.Definitions.{ACanon}
+use Rattle.comp_types.specs.Added.{after}
+use Rattle.comp_types.specs.Faults.{fault}
+use Rattle.comp_types.proofs.FaultLaws.{all_hold, least_fails}
+use Rattle.comp_scopes.specs.declared.core_scope.CoreScope.{CoreScope}
+use Rattle.comp_scopes.specs.Scopes.{IsCoreOf, func_in}
 use Rattle.comp_scopes.specs.declared.scope.Scope.{Scope}
 use Rattle.comp_scopes.specs.Judged.{Judged}
 use Rattle.comp_scopes.specs.Stands.{Stands}

@@ -1,6 +1,6 @@
 ghost use Rattle.std.specs.Prelude.{List, IfOk};
-ghost use Rattle.comp_rules.specs.Definitions.{ACanon};
-ghost use Rattle.comp_rules.specs.Spaces.{Space};
+ghost use Rattle.comp_types.specs.Definitions.{ACanon};
+ghost use Rattle.comp_types.specs.Spaces.{Space};
 ghost use Rattle.comp_scopes.specs.Judged.{Judged};
 ghost use Rattle.comp_scopes.specs.Stands.{Stands};
 

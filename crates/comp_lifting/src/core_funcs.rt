@@ -1,7 +1,7 @@
 ghost use Rattle.std.specs.Prelude.{ℕ};
 
 use comp_canons::CoreFuncs;
-use comp_cores::CoreScope;
+use comp_scopes::CoreScope;
 use wasm_ast::CoreFunc;
 
 /// The types of a scope's core functions.
@@ -10,7 +10,7 @@ pub struct CoreOf<'a>(pub &'a CoreScope);
 
 impl CoreFuncs for CoreOf<'_> {
     ghost use Rattle.std.specs.Prelude.{ℕ};
-    ghost use Rattle.comp_cores.specs.Scopes.{func_in as core_func_in};
+    ghost use Rattle.comp_scopes.specs.Scopes.{func_in as core_func_in};
 
     ghost at = { λ c i. core_func_in c.0.now i };
 

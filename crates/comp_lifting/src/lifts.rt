@@ -1,10 +1,10 @@
 ghost use Rattle.std.specs.Prelude.{◌≡◌, List, IfOk, true};
 ghost use Rattle.wasm_ast.specs.declared.component.Canon.TheVariants.{Lift};
-ghost use Rattle.comp_rules.specs.Definitions.{ACanon};
-ghost use Rattle.comp_rules.specs.Faults.{fault};
-ghost use Rattle.comp_rules.specs.Rules.{canon_stands, if_there, is_lifted_from, lengths_of, lift_options};
-ghost use Rattle.comp_rules.specs.Spaces.{Space, core_func_at, kind_at};
-ghost use Rattle.comp_rules.specs.Types.{func_in};
+ghost use Rattle.comp_types.specs.Definitions.{ACanon};
+ghost use Rattle.comp_types.specs.Faults.{fault};
+ghost use Rattle.comp_types.specs.Rules.{canon_stands, if_there, is_lifted_from, lengths_of, lift_options};
+ghost use Rattle.comp_types.specs.Spaces.{Space, core_func_at, kind_at};
+ghost use Rattle.comp_types.specs.Types.{func_in};
 ghost use Rattle.comp_types.specs.Views.{kind_of};
 ghost use Rattle.comp_scopes.specs.Judged.{Judged};
 ghost use Rattle.comp_scopes.specs.Stands.{Stands};

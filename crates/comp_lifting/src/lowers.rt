@@ -1,10 +1,10 @@
 ghost use Rattle.std.specs.Prelude.{◌≡◌, List, IfOk, slice_get, true};
 ghost use Rattle.wasm_ast.specs.declared.component.Canon.TheVariants.{Lower};
-ghost use Rattle.comp_rules.specs.Added.{lowered_at};
-ghost use Rattle.comp_rules.specs.Definitions.{ACanon};
-ghost use Rattle.comp_rules.specs.Faults.{fault};
-ghost use Rattle.comp_rules.specs.Rules.{canon_stands, if_there, lengths_of, lower_options};
-ghost use Rattle.comp_rules.specs.Spaces.{Space, core_func_at};
+ghost use Rattle.comp_types.specs.Added.{lowered_at};
+ghost use Rattle.comp_types.specs.Definitions.{ACanon};
+ghost use Rattle.comp_types.specs.Faults.{fault};
+ghost use Rattle.comp_types.specs.Rules.{canon_stands, if_there, lengths_of, lower_options};
+ghost use Rattle.comp_types.specs.Spaces.{Space, core_func_at};
 ghost use Rattle.comp_scopes.specs.Judged.{Judged};
 ghost use Rattle.comp_scopes.specs.Stands.{Stands};
 

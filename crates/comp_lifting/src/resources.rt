@@ -1,9 +1,9 @@
 ghost use Rattle.std.specs.Prelude.{◌≡◌, List, IfOk, true};
 ghost use Rattle.wasm_ast.specs.declared.component.Canon.TheVariants.{ResourceDrop, ResourceNew, ResourceRep};
-ghost use Rattle.comp_rules.specs.Definitions.{ACanon};
-ghost use Rattle.comp_rules.specs.Faults.{fault};
-ghost use Rattle.comp_rules.specs.Rules.{canon_stands, if_there, is_defined_here, is_resource, lengths_of};
-ghost use Rattle.comp_rules.specs.Spaces.{Space, kind_at};
+ghost use Rattle.comp_types.specs.Definitions.{ACanon};
+ghost use Rattle.comp_types.specs.Faults.{fault};
+ghost use Rattle.comp_types.specs.Rules.{canon_stands, if_there, is_defined_here, is_resource, lengths_of};
+ghost use Rattle.comp_types.specs.Spaces.{Space, kind_at};
 ghost use Rattle.comp_types.specs.Views.{kind_of};
 ghost use Rattle.comp_scopes.specs.Judged.{Judged};
 ghost use Rattle.comp_scopes.specs.Stands.{Stands};

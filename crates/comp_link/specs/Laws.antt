@@ -2,7 +2,7 @@
 use Rattle.std.specs.Prelude.{◌≡◌, ℕ, nat_lt, List, [], Bool, true}
 use Rattle.host_port.specs.Hosts.{HostStep}
 use Rattle.comp_grammar.specs.Trees.{Tree}
-use Rattle.comp_rules.specs.Added.{after_tree, root}
+use Rattle.comp_types.specs.Added.{after_tree, root}
 use Rattle.comp_worlds.specs.Groups.{Group}
 use Rattle.comp_worlds.specs.Observed.{State, Call, seen, SameObservations}
 use Rattle.comp_worlds.specs.Related.{OwnsNone, Opens}

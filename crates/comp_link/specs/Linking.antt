@@ -25,7 +25,7 @@ use Rattle.comp_types.specs.Items.{Item, Entries, FuncItem, InstanceItem, KindIt
 use Rattle.comp_types.specs.Substitution.{partner_in, func_with}
 use Rattle.host_port.specs.declared.call.Resource.{Resource}
 use Rattle.comp_grammar.specs.Trees.{Tree}
-use Rattle.comp_rules.specs.Added.{takes_and_gives, takes_one, after_tree, root}
+use Rattle.comp_types.specs.Added.{takes_and_gives, takes_one, after_tree, root}
 use Rattle.comp_worlds.specs.Groups.{Options, Lifting, Target, Mine, Theirs, Func as Canon, LoweredFunc, ResourceNew, ResourceDrop, ResourceRep, Owner, Stage, Provides, Makes, Begins, Group}
 use Rattle.comp_link.specs.Plans.{Named, AFunc, AnInstanceAt, AResource, AValueType, NamedArg, Plan, Planned, End, Then, OfModule, OfCoreItems, CoreItemOf, OfComponent, OfItems, ItemOf, NewResource, Lifts, Lowers, MakesResource, DropsResource, ReadsResource, Imports, Exports, plan_of}
 

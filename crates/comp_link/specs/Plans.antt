@@ -27,12 +27,12 @@ use Rattle.wasm_ast.specs.declared.component.CanonOption.{CanonOption}
 use Rattle.wit_types.specs.Plain.{Name, PlainFunc}
 use Rattle.comp_types.specs.Items.{Item}
 use Rattle.comp_grammar.specs.Trees.{Part, Tree, CoreModule, Nested, End as NoParts, More as Section}
-use Rattle.comp_rules.specs.Declarations.{Declaration, ATypeDef}
-use Rattle.comp_rules.specs.Definitions.{Definition, ACoreInstance, AnInstance, AnAlias, AType, ACanon, AnImport, AnExport, definitions}
-use Rattle.comp_rules.specs.Spaces.{Space, NestedComponent, kind_at}
-use Rattle.comp_rules.specs.Resources.{numbered}
-use Rattle.comp_rules.specs.Types.{func_in, resource_in}
-use Rattle.comp_rules.specs.Added.{entered, described, lowered_at, after, after_part, root}
+use Rattle.comp_types.specs.Declarations.{Declaration, ATypeDef}
+use Rattle.comp_types.specs.Definitions.{Definition, ACoreInstance, AnInstance, AnAlias, AType, ACanon, AnImport, AnExport, definitions}
+use Rattle.comp_types.specs.Spaces.{Space, NestedComponent, kind_at}
+use Rattle.comp_types.specs.GivenResources.{numbered}
+use Rattle.comp_types.specs.Types.{func_in, resource_in}
+use Rattle.comp_types.specs.Added.{entered, described, lowered_at, after, after_part, root}
 
 -- what an argument or an export names: a function or an instance by its index, a resource by its number, or another type
 pub data Named : Type 0 where

@@ -3,7 +3,7 @@ use Rattle.std.proofs.Common.{◌≡◌, ◌∙◌, ap, sym, subst, List, [], �
 use Rattle.std.proofs.lemmas.List.{append_assoc}
 use Rattle.wasm_ast.specs.Boxed.{Held}
 use Rattle.wasm_ast.specs.declared.module.Module.{Module}
-use Rattle.comp_rules.specs.Spaces.{NestedComponent}
+use Rattle.comp_types.specs.Spaces.{NestedComponent}
 use Rattle.comp_link.specs.Plans.{Plan, Scope, followed}
 use Rattle.comp_plans.specs.declared.items.PlanItem.{PlanItem}
 use Rattle.comp_plans.specs.Planned.{PlannedComponent, plan_items}

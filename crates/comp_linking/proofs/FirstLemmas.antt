@@ -3,8 +3,8 @@ use Rattle.std.proofs.Common.{◌≡◌, ◌∙◌, ◌+◌, ◌-◌, ◌<◌, a
 use Rattle.wasm_ast.specs.declared.component.TypeDef.TheVariants as defs
 use Rattle.wasm_ast.specs.declared.component.TypeItem.{TypeItem}
 use Rattle.wasm_ast.specs.declared.component.TypeItem.TheVariants as items
-use Rattle.comp_rules.specs.Declarations.{Declaration, Declarations, ATypeDef, AnInstanceType, ATypeAlias, ATypeExport, Done, Then, first_of, behind, grouped}
-use Rattle.comp_rules.specs.Spaces.{Space}
+use Rattle.comp_types.specs.Declarations.{Declaration, Declarations, ATypeDef, AnInstanceType, ATypeAlias, ATypeExport, Done, Then, first_of, behind, grouped}
+use Rattle.comp_types.specs.Spaces.{Space}
 use Rattle.comp_link.specs.Plans.{of_type}
 use Rattle.comp_linking.specs.Firsts.{declared_by, taken, of_item}
 

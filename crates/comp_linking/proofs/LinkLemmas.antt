@@ -5,8 +5,8 @@ use Rattle.wasm_ast.specs.Boxed.{Held}
 use Rattle.wasm_ast.specs.declared.module.Module.{Module}
 use Rattle.comp_grammar.specs.Trees.{Tree}
 use Rattle.comp_types.specs.Items.{Entries}
-use Rattle.comp_rules.specs.Added.{after_tree, root}
-use Rattle.comp_rules.specs.Validity.{IsValidComponent}
+use Rattle.comp_types.specs.Added.{after_tree, root}
+use Rattle.comp_types.specs.Validity.{IsValidComponent}
 use Rattle.comp_worlds.specs.Groups.{Group}
 use Rattle.comp_link.specs.Linking.{Making, begun, link, all_known, behind_known, all_outside, known_in, canon_in, owner_in, target_in, resource_of, exported, group_of}
 use Rattle.comp_link.specs.Plans.{Plan, plan_of}

@@ -4,8 +4,8 @@ use Rattle.std.specs.Prelude.{option_map, option_to_list}
 use Rattle.std.proofs.lemmas.List.{append-nil, map-append}
 use Rattle.wasm_ast.specs.declared.module.Module.{Module}
 use Rattle.wasm_ast.specs.declared.component.OuterSort.TheVariants as outer_sorts
-use Rattle.comp_rules.specs.Spaces.{Space, NestedComponent}
-use Rattle.comp_rules.specs.Added.{and_outer, and_some_component, and_some_module, and_some_type}
+use Rattle.comp_types.specs.Spaces.{Space, NestedComponent}
+use Rattle.comp_types.specs.Added.{and_outer, and_some_component, and_some_module, and_some_type}
 use Rattle.comp_link.specs.Plans.{Plan, Scope, and_module, and_plan}
 
 map_option : {A B : Type 0} (f : A → B) (o : Option A) → map f (option_to_list o) ≡ option_to_list (option_map f o)

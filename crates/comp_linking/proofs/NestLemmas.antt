@@ -4,8 +4,8 @@ use Rattle.std.specs.Prelude.{option_map}
 use Rattle.std.proofs.lemmas.List.{append_assoc, append-nil, length-append}
 use Rattle.wasm_ast.specs.Boxed.{Held}
 use Rattle.wasm_ast.specs.declared.module.Module.{Module}
-use Rattle.comp_rules.specs.Spaces.{Space, NestedComponent}
-use Rattle.comp_rules.specs.Added.{nested_of}
+use Rattle.comp_types.specs.Spaces.{Space, NestedComponent}
+use Rattle.comp_types.specs.Added.{nested_of}
 use Rattle.comp_around.proofs.AroundLemmas.{rev_push}
 use Rattle.comp_link.specs.Plans.{Plan, End, no_scope, and_plan}
 use Rattle.comp_plans.specs.declared.linked.ComponentPlan.{ComponentPlan}

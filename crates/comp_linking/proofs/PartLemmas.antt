@@ -9,12 +9,12 @@ use Rattle.wasm_ast.specs.declared.module.Module.{Module}
 use Rattle.wasm_ast.specs.declared.component.Span.{Span}
 use Rattle.wasm_ast.specs.declared.component.TypeItem.{TypeItem}
 use Rattle.comp_grammar.specs.Trees.{CoreModule, Types, End as NoParts, More as Section}
-use Rattle.comp_rules.specs.Declarations.{grouped}
-use Rattle.comp_rules.specs.Definitions.{types_in}
-use Rattle.comp_rules.specs.Spaces.{Space, NestedComponent}
-use Rattle.comp_rules.specs.Added.{after_part, after_all}
-use Rattle.comp_rules.specs.Validity.{AreValid}
-use Rattle.comp_rules.proofs.VerdictLaws.{sound_tree}
+use Rattle.comp_types.specs.Declarations.{grouped}
+use Rattle.comp_types.specs.Definitions.{types_in}
+use Rattle.comp_types.specs.Spaces.{Space, NestedComponent}
+use Rattle.comp_types.specs.Added.{after_part, after_all}
+use Rattle.comp_types.specs.Validity.{AreValid}
+use Rattle.comp_types.proofs.VerdictLaws.{sound_tree}
 use Rattle.comp_around.specs.declared.scopes.Scopes.{Scopes}
 use Rattle.comp_around.specs.Around.{StandAll}
 use Rattle.comp_around.specs.Judged.{JudgedEach}

@@ -5,9 +5,9 @@ use Rattle.wasm_ast.specs.Boxed.{Held}
 use Rattle.wasm_ast.specs.declared.module.Module.{Module}
 use Rattle.wasm_ast.specs.declared.component.Section.{Section as PlainSection}
 use Rattle.comp_grammar.specs.Trees.{Part, Tree, End as NoParts, More as Section, plain_section, plain_sections}
-use Rattle.comp_rules.specs.Spaces.{Space}
-use Rattle.comp_rules.specs.Definitions.{Definition}
-use Rattle.comp_rules.specs.Validity.{AreValid, IsValidTree}
+use Rattle.comp_types.specs.Spaces.{Space}
+use Rattle.comp_types.specs.Definitions.{Definition}
+use Rattle.comp_types.specs.Validity.{AreValid, IsValidTree}
 use Rattle.comp_drafts.specs.Modules.{modules_in, modules_in_part}
 use Rattle.comp_linking.specs.declared.planner.Planner.{Planner}
 use Rattle.comp_linking.specs.Walks.{At, spaces, at_after, at_all, at_part, at_tree, Walks}

@@ -16,10 +16,10 @@ use Rattle.wasm_ast.specs.declared.component.ExternDesc.TheVariants as descs
 use Rattle.core_validate.specs.declared.item.CoreItem.{CoreItem}
 use Rattle.core_validate.specs.declared.item.CoreItem.TheVariants as core_items
 use Rattle.comp_types.specs.Items.{Item, Entries, FuncItem, InstanceItem, KindItem, look_up}
-use Rattle.comp_rules.specs.Spaces.{Space, TypeEntry, NestedComponent, and_item, item_at}
-use Rattle.comp_rules.specs.CoreMatching.{core_look_up}
-use Rattle.comp_rules.specs.Definitions.{AnInstance, AnAlias, ACanon, AnImport, AnExport}
-use Rattle.comp_rules.specs.Added.{after, and_some_item, and_some_core_item, and_some_type, and_index, and_instantiated, and_again, and_export_index, named_items}
+use Rattle.comp_types.specs.Spaces.{Space, TypeEntry, NestedComponent, and_item, item_at}
+use Rattle.comp_types.specs.CoreMatching.{core_look_up}
+use Rattle.comp_types.specs.Definitions.{AnInstance, AnAlias, ACanon, AnImport, AnExport}
+use Rattle.comp_types.specs.Added.{after, and_some_item, and_some_core_item, and_some_type, and_index, and_instantiated, and_again, and_export_index, named_items}
 
 item_stays : (s : Space) (i : Item) → (and_item s i).components ≡ s.components
 item_stays s (FuncItem ty) = refl

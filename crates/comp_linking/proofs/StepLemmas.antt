@@ -2,10 +2,10 @@
 use Rattle.std.proofs.Common.{◌≡◌, sym, subst, ℕ, List, ◌++◌, Option, Some, None}
 use Rattle.wasm_ast.specs.Boxed.{Held}
 use Rattle.wasm_ast.specs.declared.module.Module.{Module}
-use Rattle.comp_rules.specs.Spaces.{Space, NestedComponent}
-use Rattle.comp_rules.specs.Definitions.{Definition}
-use Rattle.comp_rules.specs.Added.{after}
-use Rattle.comp_rules.specs.Validity.{BreaksDefinition}
+use Rattle.comp_types.specs.Spaces.{Space, NestedComponent}
+use Rattle.comp_types.specs.Definitions.{Definition}
+use Rattle.comp_types.specs.Added.{after}
+use Rattle.comp_types.specs.Validity.{BreaksDefinition}
 use Rattle.comp_scopes.specs.declared.scope.Scope.{Scope as Kept}
 use Rattle.comp_scopes.specs.Judged.{Judged}
 use Rattle.comp_around.specs.declared.scopes.Scopes.{Scopes}

@@ -5,11 +5,11 @@ use Rattle.wasm_ast.specs.declared.component.TypeDef.{TypeDef}
 use Rattle.wasm_ast.specs.declared.component.TypeDef.TheVariants as defs
 use Rattle.wasm_ast.specs.declared.component.TypeAlias.TheVariants as type_aliases
 use Rattle.comp_types.specs.Items.{look_up}
-use Rattle.comp_rules.specs.Declarations.{Declaration, ATypeDef, AnInstanceType, ATypeAlias, ATypeExport}
-use Rattle.comp_rules.specs.Definitions.{AType}
-use Rattle.comp_rules.specs.Spaces.{Space, and_type, entry_of}
-use Rattle.comp_rules.specs.Types.{kind_of}
-use Rattle.comp_rules.specs.Added.{after, and_resource}
+use Rattle.comp_types.specs.Declarations.{Declaration, ATypeDef, AnInstanceType, ATypeAlias, ATypeExport}
+use Rattle.comp_types.specs.Definitions.{AType}
+use Rattle.comp_types.specs.Spaces.{Space, and_type, entry_of}
+use Rattle.comp_types.specs.Types.{kind_of}
+use Rattle.comp_types.specs.Added.{after, and_resource}
 use Rattle.comp_linking.proofs.StayLemmas.{some_item_stays, index_stays}
 use Rattle.comp_linking.proofs.NameLemmas.{outer_type_stays}
 

@@ -3,9 +3,9 @@ use Rattle.std.specs.Prelude.{◌≡◌, ℕ, ◌+◌, zero, suc, List, [], ◌�
 use Rattle.wasm_ast.specs.declared.component.TypeDef.TheVariants as defs
 use Rattle.wasm_ast.specs.declared.component.TypeItem.{TypeItem}
 use Rattle.wasm_ast.specs.declared.component.TypeItem.TheVariants as items
-use Rattle.comp_rules.specs.Declarations.{Declaration, Done, Then, grouped}
-use Rattle.comp_rules.specs.Definitions.{AType}
-use Rattle.comp_rules.specs.Spaces.{Space}
+use Rattle.comp_types.specs.Declarations.{Declaration, Done, Then, grouped}
+use Rattle.comp_types.specs.Definitions.{AType}
+use Rattle.comp_types.specs.Spaces.{Space}
 use Rattle.comp_link.specs.Plans.{Plan, NewResource, if_some, of_type}
 use Rattle.comp_linking.specs.declared.planner.Planner.{Planner}
 use Rattle.comp_linking.specs.Goes.{Plans}

@@ -3,8 +3,8 @@ use Rattle.std.specs.Prelude.{List, ◌++◌}
 use Rattle.wasm_ast.specs.Boxed.{Held}
 use Rattle.wasm_ast.specs.declared.module.Module.{Module}
 use Rattle.comp_grammar.specs.Trees.{Part, Tree}
-use Rattle.comp_rules.specs.Definitions.{Definition}
-use Rattle.comp_rules.specs.Validity.{IsValidDefinition, AreValid, IsValidPart, IsValidTree}
+use Rattle.comp_types.specs.Definitions.{Definition}
+use Rattle.comp_types.specs.Validity.{IsValidDefinition, AreValid, IsValidPart, IsValidTree}
 use Rattle.comp_linking.specs.declared.planner.Planner.{Planner}
 use Rattle.comp_linking.specs.Walks.{At, spaces, at_after, at_all, at_part, at_tree, Walks}
 use Rattle.comp_drafts.specs.Modules.{modules_in_part, modules_in}

@@ -3,7 +3,7 @@ use Rattle.std.specs.Prelude.{◌≡◌, ℕ, List, ◌∷◌, ◌++◌, Option,
 use Rattle.std.specs.Option.{option_map, option_and_then}
 use Rattle.wasm_ast.specs.Boxed.{Held}
 use Rattle.wasm_ast.specs.declared.module.Module.{Module}
-use Rattle.comp_rules.specs.Spaces.{Space, NestedComponent}
+use Rattle.comp_types.specs.Spaces.{Space, NestedComponent}
 use Rattle.comp_link.specs.Plans.{Plan, Scope}
 use Rattle.comp_plans.specs.Planned.{PlannedComponent}
 use Rattle.comp_drafts.specs.declared.draft.Draft.{Draft}

@@ -3,9 +3,9 @@ use Rattle.std.specs.Prelude.{◌≡◌, ℕ, List, [], ◌∷◌, map, drop, re
 use Rattle.wasm_ast.specs.Boxed.{Held}
 use Rattle.wasm_ast.specs.declared.module.Module.{Module}
 use Rattle.comp_grammar.specs.Trees.{Part, Tree, CoreModule, Nested, End as NoParts, More as Section}
-use Rattle.comp_rules.specs.Spaces.{Space}
-use Rattle.comp_rules.specs.Definitions.{Definition, definitions}
-use Rattle.comp_rules.specs.Added.{after, after_part, and_nested, entered, nested_of, root}
+use Rattle.comp_types.specs.Spaces.{Space}
+use Rattle.comp_types.specs.Definitions.{Definition, definitions}
+use Rattle.comp_types.specs.Added.{after, after_part, and_nested, entered, nested_of, root}
 use Rattle.comp_around.specs.Around.{StandAll}
 use Rattle.comp_link.specs.Plans.{Plan, End, Scope, no_scope, and_module, and_plan, followed, planned_by, scope_after}
 use Rattle.comp_plans.specs.declared.linked.ComponentPlan.{ComponentPlan}

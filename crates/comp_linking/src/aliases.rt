@@ -3,7 +3,7 @@
 ghost use Rattle.std.specs.Prelude.{◌≡◌, ◌++◌, OnOk, option_to_list};
 ghost use Rattle.wasm_ast.specs.declared.component.Alias.TheVariants.{Outer};
 ghost use Rattle.wasm_ast.specs.declared.component.OuterSort.TheVariants as outer_sorts;
-ghost use Rattle.comp_rules.specs.Definitions.{AnAlias};
+ghost use Rattle.comp_types.specs.Definitions.{AnAlias};
 ghost use Rattle.comp_linking.specs.Goes.{Plans};
 ghost use Rattle.comp_linking.specs.Names.{NumbersComponent, NumbersModule};
 

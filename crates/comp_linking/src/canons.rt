@@ -4,7 +4,7 @@ ghost use Rattle.wasm_ast.specs.declared.component.Canon.TheVariants.{Lift, Lowe
 ghost use Rattle.wasm_ast.specs.declared.module.Module.{Module};
 ghost use Rattle.comp_link.specs.Plans.{of_canon};
 ghost use Rattle.comp_plans.specs.Planned.{PlannedComponent, plan_item};
-ghost use Rattle.comp_rules.specs.Spaces.{Space};
+ghost use Rattle.comp_types.specs.Spaces.{Space};
 ghost use Rattle.comp_scopes.specs.Stands.{Stands};
 ghost use Rattle.comp_drafts.specs.Drafts.{some_item};
 

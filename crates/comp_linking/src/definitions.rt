@@ -1,6 +1,6 @@
 ghost use Rattle.std.specs.Prelude.{OnOk, map};
 ghost use Rattle.wasm_ast.specs.declared.component.Alias.TheVariants.{CoreExport, Export};
-ghost use Rattle.comp_rules.specs.Definitions.{ACanon, ACoreInstance, AnAlias, AnExport, AnImport, AnInstance};
+ghost use Rattle.comp_types.specs.Definitions.{ACanon, ACoreInstance, AnAlias, AnExport, AnImport, AnInstance};
 ghost use Rattle.comp_linking.specs.Goes.{Plans, PlansAll};
 
 use crate::aliases::plan_outer_alias;
@@ -21,7 +21,7 @@ use wasm_ast::{
 /// An item of a section that is a definition. One that is valid is planned; what it adds to the index spaces is found as validation
 /// finds it, which has no fault to answer.
 pub trait Planned {
-    ghost use Rattle.comp_rules.specs.Definitions.{Definition};
+    ghost use Rattle.comp_types.specs.Definitions.{Definition};
 
     ghost definition: { Self → Definition };
 

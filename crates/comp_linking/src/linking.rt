@@ -4,8 +4,8 @@ ghost use Rattle.comp_link.specs.Linking.{group_of};
 ghost use Rattle.comp_link.specs.Plans.{plan_of};
 ghost use Rattle.comp_plans.specs.Groups.{linked_group};
 ghost use Rattle.comp_plans.specs.Planned.{plan_in};
-ghost use Rattle.comp_rules.specs.Added.{after_tree, root};
-ghost use Rattle.comp_rules.specs.Validity.{IsValidComponent};
+ghost use Rattle.comp_types.specs.Added.{after_tree, root};
+ghost use Rattle.comp_types.specs.Validity.{IsValidComponent};
 
 use crate::planner::Planner;
 use crate::sections::plan_sections;

@@ -4,7 +4,7 @@ use Rattle.std.specs.Prelude.{slice_index}
 use Rattle.core_memory.specs.Number.{bytes_of}
 use Rattle.core_store.specs.declared.value.CoreValue.{CoreValue}
 use Rattle.core_store.specs.declared.value.CoreValue.TheVariants as values
-use Rattle.core_eval.specs.Words.{words, values_in}
+use Rattle.core_store.specs.Words.{words, values_in}
 use Rattle.wit_types.specs.Plain.{Plain}
 use Rattle.wit_types.specs.Layout.{alignment, size}
 use Rattle.abi_layout.specs.Functions.{lowered, core_params}

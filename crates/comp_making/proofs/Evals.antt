@@ -3,12 +3,12 @@ use Rattle.std.proofs.Common.{◌≡◌, ◌⊎◌, inl, inr, ℕ, ◌+◌, List
 use Rattle.std.proofs.Math.Path.{ap₂}
 use Rattle.core_store.specs.State.{State}
 use Rattle.core_store.specs.declared.value.CoreValue.{CoreValue}
-use Rattle.core_eval.specs.Config.{Reply, Outcome, Done, Trapped, Asks, Spent, TooDeep}
-use Rattle.core_eval.specs.Eval.{entered_store, left_store, eval}
-use Rattle.core_eval.specs.Scene.{Scene, scene_of}
-use Rattle.core_eval.specs.Laws.{Answers, Further}
-use Rattle.core_eval.proofs.Further.{further}
-use Rattle.core_eval.proofs.Keeping.{Same, Ends, eval_ends}
+use Rattle.core_store.specs.Config.{Reply, Outcome, Done, Trapped, Asks, Spent, TooDeep}
+use Rattle.core_store.specs.Eval.{entered_store, left_store, eval}
+use Rattle.core_store.specs.Scene.{Scene, scene_of}
+use Rattle.core_store.specs.Laws.{Answers, Further}
+use Rattle.core_store.proofs.Further.{further}
+use Rattle.core_store.proofs.Keeping.{Same, Ends, eval_ends}
 use Rattle.comp_making.specs.Made.{Items, items_of}
 
 abbrev pub AsMany : State → State → Type 0

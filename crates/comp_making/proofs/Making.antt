@@ -10,7 +10,7 @@ use Rattle.wasm_ast.specs.declared.component.CanonOption.{CanonOption}
 use Rattle.core_store.specs.State.{State as Store, empty}
 use Rattle.core_store.specs.declared.value.StoreFunc.{StoreFunc}
 use Rattle.core_store.specs.declared.value.StoreFunc.TheVariants as functions
-use Rattle.core_eval.specs.Scene.{scene_of}
+use Rattle.core_store.specs.Scene.{scene_of}
 use Rattle.core_instance.specs.declared.external.Extern.{Extern}
 use Rattle.core_instance.specs.declared.external.Extern.TheVariants.{Func, Table, Memory, Global}
 use Rattle.core_instance.specs.Instantiation.{functions_from, allocated, instantiated, instance_of}
@@ -20,7 +20,7 @@ use Rattle.host_port.specs.Calls.{PlainObservation}
 use Rattle.wit_types.specs.Plain.{Name}
 use Rattle.comp_types.specs.Items.{Item}
 use Rattle.comp_types.specs.Substitution.{partner_in}
-use Rattle.comp_rules.specs.Added.{takes_and_gives, takes_one}
+use Rattle.comp_types.specs.Added.{takes_and_gives, takes_one}
 use Rattle.comp_worlds.specs.Acts.{Out, Next, Over, Spent, seen_before, then_do, Act, ◌>>◌, gives, takes_step}
 use Rattle.comp_worlds.specs.Groups.{Nesting, Target, Func as Canon, LoweredFunc, ResourceNew, ResourceDrop, ResourceRep, Stage, Provides, Makes, Begins, Group, Config, World, Ports}
 use Rattle.comp_worlds.specs.Locals.{Local, done, with_store, provides, makes_module}

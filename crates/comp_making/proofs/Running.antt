@@ -2,9 +2,9 @@
 use Rattle.std.proofs.Common.{◌≡◌, ℕ, zero, suc, ◌+◌, ◌-◌, List, [], ◌∷◌, ◌++◌, refl, sym, ◌∙◌}
 use Rattle.core_store.specs.State.{State}
 use Rattle.core_store.specs.declared.value.CoreValue.{CoreValue}
-use Rattle.core_eval.specs.Words.{words}
-use Rattle.core_eval.specs.Config.{Reply, Outcome, Done, Trapped as CoreTrapped, Asks, Spent as CoreSpent, TooDeep as CoreTooDeep}
-use Rattle.core_eval.specs.Eval.{eval}
+use Rattle.core_store.specs.Words.{words}
+use Rattle.core_store.specs.Config.{Reply, Outcome, Done, Trapped as CoreTrapped, Asks, Spent as CoreSpent, TooDeep as CoreTooDeep}
+use Rattle.core_store.specs.Eval.{eval}
 use Rattle.comp_worlds.specs.Acts.{Act, then_do, ◌>>◌, gives, with_more, shows}
 use Rattle.comp_worlds.specs.Passing.{out_of_tuple}
 use Rattle.host_port.specs.Calls.{Returned}

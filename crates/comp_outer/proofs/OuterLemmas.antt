@@ -9,14 +9,14 @@ use Rattle.wasm_ast.specs.declared.component.TypeAlias.TheVariants.{Outer as Out
 use Rattle.wasm_ast.specs.declared.component.OuterSort.{OuterSort}
 use Rattle.wasm_ast.specs.declared.component.OuterSort.TheVariants as sorts
 use Rattle.core_validate.specs.declared.item.ModuleType.{ModuleType}
-use Rattle.comp_rules.specs.Spaces.{Space, TypeEntry, NestedComponent}
-use Rattle.comp_rules.specs.Declarations.{ATypeAlias}
-use Rattle.comp_rules.specs.Definitions.{AType, AnAlias}
-use Rattle.comp_rules.specs.Added.{and_outer, and_some_type, and_some_module, and_some_component}
-use Rattle.comp_rules.specs.Rules.{if_there, lengths_of, outer_stands, outer_stays, leaves_component, names_none}
-use Rattle.comp_rules.specs.Faults.{first_failing, fault}
-use Rattle.comp_rules.proofs.FaultLaws.{all_hold, least_fails}
-use Rattle.comp_cores.specs.Found.{EachSome}
+use Rattle.comp_types.specs.Spaces.{Space, TypeEntry, NestedComponent}
+use Rattle.comp_types.specs.Declarations.{ATypeAlias}
+use Rattle.comp_types.specs.Definitions.{AType, AnAlias}
+use Rattle.comp_types.specs.Added.{and_outer, and_some_type, and_some_module, and_some_component}
+use Rattle.comp_types.specs.Rules.{if_there, lengths_of, outer_stands, outer_stays, leaves_component, names_none}
+use Rattle.comp_types.specs.Faults.{first_failing, fault}
+use Rattle.comp_types.proofs.FaultLaws.{all_hold, least_fails}
+use Rattle.comp_scopes.specs.Found.{EachSome}
 use Rattle.comp_around.specs.declared.scopes.Scopes.{Scopes}
 use Rattle.comp_around.specs.Judged.{JudgedIn}
 use Rattle.comp_outer.specs.Outer.{IsOuter}

@@ -2,10 +2,10 @@
 use Rattle.std.specs.Prelude.{◌≡◌, ℕ, List, ◌∷◌, Option, Some, None, slice_get}
 use Rattle.wasm_ast.specs.declared.component.Alias.TheVariants.{Outer}
 use Rattle.wasm_ast.specs.declared.component.OuterSort.{OuterSort}
-use Rattle.comp_rules.specs.Spaces.{Space}
-use Rattle.comp_rules.specs.Definitions.{AnAlias}
-use Rattle.comp_rules.specs.Added.{and_outer}
-use Rattle.comp_rules.specs.Faults.{fault}
+use Rattle.comp_types.specs.Spaces.{Space}
+use Rattle.comp_types.specs.Definitions.{AnAlias}
+use Rattle.comp_types.specs.Added.{and_outer}
+use Rattle.comp_types.specs.Faults.{fault}
 use Rattle.comp_around.specs.declared.scopes.Scopes.{Scopes}
 use Rattle.comp_around.specs.Around.{StandAll}
 

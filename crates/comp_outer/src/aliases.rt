@@ -1,9 +1,9 @@
 ghost use Rattle.std.specs.Prelude.{List, IfOk};
 ghost use Rattle.wasm_ast.specs.declared.component.Alias.TheVariants.{Outer as OuterAlias};
 ghost use Rattle.wasm_ast.specs.declared.component.TypeAlias.TheVariants.{Outer as OuterType};
-ghost use Rattle.comp_rules.specs.Declarations.{ATypeAlias};
-ghost use Rattle.comp_rules.specs.Definitions.{AType, AnAlias};
-ghost use Rattle.comp_rules.specs.Spaces.{Space};
+ghost use Rattle.comp_types.specs.Declarations.{ATypeAlias};
+ghost use Rattle.comp_types.specs.Definitions.{AType, AnAlias};
+ghost use Rattle.comp_types.specs.Spaces.{Space};
 ghost use Rattle.comp_around.specs.Around.{StandAll};
 ghost use Rattle.comp_around.specs.Judged.{JudgedIn};
 ghost use Rattle.comp_outer.specs.Outer.{IsOuter};

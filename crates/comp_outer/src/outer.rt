@@ -2,19 +2,18 @@ ghost use Rattle.std.specs.Prelude.{◌≡◌, ◌∷◌, List, IfOk, OnOk, slic
 ghost use Rattle.std.specs.Option.{option_and_then};
 ghost use Rattle.wasm_ast.specs.declared.component.Alias.TheVariants.{Outer};
 ghost use Rattle.wasm_ast.specs.declared.component.OuterSort.TheVariants as outer_sorts;
-ghost use Rattle.comp_rules.specs.Added.{and_outer};
-ghost use Rattle.comp_rules.specs.Definitions.{AnAlias};
-ghost use Rattle.comp_rules.specs.Faults.{fault};
-ghost use Rattle.comp_rules.specs.Spaces.{Space};
-ghost use Rattle.comp_cores.specs.Found.{EachSome, IsKnownModule};
+ghost use Rattle.comp_types.specs.Added.{and_outer};
+ghost use Rattle.comp_types.specs.Definitions.{AnAlias};
+ghost use Rattle.comp_types.specs.Faults.{fault};
+ghost use Rattle.comp_types.specs.Spaces.{Space};
+ghost use Rattle.comp_scopes.specs.Found.{EachSome, IsKnownModule};
 ghost use Rattle.comp_scopes.specs.Stands.{IsEntry, IsNested};
 ghost use Rattle.comp_around.specs.Around.{StandAll};
 ghost use Rattle.comp_outer.specs.Outer.{IsOuter};
 
 use comp_around::Scopes;
-use comp_cores::{KnownModule, Shared};
 use comp_resources::names_none;
-use comp_scopes::{KnownComponent, KnownEntry};
+use comp_scopes::{KnownComponent, KnownEntry, KnownModule, Shared};
 use std::alloc::Global;
 use virt_base::NoMemory;
 

@@ -7,11 +7,11 @@ use Rattle.core_memory.specs.Number.{bytes_of}
 use Rattle.core_store.specs.State.{State}
 use Rattle.core_store.specs.declared.value.CoreValue.{CoreValue}
 use Rattle.core_store.specs.declared.value.CoreValue.TheVariants as values
-use Rattle.core_eval.specs.Words.{words, values_in}
-use Rattle.core_eval.specs.Config.{Reply, Outcome, Done, Trapped as CoreTrapped, Asks, Spent as CoreSpent, TooDeep as CoreTooDeep}
-use Rattle.core_eval.specs.Eval.{eval}
-use Rattle.core_eval.specs.Laws.{Within}
-use Rattle.core_eval.proofs.Steps.{within}
+use Rattle.core_store.specs.Words.{words, values_in}
+use Rattle.core_store.specs.Config.{Reply, Outcome, Done, Trapped as CoreTrapped, Asks, Spent as CoreSpent, TooDeep as CoreTooDeep}
+use Rattle.core_store.specs.Eval.{eval}
+use Rattle.core_store.specs.Laws.{Within}
+use Rattle.core_store.proofs.Steps.{within}
 use Rattle.wit_types.specs.Plain.{Name, Plain, PlainFunc}
 use Rattle.wit_types.specs.Layout.{alignment, size}
 use Rattle.abi_layout.specs.Functions.{core_params, lowered}

@@ -4,7 +4,7 @@ use Rattle.std.specs.Prelude.{◌||◌}
 use Rattle.std.proofs.lemmas.Bool.{false≢true}
 use Rattle.comp_types.specs.Items.{Item, Kind, Entries, FuncItem, InstanceItem, KindItem, ResourceKind, ValueKind, FuncKind, InstanceKind, End, More}
 use Rattle.comp_types.specs.Resources.{is_some_resource, item_has_resource, kind_has_resource, entries_have_resource}
-use Rattle.comp_rules.specs.Resources.{without, named_in, named_in_item, named_in_kind}
+use Rattle.comp_types.specs.GivenResources.{without, named_in, named_in_item, named_in_kind}
 use Rattle.comp_resources.proofs.ValueLemmas.{value-nothing, func-nothing}
 
 either_false : (a b : Bool) → (a || b) ≡ false → (a ≡ false) × (b ≡ false)

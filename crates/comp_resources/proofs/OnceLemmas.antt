@@ -4,8 +4,8 @@ use Rattle.std.specs.Prelude.{◌||◌, ◌&&◌, ◌==◌, nat_eq, if◌then◌
 use Rattle.std.specs.List.{filter, list_any}
 use Rattle.std.proofs.lemmas.Bool.Decides.{Decides-eqb}
 use mathlib.Core.Path.{fun_ext}
-use Rattle.comp_rules.specs.Resources.{is_among, without, distinct}
-use Rattle.comp_rules.specs.Rules.{is_filled}
+use Rattle.comp_types.specs.GivenResources.{is_among, without, distinct}
+use Rattle.comp_types.specs.Rules.{is_filled}
 use Rattle.comp_resources.specs.Once.{and_once, and_each}
 
 -- ---- one after another

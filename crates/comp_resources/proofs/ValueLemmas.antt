@@ -4,8 +4,8 @@ use Rattle.std.specs.Prelude.{◌||◌}
 use Rattle.std.proofs.lemmas.Bool.{false≢true}
 use Rattle.wit_types.specs.Plain.{Name, Plain, Parts, PlainFunc, ListType, RecordType, VariantType, OwnType, BorrowType, End, More, Bare, bare, case_part}
 use Rattle.comp_facts.specs.Handles.{has_handle, has_handle_in, answer_has_handle, func_has_handle}
-use Rattle.comp_rules.specs.Resources.{named_in_value, named_in_parts, named_in_answer, named_in_func}
-use Rattle.comp_rules.specs.Rules.{is_filled}
+use Rattle.comp_types.specs.GivenResources.{named_in_value, named_in_parts, named_in_answer, named_in_func}
+use Rattle.comp_types.specs.Rules.{is_filled}
 use Rattle.comp_resources.proofs.OnceLemmas.{each-append}
 
 -- labels alone name no resource

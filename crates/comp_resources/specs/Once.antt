@@ -1,6 +1,6 @@
 -- Resources in order, each once.
 use Rattle.std.specs.Prelude.{ℕ, List, [], ◌∷◌, ◌++◌, if◌then◌else◌}
-use Rattle.comp_rules.specs.Resources.{is_among}
+use Rattle.comp_types.specs.GivenResources.{is_among}
 
 -- with this one too, unless it is there
 abbrev pub and_once : List ℕ → ℕ → List ℕ

@@ -1,7 +1,7 @@
 ghost use Rattle.std.specs.Prelude.{◌≡◌, not, OnOk, IfOk};
 ghost use Rattle.comp_types.specs.Views.{entries_of, item_of, kind_of};
-ghost use Rattle.comp_rules.specs.Resources.{distinct, named_in, named_in_item, named_in_kind, without};
-ghost use Rattle.comp_rules.specs.Rules.{is_filled};
+ghost use Rattle.comp_types.specs.GivenResources.{distinct, named_in, named_in_item, named_in_kind, without};
+ghost use Rattle.comp_types.specs.Rules.{is_filled};
 ghost use Rattle.comp_resources.specs.Once.{and_each};
 
 use crate::resources::Resources;

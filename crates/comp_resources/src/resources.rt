@@ -1,6 +1,6 @@
 ghost use Rattle.std.specs.Prelude.{◌≡◌, [], ◌∷◌, not, OnOk, IfOk};
-ghost use Rattle.comp_rules.specs.Resources.{is_among, without};
-ghost use Rattle.comp_rules.specs.Rules.{is_filled};
+ghost use Rattle.comp_types.specs.GivenResources.{is_among, without};
+ghost use Rattle.comp_types.specs.Rules.{is_filled};
 ghost use Rattle.comp_resources.specs.Once.{and_each, and_once};
 
 use indexmap::IndexSet;

@@ -2,7 +2,7 @@
 
 ghost use Rattle.std.specs.Prelude.{◌≡◌, OnOk};
 ghost use Rattle.wit_types.specs.Plain.{plain, fields_of, types_of, cases_of, payload_of, plain_func, plain_result};
-ghost use Rattle.comp_rules.specs.Resources.{named_in_answer, named_in_func, named_in_parts, named_in_value};
+ghost use Rattle.comp_types.specs.GivenResources.{named_in_answer, named_in_func, named_in_parts, named_in_value};
 ghost use Rattle.comp_resources.specs.Once.{and_each};
 
 use crate::resources::Resources;

@@ -3,9 +3,9 @@ use Rattle.std.proofs.Common.{ℕ, ◌+◌, ◌-◌, ◌≤◌, List, [], ◌∷
 use Rattle.core_memory.specs.Number.{bytes_of}
 use Rattle.core_store.specs.declared.value.CoreValue.{CoreValue}
 use Rattle.core_store.specs.declared.value.CoreValue.TheVariants as values
-use Rattle.core_eval.specs.Words.{words, values_in}
-use Rattle.core_eval.specs.Config.{Reply, Outcome, Done, Trapped as CoreTrapped, Asks, Spent as CoreSpent, TooDeep as CoreTooDeep}
-use Rattle.core_eval.specs.Laws.{Within}
+use Rattle.core_store.specs.Words.{words, values_in}
+use Rattle.core_store.specs.Config.{Reply, Outcome, Done, Trapped as CoreTrapped, Asks, Spent as CoreSpent, TooDeep as CoreTooDeep}
+use Rattle.core_store.specs.Laws.{Within}
 use Rattle.wit_types.specs.Plain.{Plain}
 use Rattle.wit_types.specs.Layout.{alignment, size}
 use Rattle.abi_layout.specs.Functions.{core_params, lowered}

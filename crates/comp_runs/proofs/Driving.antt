@@ -2,9 +2,9 @@
 use Rattle.std.proofs.Common.{◌≡◌, ℕ, zero, suc, ◌≤◌, List, [], ◌∷◌, ◌++◌, sym, ◌∙◌, ap, arith, append_assoc, append-nil}
 use Rattle.core_store.specs.State.{State}
 use Rattle.core_store.specs.declared.value.CoreValue.{CoreValue}
-use Rattle.core_eval.specs.Config.{Reply}
-use Rattle.core_eval.specs.Eval.{eval}
-use Rattle.core_eval.proofs.Steps.{within}
+use Rattle.core_store.specs.Config.{Reply}
+use Rattle.core_store.specs.Eval.{eval}
+use Rattle.core_store.proofs.Steps.{within}
 use Rattle.comp_worlds.specs.Acts.{then_do, ◌>>◌}
 use Rattle.comp_worlds.specs.Groups.{Nesting, store_at, Group, World, Ports}
 use Rattle.comp_worlds.specs.Calls.{core_end, core, goes_on, drives, runs, deep_enough}

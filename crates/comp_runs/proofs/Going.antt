@@ -2,10 +2,10 @@
 use Rattle.std.proofs.Common.{◌≡◌, ℕ, zero, suc, ◌+◌, ◌-◌, ◌≤◌, ◌<◌, List, [], ◌∷◌, ◌++◌, refl, sym, ◌∙◌, ap, arith}
 use Rattle.core_store.specs.State.{State}
 use Rattle.core_store.specs.declared.value.CoreValue.{CoreValue}
-use Rattle.core_eval.specs.Words.{words}
-use Rattle.core_eval.specs.Config.{Reply, Outcome, Done, Trapped as CoreTrapped, Asks, Spent as CoreSpent, TooDeep as CoreTooDeep}
-use Rattle.core_eval.specs.Eval.{eval}
-use Rattle.core_eval.specs.Laws.{Within}
+use Rattle.core_store.specs.Words.{words}
+use Rattle.core_store.specs.Config.{Reply, Outcome, Done, Trapped as CoreTrapped, Asks, Spent as CoreSpent, TooDeep as CoreTooDeep}
+use Rattle.core_store.specs.Eval.{eval}
+use Rattle.core_store.specs.Laws.{Within}
 use Rattle.core_interp.specs.Session.{granted}
 use Rattle.comp_worlds.specs.Acts.{seen_before, then_do, Act, ◌>>◌, gives, with_more}
 use Rattle.comp_worlds.specs.Groups.{Nesting, deeper, at_depth, store_at, Group, World, Ports}

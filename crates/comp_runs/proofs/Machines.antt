@@ -2,7 +2,7 @@
 use Rattle.std.proofs.Common.{◌≡◌, ℕ, List, [], ◌∙◌, ap}
 use Rattle.core_store.specs.State.{State}
 use Rattle.core_store.specs.declared.value.CoreValue.{CoreValue}
-use Rattle.core_eval.specs.Config.{Reply}
+use Rattle.core_store.specs.Config.{Reply}
 use Rattle.core_interp.specs.declared.machine.Machine.{Machine}
 use Rattle.core_interp.specs.declared.machine.Pause.{Pause}
 use Rattle.core_interp.specs.declared.machine.Pause.TheVariants as pauses

@@ -2,10 +2,10 @@
 use Rattle.std.proofs.Common.{◌≡◌, ℕ, zero, suc, ◌+◌, ◌-◌, ◌≤◌, ◌<◌, List, [], ◌∷◌, ◌++◌, Bool, true, false, ◌==◌, refl, sym, ◌∙◌, ap, subst, arith, append-nil}
 use Rattle.core_store.specs.State.{State}
 use Rattle.core_store.specs.declared.value.CoreValue.{CoreValue}
-use Rattle.core_eval.specs.Config.{Reply, Outcome, Done, Trapped as CoreTrapped, Asks, Spent as CoreSpent, TooDeep as CoreTooDeep}
-use Rattle.core_eval.specs.Eval.{deep, eval}
-use Rattle.core_eval.specs.Laws.{Within}
-use Rattle.core_eval.proofs.Steps.{within}
+use Rattle.core_store.specs.Config.{Reply, Outcome, Done, Trapped as CoreTrapped, Asks, Spent as CoreSpent, TooDeep as CoreTooDeep}
+use Rattle.core_store.specs.Eval.{deep, eval}
+use Rattle.core_store.specs.Laws.{Within}
+use Rattle.core_store.proofs.Steps.{within}
 use Rattle.core_interp.specs.declared.machine.Machine.{Machine}
 use Rattle.core_interp.specs.declared.machine.Pause.{Pause}
 use Rattle.core_interp.specs.declared.machine.Pause.TheVariants as pauses

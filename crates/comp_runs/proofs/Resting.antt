@@ -13,14 +13,14 @@ use Rattle.core_store.specs.declared.value.CoreRef.TheVariants.{Null, Func}
 use Rattle.core_store.specs.declared.value.CoreSpaces.{CoreSpaces}
 use Rattle.core_store.specs.Table.{got}
 use Rattle.core_store.specs.State.{State, table_at}
-use Rattle.core_eval.specs.Words.{i32_in}
-use Rattle.core_eval.specs.Config.{Reply, Config, Out, Next, Break, Back, Over, then_do, with_stack, kept, bare, type_at}
-use Rattle.core_eval.specs.Plain.{plain}
-use Rattle.core_eval.specs.Laws.{Within as IsWithin}
-use Rattle.core_eval.specs.Eval.{function_type, block_end, call_end, Turn, Enter, pop, choose, target, same_func, enter_if, call_ref, call_place, indirect, single, exec, deep, go, finish}
-use Rattle.core_eval.specs.Scene.{Scene, scene_of, code_at, spaces_at}
+use Rattle.core_store.specs.Words.{i32_in}
+use Rattle.core_store.specs.Config.{Reply, Config, Out, Next, Break, Back, Over, then_do, with_stack, kept, bare, type_at}
+use Rattle.core_store.specs.Plain.{plain}
+use Rattle.core_store.specs.Laws.{Within as IsWithin}
+use Rattle.core_store.specs.Eval.{function_type, block_end, call_end, Turn, Enter, pop, choose, target, same_func, enter_if, call_ref, call_place, indirect, single, exec, deep, go, finish}
+use Rattle.core_store.specs.Scene.{Scene, scene_of, code_at, spaces_at}
 use Rattle.core_slots.specs.Stacked.{Stacked}
-use Rattle.core_eval.proofs.Steps.{Within, within_more, advance_within, more_falls}
+use Rattle.core_store.proofs.Steps.{Within, within_more, advance_within, more_falls}
 use Rattle.core_interp.specs.declared.control.Control.{Control}
 use Rattle.core_interp.specs.declared.machine.Stage.{Stage}
 use Rattle.core_interp.specs.declared.machine.Stage.TheVariants.{Starts, Runs, Answered, Due}
@@ -30,7 +30,7 @@ use Rattle.core_interp.specs.Run.{progress, goes, own_parts}
 use Rattle.core_interp.specs.Session.{results_due, goes_staged, goes_on}
 use Rattle.comp_runs.specs.Running.{IsRest}
 
--- ---- a piece of code, as `core_eval` has it of calls and turns
+-- ---- a piece of code, as `core_store` has it of calls and turns
 
 then_within : (n : ℕ) (o : Out) (f : ℕ → Config → Out) → Within n o → ((m : ℕ) (c : Config) → Within m (f m c)) → Within n (then_do o f)
 then_within n (Next m c) f h each = within_more m n (f m c) h (each m c)

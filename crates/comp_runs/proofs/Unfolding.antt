@@ -2,9 +2,9 @@
 use Rattle.std.proofs.Common.{◌≡◌, ℕ, suc, List, [], ◌∷◌, ◌++◌, Option, refl, ◌∙◌, ap, arith}
 use Rattle.core_store.specs.State.{State}
 use Rattle.core_store.specs.declared.value.CoreValue.{CoreValue}
-use Rattle.core_eval.specs.Config.{Reply}
-use Rattle.core_eval.specs.Eval.{eval}
-use Rattle.core_eval.proofs.Steps.{within}
+use Rattle.core_store.specs.Config.{Reply}
+use Rattle.core_store.specs.Eval.{eval}
+use Rattle.core_store.proofs.Steps.{within}
 use Rattle.host_port.specs.Calls.{Returned}
 use Rattle.host_port.specs.Hosts.{HostStep}
 use Rattle.comp_worlds.specs.Acts.{Act, ◌>>◌, gives, shows}

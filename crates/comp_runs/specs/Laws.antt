@@ -2,8 +2,8 @@
 use Rattle.std.specs.Prelude.{◌≡◌, ℕ, ◌<◌, List, [], ◌∷◌, ◌++◌, Option}
 use Rattle.core_store.specs.State.{State}
 use Rattle.core_store.specs.declared.value.CoreValue.{CoreValue}
-use Rattle.core_eval.specs.Config.{Reply}
-use Rattle.core_eval.specs.Eval.{eval}
+use Rattle.core_store.specs.Config.{Reply}
+use Rattle.core_store.specs.Eval.{eval}
 use Rattle.wit_types.specs.Plain.{Plain}
 use Rattle.abi_layout.specs.Storing.{Step, Lowered}
 use Rattle.core_interp.specs.Session.{granted}

@@ -2,8 +2,8 @@
 use Rattle.std.specs.Prelude.{ℕ, zero, suc, List, [], ◌∷◌}
 use Rattle.core_store.specs.State.{State}
 use Rattle.core_store.specs.declared.value.CoreValue.{CoreValue}
-use Rattle.core_eval.specs.Config.{Reply, Outcome}
-use Rattle.core_eval.specs.Laws.{Within}
+use Rattle.core_store.specs.Config.{Reply, Outcome}
+use Rattle.core_store.specs.Laws.{Within}
 use Rattle.host_port.specs.Calls.{Returned}
 use Rattle.comp_worlds.specs.Acts.{Act, ◌>>◌, gives, spent, shows}
 use Rattle.comp_worlds.specs.Passing.{out_of_tuple}

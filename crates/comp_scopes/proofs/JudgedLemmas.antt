@@ -2,11 +2,11 @@
 use Rattle.std.proofs.Common.{◌≡◌, sym, List, ℕ, Some, None}
 use Rattle.wasm_ast.specs.declared.component.CoreInstance.{CoreInstance}
 use Rattle.wasm_ast.specs.declared.component.Alias.{Alias}
-use Rattle.comp_rules.specs.Spaces.{Space}
-use Rattle.comp_rules.specs.Definitions.{ACoreInstance, AnAlias}
-use Rattle.comp_rules.specs.Added.{after}
-use Rattle.comp_rules.specs.Faults.{fault}
-use Rattle.comp_rules.proofs.FaultLaws.{all_hold, least_fails}
+use Rattle.comp_types.specs.Spaces.{Space}
+use Rattle.comp_types.specs.Definitions.{ACoreInstance, AnAlias}
+use Rattle.comp_types.specs.Added.{after}
+use Rattle.comp_types.specs.Faults.{fault}
+use Rattle.comp_types.proofs.FaultLaws.{all_hold, least_fails}
 use Rattle.comp_scopes.specs.declared.scope.Scope.{Scope}
 use Rattle.comp_scopes.specs.Judged.{Judged}
 use Rattle.comp_scopes.specs.Stands.{Stands}

@@ -3,10 +3,10 @@ use Rattle.std.proofs.Common.{List, Option, Some, None}
 use Rattle.core_validate.specs.declared.item.CoreItem.{CoreItem}
 use Rattle.core_validate.specs.declared.item.CoreExport.{CoreExport}
 use Rattle.core_validate.specs.declared.item.CoreItem.TheVariants.{Func, Table, Memory, Global}
-use Rattle.comp_rules.specs.Spaces.{Space, TypeEntry, NestedComponent, and_core_item, and_type}
-use Rattle.comp_rules.specs.Added.{and_some_core_item, and_component, and_core_instance}
-use Rattle.comp_cores.specs.declared.scope.CoreScope.{CoreScope}
-use Rattle.comp_cores.specs.Scopes.{IsCoreOf}
+use Rattle.comp_types.specs.Spaces.{Space, TypeEntry, NestedComponent, and_core_item, and_type}
+use Rattle.comp_types.specs.Added.{and_some_core_item, and_component, and_core_instance}
+use Rattle.comp_scopes.specs.declared.core_scope.CoreScope.{CoreScope}
+use Rattle.comp_scopes.specs.Scopes.{IsCoreOf}
 use Rattle.comp_scopes.specs.declared.scope.Scope.{Scope}
 use Rattle.comp_scopes.specs.Stands.{HasRest}
 

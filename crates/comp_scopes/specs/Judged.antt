@@ -1,9 +1,9 @@
 -- What is answered of a definition: it is valid, and the scope is what it adds to, or it breaks this rule.
 use Rattle.std.specs.Prelude.{ℕ, List, Option, Some, None}
-use Rattle.comp_rules.specs.Spaces.{Space}
-use Rattle.comp_rules.specs.Definitions.{Definition}
-use Rattle.comp_rules.specs.Added.{after}
-use Rattle.comp_rules.specs.Validity.{IsValidDefinition, BreaksDefinition}
+use Rattle.comp_types.specs.Spaces.{Space}
+use Rattle.comp_types.specs.Definitions.{Definition}
+use Rattle.comp_types.specs.Added.{after}
+use Rattle.comp_types.specs.Validity.{IsValidDefinition, BreaksDefinition}
 use Rattle.comp_scopes.specs.declared.scope.Scope.{Scope}
 use Rattle.comp_scopes.specs.Stands.{Stands}
 

@@ -2,3 +2,9 @@ pub mod Numbers
 pub mod Named
 pub mod Stands
 pub mod Judged
+pub mod Items
+pub mod Sorts
+pub mod Found
+pub mod Scopes
+pub mod Arguments
+pub mod CoreJudged

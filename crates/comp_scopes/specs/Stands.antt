@@ -1,9 +1,9 @@
 -- What a scope keeps of the index spaces of a component or of an instance type.
 use Rattle.std.specs.Prelude.{◌≡◌, map, min}
 use Rattle.comp_types.specs.Views.{kind_of}
-use Rattle.comp_rules.specs.Spaces.{Space, TypeEntry, NestedComponent}
-use Rattle.comp_cores.specs.Found.{Each}
-use Rattle.comp_cores.specs.Scopes.{IsCoreOf}
+use Rattle.comp_types.specs.Spaces.{Space, TypeEntry, NestedComponent}
+use Rattle.comp_scopes.specs.Found.{Each}
+use Rattle.comp_scopes.specs.Scopes.{IsCoreOf}
 use Rattle.comp_scopes.specs.Named.{HasNamed}
 use Rattle.comp_scopes.specs.Numbers.{HasNumbers}
 use Rattle.comp_scopes.specs.declared.entries.KnownEntry.{KnownEntry}

@@ -1,12 +1,12 @@
 ghost use Rattle.std.specs.Prelude.{List, IfOk};
 ghost use Rattle.wasm_ast.specs.declared.component.Alias.TheVariants.{CoreExport};
-ghost use Rattle.comp_rules.specs.Definitions.{ACoreInstance, AnAlias};
-ghost use Rattle.comp_rules.specs.Spaces.{Space};
+ghost use Rattle.comp_types.specs.Definitions.{ACoreInstance, AnAlias};
+ghost use Rattle.comp_types.specs.Spaces.{Space};
 ghost use Rattle.comp_scopes.specs.Judged.{Judged};
 ghost use Rattle.comp_scopes.specs.Stands.{Stands};
 
 use crate::scope::Scope;
-use comp_cores::{add_core_alias, add_core_instance, core_alias_fault, core_instance_fault};
+use crate::{add_core_alias, add_core_instance, core_alias_fault, core_instance_fault};
 use std::alloc::Global;
 use virt_base::{NoMemory, Text};
 use wasm_ast::{CoreInstance, CoreSort};

@@ -1,5 +1,5 @@
 ghost use Rattle.std.specs.Prelude.{◌≡◌, IfOk, OnOk};
-ghost use Rattle.comp_rules.specs.Rules.{is_new_in};
+ghost use Rattle.comp_types.specs.Rules.{is_new_in};
 ghost use Rattle.comp_types.specs.Items.{End, Entries, and_entry};
 ghost use Rattle.comp_types.specs.Views.{item_of};
 

@@ -1,5 +1,5 @@
 ghost use Rattle.std.specs.Prelude.{◌≡◌, ◌++◌, ◌∷◌, [], List, ℕ, OnOk};
-ghost use Rattle.comp_rules.specs.Resources.{is_among};
+ghost use Rattle.comp_types.specs.GivenResources.{is_among};
 
 use std::alloc::Global;
 use std::collections::BTreeMap;

@@ -2,18 +2,17 @@ ghost use Rattle.std.specs.Prelude.{◌≡◌, ℕ, IfOk, OnOk, option_map, slic
 ghost use Rattle.core_validate.specs.declared.item.ModuleType.{ModuleType};
 ghost use Rattle.comp_types.specs.Items.{FuncItem, InstanceItem};
 ghost use Rattle.comp_types.specs.Views.{item_of, kind_of};
-ghost use Rattle.comp_rules.specs.Added.{and_component, and_module};
-ghost use Rattle.comp_rules.specs.Rules.{lengths_of};
-ghost use Rattle.comp_rules.specs.Spaces.{NestedComponent, Space, TypeEntry, and_item, and_type, empty_space, item_at, kind_at};
-ghost use Rattle.comp_cores.specs.Found.{EachSome, IsKnownModule};
-ghost use Rattle.comp_cores.specs.Scopes.{IsCoreOf};
+ghost use Rattle.comp_types.specs.Added.{and_component, and_module};
+ghost use Rattle.comp_types.specs.Rules.{lengths_of};
+ghost use Rattle.comp_types.specs.Spaces.{NestedComponent, Space, TypeEntry, and_item, and_type, empty_space, item_at, kind_at};
+ghost use Rattle.comp_scopes.specs.Found.{EachSome, IsKnownModule};
+ghost use Rattle.comp_scopes.specs.Scopes.{IsCoreOf};
 
 use crate::entries::{KnownComponent, KnownEntry};
 use crate::named::NamedEntries;
 use crate::numbers::Numbers;
-use comp_cores::{CoreScope, KnownModule, Shared};
-use comp_rules::Lengths;
-use comp_types::{InstanceType, ItemType, KnownFunc, TypeItem};
+use crate::{CoreScope, KnownModule, Shared};
+use comp_types::{InstanceType, ItemType, KnownFunc, Lengths, TypeItem};
 use std::alloc::Global;
 use std::rc::Rc;
 use virt_base::NoMemory;

@@ -3,7 +3,7 @@ use Rattle.std.proofs.Common.{inl, inr, ℕ, ◌+◌, ◌≤◌, ◌<◌, List, 
 use Rattle.std.proofs.Math.Nat.{le-max_left, le-max_right}
 use Rattle.comp_types.specs.Items.{Entries}
 use Rattle.comp_types.specs.Substitution.{partner_in}
-use Rattle.comp_rules.specs.Resources.{named_in_func}
+use Rattle.comp_types.specs.GivenResources.{named_in_func}
 use Rattle.comp_worlds.specs.Groups.{Begins}
 use Rattle.comp_link.specs.Plans.{NamedArg, Plan, Planned}
 use Rattle.comp_link.specs.Linking.{Known, Making, begun, and_stage, givens_of, own_bound, with_component, link_item, link, all_known, behind_known}

@@ -6,7 +6,7 @@ use Rattle.wit_types.specs.PlainValue.{PlainValue, PlainValues, Payload, ListVal
 use Rattle.abi_layout.specs.Handles as abi
 use Rattle.abi_layout.specs.Handles.{item_handles, handles, field_handles, case_handles}
 use Rattle.handle_space.specs.HandleMap.{HandleMap, Answered, own_entry, add}
-use Rattle.comp_rules.specs.Resources.{named_in_value, named_in_parts, named_in_answer}
+use Rattle.comp_types.specs.GivenResources.{named_in_value, named_in_parts, named_in_answer}
 use Rattle.comp_worlds.specs.Passing.{Handle, Kind, IsOwn, IsBorrow, and_kind, kinds_in, handles_by, params_tuple, lower_borrow, and_index, add_handles}
 use Rattle.comp_worlds.specs.Locals.{with_map}
 use Rattle.comp_inside.specs.Linked.{Each}

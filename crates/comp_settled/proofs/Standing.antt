@@ -1,7 +1,7 @@
 -- What stands in a group is settled.
 use Rattle.std.proofs.Common.{◌≡◌, ℕ, ◌+◌, ◌<◌, cond, List, [], ◌∷◌, Some, None, refl, sym, ◌∙◌, ap, arith}
 use Rattle.comp_worlds.specs.Groups.{Target, Mine, Theirs, Func, LoweredFunc, ResourceNew, ResourceDrop, ResourceRep}
-use Rattle.comp_rules.specs.Resources.{named_in_func}
+use Rattle.comp_types.specs.GivenResources.{named_in_func}
 use Rattle.comp_link.specs.Linking.{Owned, Whole, canon_in, owner_in}
 use Rattle.comp_knows.proofs.Names.{each_then}
 use Rattle.comp_joins.specs.Joining.{or_else}

@@ -2,7 +2,7 @@
 -- own.)
 use Rattle.std.specs.Prelude.{◌≡◌, ℕ, ◌≤◌, ◌<◌, Option, Some}
 use Rattle.wit_types.specs.Plain.{PlainFunc}
-use Rattle.comp_rules.specs.Resources.{named_in_func}
+use Rattle.comp_types.specs.GivenResources.{named_in_func}
 use Rattle.comp_worlds.specs.Passing.{Passed, params_tuple, handles_of}
 use Rattle.comp_worlds.specs.Groups.{Target, Mine, Theirs, Func, Config}
 use Rattle.comp_worlds.specs.Locals.{adds_handles}

@@ -13,13 +13,13 @@ use Rattle.wit_types.specs.Plain.{PlainFunc}
 use Rattle.comp_facts.specs.Needs.{needs_memory, lift_needs_realloc, lower_needs_realloc}
 use Rattle.comp_types.specs.Items.{Kind, ResourceKind, ValueKind, FuncKind, InstanceKind}
 use Rattle.comp_types.specs.Substitution.{partner_in, func_with}
-use Rattle.comp_rules.specs.Definitions.{ACanon}
-use Rattle.comp_rules.specs.CoreMatching.{same_func}
-use Rattle.comp_rules.specs.Flat.{lifted_type, lowered_type}
-use Rattle.comp_rules.specs.Spaces.{Space, TypeEntry, core_func_at, kind_at}
-use Rattle.comp_rules.specs.Types.{func_in}
-use Rattle.comp_rules.specs.Rules.{if_there, all_differ, lengths_of, option_stands, is_func, is_lifted_from, is_same_option, is_memory, is_realloc, post_return_type, realloc_type, option_is_sound, is_there_if_needed, are_sound, lower_options}
-use Rattle.comp_rules.specs.Validity.{AllHold}
+use Rattle.comp_types.specs.Definitions.{ACanon}
+use Rattle.comp_types.specs.CoreMatching.{same_func}
+use Rattle.comp_types.specs.Flat.{lifted_type, lowered_type}
+use Rattle.comp_types.specs.Spaces.{Space, TypeEntry, core_func_at, kind_at}
+use Rattle.comp_types.specs.Types.{func_in}
+use Rattle.comp_types.specs.Rules.{if_there, all_differ, lengths_of, option_stands, is_func, is_lifted_from, is_same_option, is_memory, is_realloc, post_return_type, realloc_type, option_is_sound, is_there_if_needed, are_sound, lower_options}
+use Rattle.comp_types.specs.Validity.{AllHold}
 use Rattle.comp_worlds.specs.Groups.{Options}
 use Rattle.comp_link.specs.Linking.{Making, place_at, memory_in, realloc_in, post_in, options_in, lifting_of}
 use Rattle.comp_exports.proofs.Items.{get_there}

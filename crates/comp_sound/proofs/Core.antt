@@ -13,16 +13,16 @@ use Rattle.core_validate.specs.declared.item.CoreItem.TheVariants as item
 use Rattle.core_validate.specs.declared.item.CoreExport.{CoreExport}
 use Rattle.core_store.specs.declared.value.StoreFunc.{StoreFunc}
 use Rattle.core_store.specs.State.{State}
-use Rattle.core_eval.specs.Eval.{type_of as type_of_function}
-use Rattle.core_eval.specs.Scene.{Grew}
-use Rattle.core_eval.proofs.Growing.{get_more}
+use Rattle.core_store.specs.Eval.{type_of as type_of_function}
+use Rattle.core_store.specs.Scene.{Grew}
+use Rattle.core_store.proofs.Growing.{get_more}
 use Rattle.core_instance.specs.declared.external.Extern.{Extern}
 use Rattle.core_instance.specs.declared.external.Extern.TheVariants.{Func, Table, Memory, Global}
 use Rattle.core_instance.specs.declared.external.NamedExtern.{NamedExtern}
 use Rattle.core_instance.specs.Exported.{IsGiven, AreGiven}
 use Rattle.core_instance.specs.Matching.{IsOfType}
-use Rattle.comp_rules.specs.Spaces.{Space, core_item_at, core_type_of, core_func_at}
-use Rattle.comp_rules.specs.Rules.{lengths_of, core_item_stands}
+use Rattle.comp_types.specs.Spaces.{Space, core_item_at, core_type_of, core_func_at}
+use Rattle.comp_types.specs.Rules.{lengths_of, core_item_stands}
 use Rattle.comp_link.specs.Linking.{Making, place_at, core_item}
 use Rattle.comp_exports.proofs.Items.{Both, both_get, get_there}
 use Rattle.comp_sound.specs.Fits.{HasCode}

@@ -9,8 +9,8 @@ use Rattle.wit_types.specs.Layout.{flat_fields}
 use Rattle.abi_layout.specs.Functions.{flat_result}
 use Rattle.comp_facts.specs.Needs.{is_pointed, is_pointed_in, is_pointed_answer, needs_memory, lift_needs_realloc}
 use Rattle.comp_types.specs.Substitution.{value_with, parts_with, answer_with, func_with}
-use Rattle.comp_rules.specs.Flat.{lifted_type}
-use Rattle.comp_rules.specs.Rules.{post_return_type}
+use Rattle.comp_types.specs.Flat.{lifted_type}
+use Rattle.comp_types.specs.Rules.{post_return_type}
 use Rattle.comp_renames.proofs.Types.{flat_with}
 
 abbrev params_of : List CoreType → List CoreType

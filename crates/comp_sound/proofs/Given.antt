@@ -25,9 +25,9 @@ use Rattle.core_validate.specs.declared.item.CoreItem.TheVariants as item
 use Rattle.core_store.specs.declared.value.CoreSpaces.{CoreSpaces}
 use Rattle.core_store.specs.declared.value.StoreFunc.{StoreFunc}
 use Rattle.core_store.specs.State.{State}
-use Rattle.core_eval.specs.Eval.{type_of as type_of_function}
-use Rattle.core_eval.specs.Fine.{Place}
-use Rattle.core_eval.proofs.Growing.{get_within}
+use Rattle.core_store.specs.Eval.{type_of as type_of_function}
+use Rattle.core_store.specs.Fine.{Place}
+use Rattle.core_store.proofs.Growing.{get_within}
 use Rattle.core_instance.specs.declared.external.Extern.{Extern}
 use Rattle.core_instance.specs.declared.external.Extern.TheVariants.{Func}
 use Rattle.core_instance.specs.Exported.{IsGiven, AreGiven}

@@ -24,18 +24,18 @@ use Rattle.core_validate.specs.declared.item.CoreItem.{CoreItem}
 use Rattle.core_validate.specs.declared.item.CoreItem.TheVariants as item
 use Rattle.core_validate.specs.declared.item.CoreExport.{CoreExport}
 use Rattle.core_store.specs.State.{State}
-use Rattle.core_eval.proofs.Growing.{get_within}
+use Rattle.core_store.proofs.Growing.{get_within}
 use Rattle.core_instance.specs.declared.external.Extern.{Extern}
 use Rattle.core_instance.specs.declared.external.Extern.TheVariants as externs
 use Rattle.core_instance.specs.Exported.{IsGiven}
 use Rattle.core_instance.specs.Matching.{IsOfType, MatchesItem, AllMatch, ImportsMatch}
 use Rattle.core_instance.specs.Spaces.{IsThere}
 use Rattle.core_instance.proofs.ValidLemmas.{before}
-use Rattle.comp_rules.specs.CoreMatching.{same_core, same_func, same_text, meets, core_look_up}
-use Rattle.comp_rules.specs.Spaces.{Space}
-use Rattle.comp_rules.specs.Rules.{if_there, core_import_given, core_import_met}
-use Rattle.comp_cores.specs.Arguments.{instance_named}
-use Rattle.comp_cores.proofs.ArgumentLemmas.{given_in, met_in, import_given, import_met}
+use Rattle.comp_types.specs.CoreMatching.{same_core, same_func, same_text, meets, core_look_up}
+use Rattle.comp_types.specs.Spaces.{Space}
+use Rattle.comp_types.specs.Rules.{if_there, core_import_given, core_import_met}
+use Rattle.comp_scopes.specs.Arguments.{instance_named}
+use Rattle.comp_scopes.proofs.ArgumentLemmas.{given_in, met_in, import_given, import_met}
 use Rattle.comp_link.specs.Linking.{Making, core_find, arg_instance, extern_for, externs_for}
 use Rattle.comp_exports.proofs.Shapes.{some_same}
 use Rattle.comp_exports.proofs.Items.{both_get, get_there}

@@ -23,12 +23,12 @@ use Rattle.core_validate.specs.declared.item.CoreItem.TheVariants as core_items
 use Rattle.core_validate.specs.declared.item.ModuleType.{ModuleType}
 use Rattle.wit_types.specs.Plain.{Name}
 use Rattle.comp_types.specs.Items.{Item, Entries, FuncItem, InstanceItem, KindItem, look_up}
-use Rattle.comp_rules.specs.Declarations.{Declaration, ATypeDef, AnInstanceType, ATypeAlias, ATypeExport}
-use Rattle.comp_rules.specs.Spaces.{Space, TypeEntry, NestedComponent, and_type, entry_of, and_item, item_at}
-use Rattle.comp_rules.specs.Types.{kind_of}
-use Rattle.comp_rules.specs.CoreMatching.{core_look_up}
-use Rattle.comp_rules.specs.Definitions.{AnInstance, AnAlias, AType, ACanon, AnImport, AnExport}
-use Rattle.comp_rules.specs.Added.{and_again, and_export_index, and_instantiated, and_some_item, and_some_core_item, and_some_type, and_some_module, and_some_component, and_outer, and_index, and_resource, after, named_items}
+use Rattle.comp_types.specs.Declarations.{Declaration, ATypeDef, AnInstanceType, ATypeAlias, ATypeExport}
+use Rattle.comp_types.specs.Spaces.{Space, TypeEntry, NestedComponent, and_type, entry_of, and_item, item_at}
+use Rattle.comp_types.specs.Types.{kind_of}
+use Rattle.comp_types.specs.CoreMatching.{core_look_up}
+use Rattle.comp_types.specs.Definitions.{AnInstance, AnAlias, AType, ACanon, AnImport, AnExport}
+use Rattle.comp_types.specs.Added.{and_again, and_export_index, and_instantiated, and_some_item, and_some_core_item, and_some_type, and_some_module, and_some_component, and_outer, and_index, and_resource, after, named_items}
 use Rattle.comp_link.specs.Linking.{Given, GivenFunc, GivenInstance, GivenResource, GivenType, Making, and_item as and_made, and_export}
 use Rattle.comp_sound.proofs.Core.{Places, places_in, CoreTypes, core_of, CoreFits}
 

@@ -8,11 +8,11 @@ use Rattle.core_validate.specs.declared.item.ModuleType.{ModuleType}
 use Rattle.core_validate.specs.Typed.{type_of as module_type}
 use Rattle.comp_types.specs.Items.{Entries}
 use Rattle.comp_grammar.specs.Trees.{Part, Tree, CoreModule, Nested, CoreInstances, Instances, Aliases, Types, Canons, Imports, Exports, Custom, End as NoParts, More as Section}
-use Rattle.comp_rules.specs.Declarations.{grouped}
-use Rattle.comp_rules.specs.Definitions.{Definition, ACoreInstance, AnInstance, AnAlias, AType, ACanon, AnImport, AnExport, definitions}
-use Rattle.comp_rules.specs.Spaces.{Space}
-use Rattle.comp_rules.specs.Added.{and_outer, and_some_module, after, after_all, after_part, after_tree, entered, nested_of, root}
-use Rattle.comp_rules.specs.Validity.{AreValid, IsValidPart, IsValidTree}
+use Rattle.comp_types.specs.Declarations.{grouped}
+use Rattle.comp_types.specs.Definitions.{Definition, ACoreInstance, AnInstance, AnAlias, AType, ACanon, AnImport, AnExport, definitions}
+use Rattle.comp_types.specs.Spaces.{Space}
+use Rattle.comp_types.specs.Added.{and_outer, and_some_module, after, after_all, after_part, after_tree, entered, nested_of, root}
+use Rattle.comp_types.specs.Validity.{AreValid, IsValidPart, IsValidTree}
 use Rattle.comp_link.specs.Plans.{Plan, End, Then, Scope, no_scope, and_module, and_plan, followed, planned_by, and_outer as scope_and_outer, scope_after, plan_all, plan_part, plan_tree, plan_of}
 use Rattle.comp_link.specs.Linking.{Givens, Whole, Making, begun, link_item, link}
 use Rattle.comp_exports.specs.Sections.{DefinesIn, DefinesTypes}

@@ -18,11 +18,11 @@ use Rattle.core_instance.specs.Exported.{IsGiven, AreGiven}
 use Rattle.wit_types.specs.Plain.{Name}
 use Rattle.comp_types.specs.Items.{same_name}
 use Rattle.comp_types.proofs.ValueLaws.{name-sound, name-same}
-use Rattle.comp_rules.specs.CoreMatching.{same_text, core_look_up}
-use Rattle.comp_rules.specs.Spaces.{Space, and_core_item}
-use Rattle.comp_rules.specs.Added.{and_core_named, core_named}
-use Rattle.comp_rules.specs.Rules.{lengths_of, core_item_stands}
-use Rattle.comp_cores.specs.Arguments.{instance_named}
+use Rattle.comp_types.specs.CoreMatching.{same_text, core_look_up}
+use Rattle.comp_types.specs.Spaces.{Space, and_core_item}
+use Rattle.comp_types.specs.Added.{and_core_named, core_named}
+use Rattle.comp_types.specs.Rules.{lengths_of, core_item_stands}
+use Rattle.comp_scopes.specs.Arguments.{instance_named}
 use Rattle.comp_link.specs.Linking.{Making, core_find, named_core, arg_instance, and_core_item as and_made}
 use Rattle.comp_exports.proofs.Shapes.{some_same}
 use Rattle.comp_exports.proofs.Items.{both_and}

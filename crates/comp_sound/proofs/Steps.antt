@@ -32,7 +32,7 @@ use Rattle.core_validate.specs.Validity.{IsValidModule}
 use Rattle.core_store.specs.declared.value.StoreFunc.{StoreFunc}
 use Rattle.core_store.specs.declared.value.StoreFunc.TheVariants.{Outside}
 use Rattle.core_store.specs.State.{State}
-use Rattle.core_eval.specs.Scene.{Grew}
+use Rattle.core_store.specs.Scene.{Grew}
 use Rattle.core_instance.specs.declared.external.Extern.{Extern}
 use Rattle.core_instance.specs.declared.external.NamedExtern.{NamedExtern}
 use Rattle.core_instance.specs.Exported.{AreGiven}
@@ -41,15 +41,15 @@ use Rattle.core_instance.specs.Matching.{HasCounts, IsOfType}
 use Rattle.core_instance.proofs.FineLemmas.{grows}
 use Rattle.wit_types.specs.Plain.{Name}
 use Rattle.comp_types.specs.Items.{Item, Kind, Entries, ResourceKind, ValueKind, FuncKind, InstanceKind, look_up}
-use Rattle.comp_rules.specs.Declarations.{Declaration, ATypeDef, AnInstanceType, ATypeAlias, ATypeExport}
-use Rattle.comp_rules.specs.Definitions.{Definition, ACoreInstance, AnInstance, AnAlias, AType, ACanon, AnImport, AnExport}
-use Rattle.comp_rules.specs.CoreMatching.{core_look_up}
-use Rattle.comp_rules.specs.Flat.{lowered_type}
-use Rattle.comp_rules.specs.Spaces.{Space, TypeEntry, NestedComponent, core_func_at, kind_at, and_core_item}
-use Rattle.comp_rules.specs.Types.{resource_in}
-use Rattle.comp_rules.specs.Added.{exports_in, and_core_instance, and_some_core_item, lowered_at, takes_one, takes_and_gives, named_items, described, after}
-use Rattle.comp_rules.specs.Rules.{if_there, lengths_of, item_stands, desc_stands, option_stands, core_import_given, core_import_met, has_item, has_core_item, is_of_sort, is_of_core_sort, exports_sort, is_resource, is_destructor, lower_options, MeetsComponent}
-use Rattle.comp_rules.specs.Validity.{IsValidDefinition, AllHold}
+use Rattle.comp_types.specs.Declarations.{Declaration, ATypeDef, AnInstanceType, ATypeAlias, ATypeExport}
+use Rattle.comp_types.specs.Definitions.{Definition, ACoreInstance, AnInstance, AnAlias, AType, ACanon, AnImport, AnExport}
+use Rattle.comp_types.specs.CoreMatching.{core_look_up}
+use Rattle.comp_types.specs.Flat.{lowered_type}
+use Rattle.comp_types.specs.Spaces.{Space, TypeEntry, NestedComponent, core_func_at, kind_at, and_core_item}
+use Rattle.comp_types.specs.Types.{resource_in}
+use Rattle.comp_types.specs.Added.{exports_in, and_core_instance, and_some_core_item, lowered_at, takes_one, takes_and_gives, named_items, described, after}
+use Rattle.comp_types.specs.Rules.{if_there, lengths_of, item_stands, desc_stands, option_stands, core_import_given, core_import_met, has_item, has_core_item, is_of_sort, is_of_core_sort, exports_sort, is_resource, is_destructor, lower_options, MeetsComponent}
+use Rattle.comp_types.specs.Validity.{IsValidDefinition, AllHold}
 use Rattle.comp_types.specs.Substitution.{partner_in}
 use Rattle.comp_worlds.specs.Groups.{Target, Begins, LoweredFunc, ResourceNew, ResourceDrop, ResourceRep, Func as Canonical}
 use Rattle.comp_link.specs.Plans.{Plan, End, OfModule, OfComponent, Lowers, MakesResource, DropsResource, ReadsResource, Imports, Exports, Scope, if_some, just, named_by, named_args, of_core_instance, own_numbers, of_instance, of_alias, of_type, of_canon, planned_by}

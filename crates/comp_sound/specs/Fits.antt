@@ -12,8 +12,8 @@ use Rattle.core_instance.specs.Spaces.{IsThere}
 use Rattle.core_instance.specs.Instantiation.{allocated, instance_of}
 use Rattle.core_instance.specs.Matching.{HasCounts, IsOfType, ImportsMatch}
 use Rattle.comp_facts.specs.Needs.{needs_memory, lift_needs_realloc, lower_needs_realloc}
-use Rattle.comp_rules.specs.Flat.{lifted_type, lowered_type}
-use Rattle.comp_rules.specs.Rules.{post_return_type, realloc_type}
+use Rattle.comp_types.specs.Flat.{lifted_type, lowered_type}
+use Rattle.comp_types.specs.Rules.{post_return_type, realloc_type}
 use Rattle.wit_types.specs.Plain.{PlainFunc}
 use Rattle.comp_worlds.specs.Groups.{Options, Lifting}
 

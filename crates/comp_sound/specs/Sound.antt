@@ -4,8 +4,8 @@ use Rattle.std.specs.Prelude.{◌≡◌, List, [], ◌∷◌, Option, Some, slic
 use Rattle.std.specs.Option.{option_map, option_and_then}
 use Rattle.comp_types.specs.Items.{Entries}
 use Rattle.comp_grammar.specs.Trees.{Tree}
-use Rattle.comp_rules.specs.Added.{takes_one, after_tree, root}
-use Rattle.comp_rules.specs.Validity.{IsValidComponent}
+use Rattle.comp_types.specs.Added.{takes_one, after_tree, root}
+use Rattle.comp_types.specs.Validity.{IsValidComponent}
 use Rattle.comp_worlds.specs.Groups.{Target, Begins}
 use Rattle.comp_link.specs.Plans.{NamedArg, Plan, Planned, End, Then, OfModule, OfCoreItems, CoreItemOf, OfComponent, OfItems, ItemOf, NewResource, Lifts, Lowers, MakesResource, DropsResource, ReadsResource, Imports, Exports, plan_of}
 use Rattle.comp_link.specs.Linking.{find, Making, begun, and_stage, core_find, place_at, externs_for, given_at, givens_of, item_in, options_in, lifting_of, link_item, all_known, behind_known, all_outside}

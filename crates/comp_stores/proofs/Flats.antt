@@ -5,7 +5,7 @@ use Rattle.virt_base.specs.declared.core_type.CoreType.{CoreType}
 use Rattle.virt_base.specs.declared.core_type.CoreType.TheVariants.{I32, I64, Funcref, Externref}
 use Rattle.core_store.specs.declared.value.CoreValue.{CoreValue}
 use Rattle.core_store.specs.declared.value.CoreValue.TheVariants as values
-use Rattle.core_eval.specs.Words.{values_in}
+use Rattle.core_store.specs.Words.{values_in}
 use Rattle.wit_types.specs.Plain.{Width, OneByte, TwoBytes, FourBytes, EightBytes, Plain, Parts, BoolType, SignedType, UnsignedType, CharType, StringType, ListType, RecordType, VariantType, FlagsType, OwnType, BorrowType, End, More, Bare}
 use Rattle.wit_types.specs.Layout.{flat_integer, join_one, join, flat, flat_fields, flat_cases}
 use Rattle.abi_layout.specs.Storing.{FlatItem}

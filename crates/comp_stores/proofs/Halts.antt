@@ -7,7 +7,7 @@ use Rattle.std.proofs.lemmas.Bool.Decides.{nat_tests}
 use Rattle.core_memory.specs.Linear.{Linear, fresh, written}
 use Rattle.core_memory.proofs.Parts.{length_replaced}
 use Rattle.core_store.specs.State.{memory_at}
-use Rattle.core_eval.specs.Words.{words}
+use Rattle.core_store.specs.Words.{words}
 use Rattle.wit_types.specs.Plain.{Plain}
 use Rattle.wit_types.specs.PlainValue.{PlainValue}
 use Rattle.wit_types.specs.Layout.{size}

@@ -5,7 +5,7 @@ use Rattle.std.proofs.lemmas.Bool.Decides.{nat_tests}
 use Rattle.std.proofs.Math.ListN.{get_or-append}
 use Rattle.std.proofs.Math.Seq.{get_or-append_right}
 use Rattle.core_memory.specs.Number.{bytes_of}
-use Rattle.core_eval.specs.Words.{words}
+use Rattle.core_store.specs.Words.{words}
 use Rattle.abi_layout.specs.Storing.{Base, Target, Answer, Step, Ask, Write, Place, Refuse, FlatItem, Number, AnswerTo}
 use Rattle.abi_store.specs.Plan.{base_left, place_of, settled, settled_flat, settled_flats}
 use Rattle.comp_worlds.specs.Acts.{Next, Act, ◌>>◌, gives, traps}

@@ -2,7 +2,7 @@
 use Rattle.std.specs.Prelude.{ℕ, List, [], ◌∷◌, map, slice_set, Option, Some, None}
 use Rattle.core_memory.specs.Linear.{Linear}
 use Rattle.core_store.specs.State.{State}
-use Rattle.core_eval.specs.Words.{words}
+use Rattle.core_store.specs.Words.{words}
 use Rattle.abi_layout.specs.Storing.{Lowered}
 use Rattle.abi_store.specs.Plan.{Halt, Asks, Ends, Traps, Due, Nothing, Given, Asked, answered, number_in}
 use Rattle.comp_worlds.specs.Acts.{Trapped, Next, Over, Act, ◌>>◌, gives, traps}

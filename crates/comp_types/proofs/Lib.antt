@@ -11,3 +11,7 @@ pub mod EqualLaws
 pub mod WithLemmas
 pub mod FactsWith
 pub mod ItemsWith
+pub mod FaultLaws
+pub mod VerdictLaws
+pub mod Examples
+pub mod GivenLaws

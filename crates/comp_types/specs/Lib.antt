@@ -11,3 +11,14 @@ pub mod Kept
 pub mod Falls
 pub mod Placed
 pub mod Matching
+pub mod Declarations
+pub mod Spaces
+pub mod GivenResources
+pub mod Types
+pub mod Flat
+pub mod CoreMatching
+pub mod Definitions
+pub mod Added
+pub mod Rules
+pub mod Validity
+pub mod Faults

@@ -1,7 +1,7 @@
 -- A component more, and the number of the next resource behind it.
 use Rattle.std.proofs.Common.{◌≡◌, ℕ}
-use Rattle.comp_rules.specs.Spaces.{Space, NestedComponent}
-use Rattle.comp_rules.specs.Added.{and_component}
+use Rattle.comp_types.specs.Spaces.{Space, NestedComponent}
+use Rattle.comp_types.specs.Added.{and_component}
 use Rattle.comp_scopes.specs.declared.scope.Scope.{Scope}
 use Rattle.comp_scopes.specs.Stands.{Stands}
 

@@ -10,12 +10,12 @@ use Rattle.wasm_ast.specs.declared.component.Canon.{Canon}
 use Rattle.wasm_ast.specs.declared.component.ComponentImport.{ComponentImport}
 use Rattle.wasm_ast.specs.declared.component.ComponentExport.{ComponentExport}
 use Rattle.comp_grammar.specs.Trees.{Part, Tree, CoreModule, Nested, CoreInstances, Instances, Aliases, Types, Canons, Imports, Exports, Custom}
-use Rattle.comp_rules.specs.Declarations.{grouped}
-use Rattle.comp_rules.specs.Definitions.{ACoreInstance, AnInstance, AnAlias, ACanon, AnImport, AnExport, types_in}
-use Rattle.comp_rules.specs.Spaces.{Space}
-use Rattle.comp_rules.specs.Added.{entered, after_tree, and_nested}
-use Rattle.comp_rules.specs.Validity.{IsValidTree, BreaksTree}
-use Rattle.comp_rules.proofs.VerdictLaws.{sound_tree}
+use Rattle.comp_types.specs.Declarations.{grouped}
+use Rattle.comp_types.specs.Definitions.{ACoreInstance, AnInstance, AnAlias, ACanon, AnImport, AnExport, types_in}
+use Rattle.comp_types.specs.Spaces.{Space}
+use Rattle.comp_types.specs.Added.{entered, after_tree, and_nested}
+use Rattle.comp_types.specs.Validity.{IsValidTree, BreaksTree}
+use Rattle.comp_types.proofs.VerdictLaws.{sound_tree}
 use Rattle.comp_around.specs.declared.scopes.Scopes.{Scopes}
 use Rattle.comp_around.specs.Around.{StandAll}
 use Rattle.comp_around.specs.Judged.{JudgedEach}

@@ -3,8 +3,8 @@ use Rattle.std.proofs.Common.{◌≡◌, ◌∙◌, refl, sym, subst, ap, ℕ, �
 use Rattle.std.proofs.lemmas.List.{at_drop_more}
 use Rattle.wasm_ast.specs.declared.component.Section.{Section}
 use Rattle.comp_grammar.specs.Trees.{Part, Tree, End, More, plain_section, plain_sections}
-use Rattle.comp_rules.specs.Spaces.{Space}
-use Rattle.comp_rules.specs.Added.{after_part}
+use Rattle.comp_types.specs.Spaces.{Space}
+use Rattle.comp_types.specs.Added.{after_part}
 use Rattle.comp_around.specs.declared.scopes.Scopes.{Scopes}
 use Rattle.comp_around.specs.Around.{StandAll}
 use Rattle.comp_validate.specs.declared.components.Broken.{Broken}

@@ -1,8 +1,8 @@
 -- What is answered of a component.
 use Rattle.std.specs.Prelude.{◌≡◌, Result, Ok, Err}
 use Rattle.comp_grammar.specs.Trees.{Tree}
-use Rattle.comp_rules.specs.Added.{type_of}
-use Rattle.comp_rules.specs.Validity.{IsValidComponent, BreaksComponent}
+use Rattle.comp_types.specs.Added.{type_of}
+use Rattle.comp_types.specs.Validity.{IsValidComponent, BreaksComponent}
 use Rattle.comp_validate.specs.declared.fault.CompFault.{CompFault}
 use Rattle.comp_validate.specs.declared.fault.CompFault.TheVariants.{Invalid, NoMemory}
 use Rattle.comp_signature.specs.declared.ComponentType.{ComponentType}

@@ -1,9 +1,9 @@
 -- What is answered of sections: they are valid, and the innermost scope is what they add to, or the first at fault breaks this rule.
 use Rattle.std.specs.Prelude.{ℕ, List, Option, Some, None}
 use Rattle.comp_grammar.specs.Trees.{Part, Tree}
-use Rattle.comp_rules.specs.Spaces.{Space}
-use Rattle.comp_rules.specs.Added.{after_part, after_tree}
-use Rattle.comp_rules.specs.Validity.{IsValidPart, IsValidTree, BreaksPart, BreaksTree}
+use Rattle.comp_types.specs.Spaces.{Space}
+use Rattle.comp_types.specs.Added.{after_part, after_tree}
+use Rattle.comp_types.specs.Validity.{IsValidPart, IsValidTree, BreaksPart, BreaksTree}
 use Rattle.comp_around.specs.declared.scopes.Scopes.{Scopes}
 use Rattle.comp_around.specs.Around.{StandAll}
 use Rattle.comp_validate.specs.declared.components.Broken.{Broken}

@@ -1,2 +1,5 @@
 pub mod Judged
 pub mod Answer
+pub mod Rest
+pub mod Closing
+pub mod Stack

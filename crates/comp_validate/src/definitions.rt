@@ -1,6 +1,6 @@
 ghost use Rattle.std.specs.Prelude.{List, IfOk, map};
-ghost use Rattle.comp_rules.specs.Definitions.{ACanon, ACoreInstance, AnAlias, AnExport, AnImport, AnInstance};
-ghost use Rattle.comp_rules.specs.Spaces.{Space};
+ghost use Rattle.comp_types.specs.Definitions.{ACanon, ACoreInstance, AnAlias, AnExport, AnImport, AnInstance};
+ghost use Rattle.comp_types.specs.Spaces.{Space};
 ghost use Rattle.comp_around.specs.Around.{StandAll};
 ghost use Rattle.comp_around.specs.Judged.{JudgedEach, JudgedIn};
 
@@ -16,7 +16,7 @@ use wasm_ast::{Alias, Canon, ComponentExport, ComponentImport, CoreInstance, Ins
 
 /// An item of a section that is a definition.
 pub trait Defines {
-    ghost use Rattle.comp_rules.specs.Definitions.{Definition};
+    ghost use Rattle.comp_types.specs.Definitions.{Definition};
 
     ghost definition: { Self → Definition };
 

@@ -2,12 +2,17 @@
 #![tactic(auto)]
 
 mod components;
+mod declarations;
 mod definitions;
 mod fault;
+mod instance_types;
 mod nested;
+mod open_types;
 mod sections;
+mod type_sections;
 mod whole;
 
 pub use fault::CompFault;
 pub use sections::{close_nested, define_module};
+pub use type_sections::define_types;
 pub use whole::validate;

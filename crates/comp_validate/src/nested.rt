@@ -1,11 +1,10 @@
 ghost use Rattle.std.specs.Prelude.{IfOk, OnOk};
-ghost use Rattle.comp_rules.specs.Added.{and_nested, nested_of};
-ghost use Rattle.comp_rules.specs.Spaces.{Space};
+ghost use Rattle.comp_types.specs.Added.{and_nested, nested_of};
+ghost use Rattle.comp_types.specs.Spaces.{Space};
 ghost use Rattle.comp_scopes.specs.Stands.{IsNested, Stands};
 
-use comp_cores::Shared;
 use comp_externs::own_resources;
-use comp_scopes::{KnownComponent, Scope};
+use comp_scopes::{KnownComponent, Scope, Shared};
 use std::alloc::Global;
 use virt_base::NoMemory;
 

@@ -2,7 +2,7 @@
 use Rattle.std.proofs.Common.{◌≡◌, ◌≢◌, ℕ, ◌+◌, ◌&&◌, inl, inr, List, [], ◌∷◌, Option, Some, Bool, true, false, not, refl, sym, ◌∙◌, ap, subst, arith}
 use Rattle.std.specs.Option.{option_map}
 use Rattle.core_store.specs.declared.value.CoreValue.{CoreValue}
-use Rattle.core_eval.specs.Words.{words, values_in}
+use Rattle.core_store.specs.Words.{words, values_in}
 use Rattle.wit_types.specs.Plain.{Plain}
 use Rattle.wit_types.specs.HasType.{is_of}
 use Rattle.wit_types.specs.Layout.{alignment, size}

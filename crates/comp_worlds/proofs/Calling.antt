@@ -4,8 +4,8 @@ use Rattle.std.specs.Option.{option_map}
 use Rattle.core_store.specs.State.{State}
 use Rattle.core_store.specs.declared.value.CoreValue.{CoreValue}
 use Rattle.core_store.specs.declared.value.CoreValue.TheVariants as values
-use Rattle.core_eval.specs.Words.{words, values_in}
-use Rattle.core_eval.specs.Config.{Reply}
+use Rattle.core_store.specs.Words.{words, values_in}
+use Rattle.core_store.specs.Config.{Reply}
 use Rattle.wit_types.specs.Plain.{Plain}
 use Rattle.abi_layout.specs.Functions.{lowered}
 use Rattle.handle_space.specs.HandleMap.{Entry, HandleMap, Answered, entry_at, own_entry, add}

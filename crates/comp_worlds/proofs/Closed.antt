@@ -6,8 +6,8 @@ use Rattle.core_memory.specs.Number.{bytes_of}
 use Rattle.core_store.specs.State.{State}
 use Rattle.core_store.specs.declared.value.CoreValue.{CoreValue}
 use Rattle.core_store.specs.declared.value.CoreValue.TheVariants as values
-use Rattle.core_eval.specs.Words.{words}
-use Rattle.core_eval.specs.Config.{Reply}
+use Rattle.core_store.specs.Words.{words}
+use Rattle.core_store.specs.Config.{Reply}
 use Rattle.abi_layout.specs.Storing.{Step, Ask, Write, Place, Refuse, Lowered}
 use Rattle.handle_space.specs.HandleMap.{HandleMap, rep_of}
 use Rattle.comp_worlds.specs.Acts.{◌>>◌, gives}

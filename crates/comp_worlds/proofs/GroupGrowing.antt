@@ -2,11 +2,11 @@
 use Rattle.std.proofs.Common.{◌≡◌, ℕ, zero, suc, ◌+◌, ◌-◌, ◌≤◌, List, [], ◌∷◌, ◌++◌, Option, Some, None, Bool, true, false, refl, ◌∙◌, ap, arith}
 use Rattle.core_store.specs.State.{State}
 use Rattle.core_store.specs.declared.value.CoreValue.{CoreValue}
-use Rattle.core_eval.specs.Words.{words, values_in}
-use Rattle.core_eval.specs.Config.{Reply, Outcome, Done, Trapped as CoreTrapped, Asks, Spent as CoreSpent, TooDeep as CoreTooDeep}
-use Rattle.core_eval.specs.Eval.{eval}
-use Rattle.core_eval.specs.Laws.{Further}
-use Rattle.core_eval.proofs.Further.{further}
+use Rattle.core_store.specs.Words.{words, values_in}
+use Rattle.core_store.specs.Config.{Reply, Outcome, Done, Trapped as CoreTrapped, Asks, Spent as CoreSpent, TooDeep as CoreTooDeep}
+use Rattle.core_store.specs.Eval.{eval}
+use Rattle.core_store.specs.Laws.{Further}
+use Rattle.core_store.proofs.Further.{further}
 use Rattle.wit_types.specs.Plain.{Plain}
 use Rattle.abi_layout.specs.Functions.{core_params}
 use Rattle.abi_layout.specs.Storing.{Step, Ask, Write, Place, Refuse, Lowered}

@@ -4,10 +4,10 @@ use Rattle.std.specs.Option.{option_map}
 use Rattle.std.proofs.lemmas.Bool.{eqb-true, eqb-false, eq-eqb}
 use Rattle.core_store.specs.State.{State}
 use Rattle.core_store.specs.declared.value.CoreValue.{CoreValue}
-use Rattle.core_eval.specs.Config.{Reply, Outcome, Done, Trapped as CoreTrapped, Asks, Spent as CoreSpent, TooDeep as CoreTooDeep}
-use Rattle.core_eval.specs.Eval.{eval}
-use Rattle.core_eval.specs.Laws.{Further}
-use Rattle.core_eval.proofs.Further.{further}
+use Rattle.core_store.specs.Config.{Reply, Outcome, Done, Trapped as CoreTrapped, Asks, Spent as CoreSpent, TooDeep as CoreTooDeep}
+use Rattle.core_store.specs.Eval.{eval}
+use Rattle.core_store.specs.Laws.{Further}
+use Rattle.core_store.proofs.Further.{further}
 use Rattle.comp_worlds.specs.Acts.{Out, Next, Over, Spent, Act, ◌>>◌, Extends}
 use Rattle.comp_worlds.specs.Groups.{Config, World}
 use Rattle.comp_worlds.specs.Locals.{Local, with_store}

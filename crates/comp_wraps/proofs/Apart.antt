@@ -8,10 +8,10 @@ use Rattle.wasm_ast.specs.declared.component.Alias.TheVariants as aliases
 use Rattle.wasm_ast.specs.declared.component.TypeAlias.{TypeAlias}
 use Rattle.wasm_ast.specs.declared.component.TypeAlias.TheVariants as type_aliases
 use Rattle.comp_grammar.specs.Trees.{Part, Tree, CoreModule, Nested, CoreInstances, Instances, Aliases, Types, Canons, Imports, Exports, Custom, End as NoParts, More as Section}
-use Rattle.comp_rules.specs.Declarations.{Declaration, Declarations, ATypeDef, AnInstanceType, ATypeAlias, ATypeExport, Done, Then}
-use Rattle.comp_rules.specs.Definitions.{Definition, ACoreInstance, AnInstance, AnAlias, AType, ACanon, AnImport, AnExport, definitions}
-use Rattle.comp_rules.specs.Spaces.{Space}
-use Rattle.comp_rules.specs.Added.{and_outer, and_alias, and_type_alias, and_depth, and_instance_type, instance_type, opened, after_declaration, after_declarations, after, after_all, entered, and_nested, after_part, after_tree, root}
+use Rattle.comp_types.specs.Declarations.{Declaration, Declarations, ATypeDef, AnInstanceType, ATypeAlias, ATypeExport, Done, Then}
+use Rattle.comp_types.specs.Definitions.{Definition, ACoreInstance, AnInstance, AnAlias, AType, ACanon, AnImport, AnExport, definitions}
+use Rattle.comp_types.specs.Spaces.{Space}
+use Rattle.comp_types.specs.Added.{and_outer, and_alias, and_type_alias, and_depth, and_instance_type, instance_type, opened, after_declaration, after_declarations, after, after_all, entered, and_nested, after_part, after_tree, root}
 use Rattle.comp_link.specs.Plans.{Scope, no_scope, and_plan, Plan, End, followed, planned_by, and_outer as scope_and_outer, scope_after, Reached, behind, plan_all, plan_part, plan_tree}
 
 -- ---- the spaces

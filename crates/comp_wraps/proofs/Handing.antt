@@ -8,10 +8,10 @@ use Rattle.wit_types.specs.Plain.{Name}
 use Rattle.comp_types.specs.Items.{same_name}
 use Rattle.comp_types.specs.Substitution.{partner_in}
 use Rattle.comp_types.proofs.ValueLaws.{name-sound, name-same}
-use Rattle.comp_rules.specs.Definitions.{AnAlias, AnExport}
-use Rattle.comp_rules.specs.Spaces.{Space, kind_at}
-use Rattle.comp_rules.specs.Types.{resource_in}
-use Rattle.comp_rules.specs.Added.{after}
+use Rattle.comp_types.specs.Definitions.{AnAlias, AnExport}
+use Rattle.comp_types.specs.Spaces.{Space, kind_at}
+use Rattle.comp_types.specs.Types.{resource_in}
+use Rattle.comp_types.specs.Added.{after}
 use Rattle.comp_worlds.specs.Groups.{Target}
 use Rattle.comp_link.specs.Plans.{Named, AFunc, AnInstanceAt, Scope, Plan, End, Then, ItemOf, Exports, named_by, resource_or_type, plan_all}
 use Rattle.comp_link.specs.Linking.{Given, Givens, GivenFunc, GivenInstance, GivenResource, GivenType, Nothing, Giving, find, and_given, Making, given_at, and_item, item_in, and_export, link_item, link, target_in, instance_in, exported}

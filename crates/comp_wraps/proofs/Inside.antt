@@ -21,7 +21,7 @@ use Rattle.core_instance.specs.Instantiation.{instantiated, instance_of}
 use Rattle.wit_types.specs.Plain.{Name, PlainFunc}
 use Rattle.comp_types.specs.Items.{Item, Entries, FuncItem, InstanceItem, KindItem, End as NoEntries, More as Entry, same_name}
 use Rattle.comp_types.specs.Substitution.{partner_in}
-use Rattle.comp_rules.specs.Added.{takes_and_gives, takes_one}
+use Rattle.comp_types.specs.Added.{takes_and_gives, takes_one}
 use Rattle.comp_worlds.specs.Groups.{Target, Mine, Func as Canon, LoweredFunc, ResourceNew, ResourceDrop, ResourceRep, Stage, Provides, Makes, Begins}
 use Rattle.comp_parts.specs.Parts.{func_to, stage_to, stages_to}
 use Rattle.comp_link.specs.Plans.{Named, AFunc, AnInstanceAt, AResource, AValueType, NamedArg, Plan, Planned, End, Then, OfModule, OfCoreItems, CoreItemOf, OfComponent, OfItems, ItemOf, NewResource, Lifts, Lowers, MakesResource, DropsResource, ReadsResource, Imports, Exports}

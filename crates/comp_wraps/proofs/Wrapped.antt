@@ -10,9 +10,9 @@ use Rattle.wasm_ast.specs.declared.component.Instance.TheVariants as instances
 use Rattle.wit_types.specs.Plain.{Name}
 use Rattle.comp_types.specs.Items.{Item, FuncItem, InstanceItem, KindItem, End as NoEntries}
 use Rattle.comp_grammar.specs.Trees.{Tree}
-use Rattle.comp_rules.specs.Definitions.{AnAlias, AnExport}
-use Rattle.comp_rules.specs.Spaces.{Space, TypeEntry, item_at}
-use Rattle.comp_rules.specs.Added.{and_some_item, and_some_type, and_again, and_nested, nested_of, and_instance, after, after_all, after_tree, root}
+use Rattle.comp_types.specs.Definitions.{AnAlias, AnExport}
+use Rattle.comp_types.specs.Spaces.{Space, TypeEntry, item_at}
+use Rattle.comp_types.specs.Added.{and_some_item, and_some_type, and_again, and_nested, nested_of, and_instance, after, after_all, after_tree, root}
 use Rattle.comp_worlds.specs.Groups.{Theirs, Begins}
 use Rattle.comp_parts.specs.Parts.{func_to, owner_to}
 use Rattle.comp_link.specs.Plans.{Scope, no_scope, and_plan, Plan, End, Then, followed, own_numbers, plan_all, plan_tree, plan_of}

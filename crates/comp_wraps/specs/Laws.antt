@@ -5,7 +5,7 @@ use Rattle.wit_types.specs.Plain.{Name}
 use Rattle.host_port.specs.Hosts.{HostStep}
 use Rattle.comp_types.specs.Items.{End}
 use Rattle.comp_grammar.specs.Trees.{Tree}
-use Rattle.comp_rules.specs.Added.{type_of}
+use Rattle.comp_types.specs.Added.{type_of}
 use Rattle.comp_worlds.specs.Acts.{observed_of, seen_of}
 use Rattle.comp_worlds.specs.Groups.{Nesting, Theirs, Begins, Group}
 use Rattle.comp_worlds.specs.Observed.{Call, runs_calls, SameObservations}

@@ -30,10 +30,10 @@ use Rattle.core_memory.specs.declared.fault.StoreFault.TheVariants as faults
 use Rattle.core_store.specs.declared.value.CoreSpaces.{CoreSpaces}
 use Rattle.core_store.specs.declared.value.StoreFunc.{StoreFunc}
 use Rattle.core_store.specs.State.{State, memory_at, table_at, segment_at, elements_at}
-use Rattle.core_eval.specs.Eval.{type_of as type_of_function}
-use Rattle.core_eval.specs.Fine.{Place}
-use Rattle.core_eval.specs.Scene.{Scene, Grows, CameBack, scene_of}
-use Rattle.core_eval.proofs.Growing.{get_within}
+use Rattle.core_store.specs.Eval.{type_of as type_of_function}
+use Rattle.core_store.specs.Fine.{Place}
+use Rattle.core_store.specs.Scene.{Scene, Grows, CameBack, scene_of}
+use Rattle.core_store.proofs.Growing.{get_within}
 use Rattle.core_sound.specs.Sound.{Callee, Suits}
 use Rattle.core_instance.specs.declared.constants.Names.{Names}
 use Rattle.core_instance.specs.declared.external.CoreInstance.{CoreInstance}

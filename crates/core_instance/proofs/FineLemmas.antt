@@ -21,11 +21,11 @@ use Rattle.core_store.specs.State.{State}
 use Rattle.core_validate.specs.Items.{body_type}
 use Rattle.core_validate.specs.Spaces.{context}
 use Rattle.core_validate.specs.Validity.{IsValidModule}
-use Rattle.core_eval.specs.Config.{bare, spaces_of}
-use Rattle.core_eval.specs.Eval.{function_type}
-use Rattle.core_eval.specs.Scene.{Scene, Grows, scene_of, instance_of}
-use Rattle.core_eval.specs.Fine.{Frame, frame_at, Fine, FineFunction, IsFine}
-use Rattle.core_eval.proofs.Growing.{get_within, fine_store}
+use Rattle.core_store.specs.Config.{bare, spaces_of}
+use Rattle.core_store.specs.Eval.{function_type}
+use Rattle.core_store.specs.Scene.{Scene, Grows, scene_of, instance_of}
+use Rattle.core_store.specs.Fine.{Frame, frame_at, Fine, FineFunction, IsFine}
+use Rattle.core_store.proofs.Growing.{get_within, fine_store}
 use Rattle.core_sound.proofs.FineLemmas.{body_fine}
 use Rattle.core_instance.specs.declared.external.CoreInstance.{CoreInstance}
 use Rattle.core_instance.specs.declared.external.Extern.{Extern}

@@ -11,7 +11,7 @@ use Rattle.core_memory.specs.Replaced.{replaced}
 use Rattle.core_store.specs.declared.value.CoreRef.{CoreRef}
 use Rattle.core_store.specs.declared.value.CoreSpaces.{CoreSpaces}
 use Rattle.core_store.specs.State.{State, memory_at, table_at, segment_at, elements_at}
-use Rattle.core_eval.specs.Scene.{Scene, scene_of}
+use Rattle.core_store.specs.Scene.{Scene, scene_of}
 use Rattle.core_instance.specs.declared.constants.Names.{Names}
 use Rattle.core_instance.specs.declared.external.Extern.{Extern}
 use Rattle.core_instance.specs.Spaces.{places_of}

@@ -8,7 +8,7 @@ use Rattle.core_validate.specs.Typed.{type_of}
 use Rattle.core_memory.specs.declared.fault.StoreFault.{StoreFault}
 use Rattle.core_memory.specs.declared.fault.StoreFault.TheVariants.{Trap, NoMemory}
 use Rattle.core_store.specs.State.{State}
-use Rattle.core_eval.specs.Scene.{CameBack}
+use Rattle.core_store.specs.Scene.{CameBack}
 use Rattle.core_instance.specs.declared.external.Extern.{Extern}
 use Rattle.core_instance.specs.declared.external.Extern.TheVariants.{Func, Table, Memory, Global}
 use Rattle.core_instance.specs.declared.external.NamedExtern.{NamedExtern}

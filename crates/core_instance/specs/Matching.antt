@@ -10,9 +10,9 @@ use Rattle.core_memory.specs.declared.fault.StoreFault.{StoreFault}
 use Rattle.core_memory.specs.declared.fault.StoreFault.TheVariants.{Trap, NoMemory}
 use Rattle.core_store.specs.declared.value.StoreFunc.{StoreFunc}
 use Rattle.core_store.specs.State.{State}
-use Rattle.core_eval.specs.Eval.{type_of}
-use Rattle.core_eval.specs.Scene.{scene_of}
-use Rattle.core_eval.specs.Fine.{IsFine}
+use Rattle.core_store.specs.Eval.{type_of}
+use Rattle.core_store.specs.Scene.{scene_of}
+use Rattle.core_store.specs.Fine.{IsFine}
 use Rattle.core_instance.specs.declared.external.Extern.{Extern}
 use Rattle.core_instance.specs.declared.external.Extern.TheVariants.{Func, Table, Memory, Global}
 use Rattle.core_instance.specs.declared.external.CoreInstance.{CoreInstance}

@@ -1,5 +1,5 @@
 ghost use Rattle.std.specs.Prelude.{◌≡◌, ◌↔◌, IsTrue, slice_get};
-ghost use Rattle.core_eval.specs.Eval.{type_of as type_of_function};
+ghost use Rattle.core_store.specs.Eval.{type_of as type_of_function};
 ghost use Rattle.core_instance.specs.Matching.{IsOfType, MatchesItem, ImportsMatch};
 
 use crate::external::{Extern, Externs};

@@ -3,7 +3,7 @@ use Rattle.std.proofs.Common.{◌≡◌, ◌≢◌, ℕ, suc, ◌+◌, ◌<◌, 
 use Rattle.std.specs.Prelude.{◌&&◌}
 use Rattle.std.proofs.lemmas.List.{drop_more, drop_all}
 use Rattle.virt_base.specs.declared.core_type.CoreType.{CoreType}
-use Rattle.core_eval.specs.Eval.{same_type, same_types}
+use Rattle.core_store.specs.Eval.{same_type, same_types}
 
 and_false : (a b : Bool) → b ≡ false → (a && b) ≡ false
 and_false true b e = e

@@ -10,9 +10,9 @@ use Rattle.core_code.specs.declared.brackets.Jump.{Jump}
 use Rattle.core_code.specs.Jumps.{JumpsFrom}
 use Rattle.core_store.specs.declared.value.CoreSpaces.{CoreSpaces}
 use Rattle.core_store.specs.State.{State}
-use Rattle.core_eval.specs.Scene.{scene_of}
-use Rattle.core_eval.specs.Eval.{target}
-use Rattle.core_eval.specs.Fine.{Names}
+use Rattle.core_store.specs.Scene.{scene_of}
+use Rattle.core_store.specs.Eval.{target}
+use Rattle.core_store.specs.Fine.{Names}
 use Rattle.core_slots.specs.Stacked.{Stacked}
 use Rattle.core_interp.specs.declared.running.Running.{Running}
 use Rattle.core_interp.specs.Plains.{Did}

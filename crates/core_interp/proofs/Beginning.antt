@@ -10,10 +10,10 @@ use Rattle.core_store.specs.declared.value.CoreValue.{CoreValue}
 use Rattle.core_store.specs.declared.value.StoreFunc.{StoreFunc}
 use Rattle.core_store.specs.declared.value.StoreFunc.TheVariants.{Inside, Outside}
 use Rattle.core_store.specs.State.{State, can_enter}
-use Rattle.core_eval.specs.Words.{words, values_in, HaveTypes}
-use Rattle.core_eval.specs.Config.{Reply, Done, Asks, bare, spaces_of}
-use Rattle.core_eval.specs.Eval.{arguments, function_type, go, exec, finish, entered, enter_within, call_end, entered_store, begun}
-use Rattle.core_eval.proofs.Steps.{go_enter}
+use Rattle.core_store.specs.Words.{words, values_in, HaveTypes}
+use Rattle.core_store.specs.Config.{Reply, Done, Asks, bare, spaces_of}
+use Rattle.core_store.specs.Eval.{arguments, function_type, go, exec, finish, entered, enter_within, call_end, entered_store, begun}
+use Rattle.core_store.proofs.Steps.{go_enter}
 use Rattle.core_slots.specs.Stacked.{Stacked, opened}
 use Rattle.core_interp.specs.declared.control.Control.{Control}
 use Rattle.core_interp.specs.declared.control.Control.TheVariants.{Entry}
@@ -21,14 +21,14 @@ use Rattle.core_interp.specs.declared.machine.Stage.TheVariants.{Starts, Runs, A
 use Rattle.core_interp.specs.declared.machine.Machine.{Machine}
 use Rattle.core_interp.specs.declared.machine.Pause.{Pause}
 use Rattle.core_interp.specs.declared.machine.Pause.TheVariants as pauses
-use Rattle.core_eval.specs.Scene.{Scene, scene_of, code_of, instance_of, results_at, IsInside}
+use Rattle.core_store.specs.Scene.{Scene, scene_of, code_of, instance_of, results_at, IsInside}
 use Rattle.core_interp.specs.Rest.{config_of, goes_with, goes_at}
-use Rattle.core_eval.specs.Fine.{frame_at, Fine, IsFine, params_of}
+use Rattle.core_store.specs.Fine.{frame_at, Fine, IsFine, params_of}
 use Rattle.core_interp.specs.Valid.{IsReady}
 use Rattle.core_interp.specs.Run.{progress, calls, entries, ReadyAt}
 use Rattle.core_interp.specs.Session.{results_due, goes_on, IsFirst, CanRun, IsAnswer, resumed, PauseLeads, granted, asking, AsksBy, Dues}
 use Rattle.core_interp.proofs.Given.{pushed}
-use Rattle.core_eval.proofs.Growing.{functions_longer}
+use Rattle.core_store.proofs.Growing.{functions_longer}
 use Rattle.core_interp.proofs.Pauses.{goes_at_stage, staged_at, at_stage, due_leads, asked_same, asks_only, due_more, asked_for, arguments_typed, words_len}
 
 pub first_of : (m : Machine) (s : State) → m.stage ≡ Starts → CanRun m s → IsFirst m s

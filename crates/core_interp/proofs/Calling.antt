@@ -17,16 +17,16 @@ use Rattle.core_store.specs.declared.value.StoreFunc.{StoreFunc}
 use Rattle.core_store.specs.declared.value.StoreFunc.TheVariants.{Inside, Outside}
 use Rattle.core_store.specs.Table.{got}
 use Rattle.core_store.specs.State.{State, can_enter, table_at}
-use Rattle.core_eval.specs.Words.{words, i32_in}
-use Rattle.core_eval.specs.Config.{Reply, Config, Over, Asks, Trapped, then_do, spaces_of, type_at}
-use Rattle.core_eval.specs.Eval.{type_of, function_type, same_type, same_types, same_func, enter_if, call_ref, call_place, indirect, Enter, exec, go, entered, enter_within, call_end, begun, entered_store, deep, arguments}
-use Rattle.core_eval.proofs.Steps.{go_enter}
+use Rattle.core_store.specs.Words.{words, i32_in}
+use Rattle.core_store.specs.Config.{Reply, Config, Over, Asks, Trapped, then_do, spaces_of, type_at}
+use Rattle.core_store.specs.Eval.{type_of, function_type, same_type, same_types, same_func, enter_if, call_ref, call_place, indirect, Enter, exec, go, entered, enter_within, call_end, begun, entered_store, deep, arguments}
+use Rattle.core_store.proofs.Steps.{go_enter}
 use Rattle.core_slots.specs.Stacked.{Stacked, with_operands, opened}
 use Rattle.core_interp.specs.declared.control.Control.{Control}
 use Rattle.core_interp.specs.declared.control.Control.TheVariants.{Called}
-use Rattle.core_eval.specs.Scene.{Scene, scene_of, code_at, spaces_at, results_at, IsInside}
+use Rattle.core_store.specs.Scene.{Scene, scene_of, code_at, spaces_at, results_at, IsInside}
 use Rattle.core_interp.specs.Rest.{AfterCall, after, conts, config_of, goes_with}
-use Rattle.core_eval.specs.Fine.{Frame, Place, frame_at, Fine, IsFine, params_of, results_of}
+use Rattle.core_store.specs.Fine.{Frame, Place, frame_at, Fine, IsFine, params_of, results_of}
 use Rattle.core_interp.specs.Valid.{arities, Stands, IsReady}
 use Rattle.core_interp.specs.Jumping.{IsEntering, enters}
 use Rattle.core_interp.specs.Run.{answered}

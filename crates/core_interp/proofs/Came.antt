@@ -6,8 +6,8 @@ use Rattle.wasm_ast.specs.declared.instr.Instr.{Instr}
 use Rattle.wasm_ast.specs.declared.instr.Instr.TheVariants.{Plain}
 use Rattle.core_store.specs.declared.value.CoreSpaces.{CoreSpaces}
 use Rattle.core_store.specs.State.{State}
-use Rattle.core_eval.specs.Scene.{scene_of, code_at, spaces_at}
-use Rattle.core_eval.specs.Fine.{Names, takes}
+use Rattle.core_store.specs.Scene.{scene_of, code_at, spaces_at}
+use Rattle.core_store.specs.Fine.{Names, takes}
 use Rattle.core_slots.specs.Stacked.{Stacked}
 use Rattle.core_interp.specs.declared.running.Running.{Running}
 use Rattle.core_interp.specs.Plains.{Does}

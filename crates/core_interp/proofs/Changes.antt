@@ -9,8 +9,8 @@ use Rattle.core_memory.specs.Linear.{Linear, Writes, Moves, Grows}
 use Rattle.core_store.specs.declared.value.CoreRef.{CoreRef}
 use Rattle.core_store.specs.Table.{Entries, Sets, Fills, Moves as MovesRefs, Grows as GrowsTable}
 use Rattle.core_store.specs.State.{State, memory_at, table_at, InMemory, InTable}
-use Rattle.core_eval.specs.Effects.{with_memory, with_table, put_bytes, move_bytes, set_ref, fill_refs, move_refs, grow_memory, grow_table}
-use Rattle.core_eval.specs.Scene.{scene_of}
+use Rattle.core_store.specs.Effects.{with_memory, with_table, put_bytes, move_bytes, set_ref, fill_refs, move_refs, grow_memory, grow_table}
+use Rattle.core_store.specs.Scene.{scene_of}
 use Rattle.core_interp.specs.Plains.{Stays, Made, word_of_answer}
 
 pub stays_memory : (s : State) (k : ℕ) (m : Linear) → Stays s (with_memory s k m)

@@ -15,18 +15,18 @@ use Rattle.core_store.specs.declared.value.StoreFunc.{StoreFunc}
 use Rattle.core_store.specs.declared.value.StoreFunc.TheVariants.{Inside, Outside}
 use Rattle.core_store.specs.Table.{got}
 use Rattle.core_store.specs.State.{State, can_enter, table_at}
-use Rattle.core_eval.specs.Words.{i32_in}
-use Rattle.core_eval.specs.Config.{Reply, Out, Over, Outcome, Trapped, Asks, then_do, spaces_of, type_at}
-use Rattle.core_eval.specs.Eval.{call_ref, exec, go, type_of, same_func, entered_store, deep, arguments}
+use Rattle.core_store.specs.Words.{i32_in}
+use Rattle.core_store.specs.Config.{Reply, Out, Over, Outcome, Trapped, Asks, then_do, spaces_of, type_at}
+use Rattle.core_store.specs.Eval.{call_ref, exec, go, type_of, same_func, entered_store, deep, arguments}
 use Rattle.core_slots.specs.Stacked.{Stacked, with_operands, opened}
 use Rattle.core_interp.specs.declared.control.Control.{Control}
 use Rattle.core_interp.specs.declared.control.Control.TheVariants.{Called}
 use Rattle.core_interp.specs.declared.control.Flow.{Flow}
 use Rattle.core_interp.specs.declared.control.Flow.TheVariants.{On, Ended, Failed, Asking, Exhausted, Deep}
 use Rattle.core_interp.specs.declared.running.Running.{Running}
-use Rattle.core_eval.specs.Scene.{scene_of, code_of, code_at, instance_of, spaces_at, IsInside}
+use Rattle.core_store.specs.Scene.{scene_of, code_of, code_at, instance_of, spaces_at, IsInside}
 use Rattle.core_interp.specs.Rest.{after, conts, config_of, goes_with, goes_at}
-use Rattle.core_eval.specs.Fine.{Place, frame_at, IsFine}
+use Rattle.core_store.specs.Fine.{Place, frame_at, IsFine}
 use Rattle.core_interp.specs.Valid.{IsReady}
 use Rattle.core_interp.specs.Jumping.{IsEntering, enters}
 use Rattle.core_interp.specs.Run.{progress, calls, ReadyAt, IsBefore, LeadsTo, AsksFor, Leads, steps, next_parts, Enters, entry, answered}

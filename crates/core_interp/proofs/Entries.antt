@@ -7,7 +7,7 @@ use Rattle.core_interp.specs.declared.control.Flow.{Flow}
 use Rattle.core_interp.specs.declared.control.Flow.TheVariants.{On, Ended, Failed, Asking, Exhausted, Deep}
 use Rattle.core_interp.specs.declared.running.Running.{Running}
 use Rattle.core_store.specs.State.{State}
-use Rattle.core_eval.specs.Config.{Reply, Out}
+use Rattle.core_store.specs.Config.{Reply, Out}
 use Rattle.core_interp.specs.Jumping.{beyond}
 use Rattle.core_interp.specs.Valid.{arities}
 use Rattle.core_interp.specs.Run.{progress, ahead, entries, outermost, Remains, IsNoTrap, TrapsBehind, Branches}

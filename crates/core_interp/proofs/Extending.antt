@@ -4,15 +4,15 @@ use Rattle.wasm_ast.specs.declared.instr.Instr.{Instr}
 use Rattle.core_code.specs.Tree.{Part, first, later, parts}
 use Rattle.core_store.specs.declared.value.CoreSpaces.{CoreSpaces}
 use Rattle.core_store.specs.State.{State}
-use Rattle.core_eval.specs.Config.{Reply}
-use Rattle.core_eval.specs.Eval.{exec, go}
+use Rattle.core_store.specs.Config.{Reply}
+use Rattle.core_store.specs.Eval.{exec, go}
 use Rattle.core_slots.specs.Stacked.{Held, Stacked}
 use Rattle.core_interp.specs.declared.control.Control.{Control}
 use Rattle.core_interp.specs.declared.control.Control.TheVariants.{Label, Called, Entry}
-use Rattle.core_eval.specs.Scene.{Grew, scene_of, code_at, spaces_at}
+use Rattle.core_store.specs.Scene.{Grew, scene_of, code_at, spaces_at}
 use Rattle.core_interp.specs.Rest.{Cont, AfterLabel, AfterCall, after, conts, config_of, goes_at}
-use Rattle.core_eval.specs.Fine.{Frame, frame_at, Fine}
-use Rattle.core_eval.proofs.Growing.{inside_more, code_more, spaces_at_more, frame_more, fine_more}
+use Rattle.core_store.specs.Fine.{Frame, frame_at, Fine}
+use Rattle.core_store.proofs.Growing.{inside_more, code_more, spaces_at_more, frame_more, fine_more}
 use Rattle.core_interp.specs.Valid.{arities, Stands, IsReady}
 use Rattle.core_interp.specs.Run.{ReadyAt}
 

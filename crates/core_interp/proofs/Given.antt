@@ -11,16 +11,16 @@ use Rattle.core_code.specs.Jumps.{JumpsFrom}
 use Rattle.core_code.specs.Tree.{Stop, Part, first, later, placed, parts}
 use Rattle.core_store.specs.declared.value.CoreSpaces.{CoreSpaces}
 use Rattle.core_store.specs.State.{State}
-use Rattle.core_eval.specs.Words.{i32_in}
-use Rattle.core_eval.specs.Config.{Reply, Out, Next, kept, block_params, block_results}
-use Rattle.core_eval.specs.Eval.{left_store}
+use Rattle.core_store.specs.Words.{i32_in}
+use Rattle.core_store.specs.Config.{Reply, Out, Next, kept, block_params, block_results}
+use Rattle.core_store.specs.Eval.{left_store}
 use Rattle.core_slots.specs.Stacked.{Held, Stacked, with_operands, closed}
 use Rattle.core_interp.specs.declared.control.Control.{Control}
 use Rattle.core_interp.specs.declared.control.Control.TheVariants.{Label, Called, Entry}
 use Rattle.core_interp.specs.declared.running.Running.{Running}
-use Rattle.core_eval.specs.Scene.{Scene, scene_of, code_at, spaces_at}
+use Rattle.core_store.specs.Scene.{Scene, scene_of, code_at, spaces_at}
 use Rattle.core_interp.specs.Rest.{goes_with, goes_at}
-use Rattle.core_eval.specs.Fine.{Frame, frame_at, IsBlock}
+use Rattle.core_store.specs.Fine.{Frame, frame_at, IsBlock}
 use Rattle.core_interp.specs.Valid.{IsReady}
 use Rattle.core_interp.specs.Jumping.{IsJumping, jumps, IsReturning, returns_from, beyond}
 use Rattle.core_interp.specs.Run.{progress, goes, own_parts, calls, ReadyAt, Ready, IsBefore, LeadsTo, ended, steps, next_parts, Branches, branches, Returns, backs}

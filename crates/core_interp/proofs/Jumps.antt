@@ -6,14 +6,14 @@ use Rattle.wasm_ast.specs.declared.instr.Instr.{Instr}
 use Rattle.core_code.specs.Tree.{Seq, Stop, Part, first, later, parts}
 use Rattle.core_store.specs.declared.value.CoreSpaces.{CoreSpaces}
 use Rattle.core_store.specs.State.{State}
-use Rattle.core_eval.specs.Config.{Reply, Next, Break, Back, kept}
-use Rattle.core_eval.specs.Eval.{exec, go, left_store}
+use Rattle.core_store.specs.Config.{Reply, Next, Break, Back, kept}
+use Rattle.core_store.specs.Eval.{exec, go, left_store}
 use Rattle.core_slots.specs.Stacked.{Held, Stacked, with_operands, closed}
 use Rattle.core_interp.specs.declared.control.Control.{Control}
 use Rattle.core_interp.specs.declared.control.Control.TheVariants.{Label, Called, Entry}
-use Rattle.core_eval.specs.Scene.{Scene, code_at, spaces_at, IsInside}
+use Rattle.core_store.specs.Scene.{Scene, code_at, spaces_at, IsInside}
 use Rattle.core_interp.specs.Rest.{after, conts, config_of, goes_with}
-use Rattle.core_eval.specs.Fine.{Frame, frame_at, Reaches, Fine}
+use Rattle.core_store.specs.Fine.{Frame, frame_at, Reaches, Fine}
 use Rattle.core_interp.specs.Valid.{arities, Stands, IsReady}
 use Rattle.core_interp.specs.Jumping.{IsJumping, jumps, IsReturning, returns_from, beyond}
 use Rattle.core_interp.specs.Run.{ended}

@@ -8,14 +8,14 @@ use Rattle.wasm_ast.specs.declared.instr.Instr.{Instr}
 use Rattle.core_code.specs.Tree.{Seq, Then, InLoop, Part, first, later, onto, placed, parts}
 use Rattle.core_store.specs.declared.value.CoreSpaces.{CoreSpaces}
 use Rattle.core_store.specs.State.{State}
-use Rattle.core_eval.specs.Config.{Reply, Config, Outcome, Trapped, Out, Next, Break, Back, Over, then_do, with_stack, kept}
-use Rattle.core_eval.specs.Eval.{block_end, step_then, loop_end, Turn, single, exec, go}
+use Rattle.core_store.specs.Config.{Reply, Config, Outcome, Trapped, Out, Next, Break, Back, Over, then_do, with_stack, kept}
+use Rattle.core_store.specs.Eval.{block_end, step_then, loop_end, Turn, single, exec, go}
 use Rattle.core_slots.specs.Stacked.{Held, Stacked}
 use Rattle.core_interp.specs.declared.control.Control.{Control}
 use Rattle.core_interp.specs.declared.control.Control.TheVariants.{Label, Called, Entry}
-use Rattle.core_eval.specs.Scene.{Scene, code_at}
+use Rattle.core_store.specs.Scene.{Scene, code_at}
 use Rattle.core_interp.specs.Rest.{AfterLabel, label_end, after, conts, config_of, goes_with}
-use Rattle.core_eval.specs.Fine.{Frame, frame_at, FineOne, Fine}
+use Rattle.core_store.specs.Fine.{Frame, frame_at, FineOne, Fine}
 use Rattle.core_interp.specs.Valid.{arities, Stands, IsReady}
 
 pub parts_at : (code : List Instr) (at : ℕ) (i : Instr) → slice_get code at ≡ Some i → parts (drop at code) ≡ placed i (parts (drop (at + 1) code))

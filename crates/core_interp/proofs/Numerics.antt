@@ -10,11 +10,11 @@ use Rattle.wasm_ast.specs.declared.instr.Op.TheVariants as op
 use Rattle.core_integer.specs.Integer.{integer}
 use Rattle.core_store.specs.declared.value.CoreSpaces.{CoreSpaces}
 use Rattle.core_store.specs.State.{State}
-use Rattle.core_eval.specs.Config.{Reply}
-use Rattle.core_eval.specs.Plain.{calculate, with_ok, operand_in}
+use Rattle.core_store.specs.Config.{Reply}
+use Rattle.core_store.specs.Plain.{calculate, with_ok, operand_in}
 use Rattle.core_slots.specs.Stacked.{Stacked, with_operands}
 use Rattle.core_interp.specs.Rest.{config_of}
-use Rattle.core_eval.specs.Fine.{numeric_takes}
+use Rattle.core_store.specs.Fine.{numeric_takes}
 use Rattle.core_interp.specs.Plains.{Stays, Did, Puts}
 use Rattle.core_interp.proofs.Changes.{if_true, if_false}
 

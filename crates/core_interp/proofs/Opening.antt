@@ -6,16 +6,16 @@ use Rattle.wasm_ast.specs.declared.instr.Instr.TheVariants.{Block, Loop, If}
 use Rattle.core_code.specs.Tree.{Seq, Stop, Part, first, later, placed, parts}
 use Rattle.core_store.specs.declared.value.CoreSpaces.{CoreSpaces}
 use Rattle.core_store.specs.State.{State}
-use Rattle.core_eval.specs.Words.{i32_in}
-use Rattle.core_eval.specs.Config.{Reply, then_do, block_params, block_results}
-use Rattle.core_eval.specs.Eval.{block_end, Turn, choose, exec, go}
-use Rattle.core_eval.proofs.Steps.{go_turn}
+use Rattle.core_store.specs.Words.{i32_in}
+use Rattle.core_store.specs.Config.{Reply, then_do, block_params, block_results}
+use Rattle.core_store.specs.Eval.{block_end, Turn, choose, exec, go}
+use Rattle.core_store.proofs.Steps.{go_turn}
 use Rattle.core_slots.specs.Stacked.{Stacked, with_operands}
 use Rattle.core_interp.specs.declared.control.Control.{Control}
 use Rattle.core_interp.specs.declared.control.Control.TheVariants.{Label}
-use Rattle.core_eval.specs.Scene.{Scene}
+use Rattle.core_store.specs.Scene.{Scene}
 use Rattle.core_interp.specs.Rest.{label_end, after, conts, config_of, goes_with}
-use Rattle.core_eval.specs.Fine.{Frame, Fine, IsBlock}
+use Rattle.core_store.specs.Fine.{Frame, Fine, IsBlock}
 use Rattle.core_interp.specs.Valid.{arities, Stands, IsReady}
 use Rattle.core_interp.proofs.Moves.{conts_later, stands_later, block_after, loop_after}
 

@@ -10,9 +10,9 @@ use Rattle.core_store.specs.declared.value.CoreValue.{CoreValue}
 use Rattle.core_store.specs.declared.value.StoreFunc.{StoreFunc}
 use Rattle.core_store.specs.declared.value.StoreFunc.TheVariants.{Inside, Outside}
 use Rattle.core_store.specs.State.{State}
-use Rattle.core_eval.specs.Words.{words, value_in, values_in, HasType, HaveTypes}
-use Rattle.core_eval.specs.Config.{Reply, Outcome, Done, Asks, bare}
-use Rattle.core_eval.specs.Eval.{Enter, arguments, function_type, deep, go, finish, eval}
+use Rattle.core_store.specs.Words.{words, value_in, values_in, HasType, HaveTypes}
+use Rattle.core_store.specs.Config.{Reply, Outcome, Done, Asks, bare}
+use Rattle.core_store.specs.Eval.{Enter, arguments, function_type, deep, go, finish, eval}
 use Rattle.core_slots.specs.Stacked.{Stacked, with_operands}
 use Rattle.core_interp.specs.declared.control.Flow.TheVariants.{Ended, Failed, Asking, Exhausted, Deep}
 use Rattle.core_interp.specs.declared.running.Running.{Running}
@@ -21,12 +21,12 @@ use Rattle.core_interp.specs.declared.machine.Stage.TheVariants.{Starts, Runs, A
 use Rattle.core_interp.specs.declared.machine.Machine.{Machine}
 use Rattle.core_interp.specs.declared.machine.Pause.{Pause}
 use Rattle.core_interp.specs.declared.machine.Pause.TheVariants as pauses
-use Rattle.core_eval.specs.Scene.{Scene, Grew, CameBack, scene_of, results_at}
+use Rattle.core_store.specs.Scene.{Scene, Grew, CameBack, scene_of, results_at}
 use Rattle.core_interp.specs.Rest.{config_of, goes_at}
-use Rattle.core_eval.specs.Fine.{params_of}
+use Rattle.core_store.specs.Fine.{params_of}
 use Rattle.core_interp.specs.Run.{progress, goes, ReadyAt, Ready, answered, RunLeads, ahead, outermost, Remains, TrapsBehind}
 use Rattle.core_interp.specs.Session.{Asked, results_due, goes_staged, goes_on, IsStaged, CanRun, answered_slots, resumed, PauseLeads, granted, IsCallable, PauseTraps, asking, AsksBy, Dues}
-use Rattle.core_eval.proofs.Growing.{function_more, functions_longer}
+use Rattle.core_store.proofs.Growing.{function_more, functions_longer}
 use Rattle.core_interp.proofs.Extending.{ready_at_more, goes_at_more}
 
 -- ---- start

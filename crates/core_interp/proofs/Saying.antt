@@ -4,13 +4,13 @@ use Rattle.std.specs.Prelude.{reverse, slice_get}
 use Rattle.std.proofs.lemmas.List.{append-nil}
 use Rattle.core_store.specs.declared.value.CoreValue.{CoreValue}
 use Rattle.core_store.specs.State.{State}
-use Rattle.core_eval.specs.Words.{words, HaveTypes}
-use Rattle.core_eval.specs.Config.{Reply, Outcome, Done, Asks}
-use Rattle.core_eval.specs.Eval.{eval}
-use Rattle.core_eval.specs.Scene.{Scene, Grew, CameBack, scene_of, results_at}
-use Rattle.core_eval.specs.Laws.{Further, Answers, StoreIs}
-use Rattle.core_eval.proofs.Further.{further}
-use Rattle.core_eval.proofs.Stores.{grew_on, grew_self, grew_same, stores_back}
+use Rattle.core_store.specs.Words.{words, HaveTypes}
+use Rattle.core_store.specs.Config.{Reply, Outcome, Done, Asks}
+use Rattle.core_store.specs.Eval.{eval}
+use Rattle.core_store.specs.Scene.{Scene, Grew, CameBack, scene_of, results_at}
+use Rattle.core_store.specs.Laws.{Further, Answers, StoreIs}
+use Rattle.core_store.proofs.Further.{further}
+use Rattle.core_store.proofs.Stores.{grew_on, grew_self, grew_same, stores_back}
 use Rattle.core_slots.specs.Stacked.{Stacked, with_operands}
 use Rattle.core_interp.specs.declared.running.Running.{Running}
 use Rattle.core_interp.specs.declared.machine.Stage.TheVariants.{Starts}

@@ -4,8 +4,8 @@ use Rattle.std.specs.Prelude.{slice_get}
 use Rattle.std.proofs.lemmas.Option.{slice_get_within}
 use Rattle.core_store.specs.declared.value.StoreFunc.{StoreFunc}
 use Rattle.core_store.specs.State.{State}
-use Rattle.core_eval.specs.Scene.{Scene, scene_of, IsInside}
-use Rattle.core_eval.specs.Fine.{Place}
+use Rattle.core_store.specs.Scene.{Scene, scene_of, IsInside}
+use Rattle.core_store.specs.Fine.{Place}
 
 within_cases : (w : Scene) (fs : List StoreFunc) (f : ℕ) → IsInside w (slice_get fs f) → f < length fs
 within_cases w [] f h = absurd h

@@ -14,17 +14,17 @@ use Rattle.core_code.specs.declared.brackets.Jump.{Jump}
 use Rattle.core_code.specs.Jumps.{JumpsFrom}
 use Rattle.core_code.specs.Tree.{Stop, Then, Part, first, later, onto, placed, parts}
 use Rattle.core_store.specs.State.{State}
-use Rattle.core_eval.specs.Words.{i32_in}
-use Rattle.core_eval.specs.Config.{Reply, Config, Out, Next, Break, Back, Over, Trapped, Spent, then_do}
-use Rattle.core_eval.specs.Plain.{plain}
-use Rattle.core_eval.specs.Eval.{single, exec, go, advance, choose, target}
+use Rattle.core_store.specs.Words.{i32_in}
+use Rattle.core_store.specs.Config.{Reply, Config, Out, Next, Break, Back, Over, Trapped, Spent, then_do}
+use Rattle.core_store.specs.Plain.{plain}
+use Rattle.core_store.specs.Eval.{single, exec, go, advance, choose, target}
 use Rattle.core_slots.specs.Stacked.{Stacked, with_operands}
 use Rattle.core_interp.specs.declared.control.Flow.{Flow}
 use Rattle.core_interp.specs.declared.control.Flow.TheVariants.{On, Ended, Failed, Asking, Exhausted, Deep}
 use Rattle.core_interp.specs.declared.running.Running.{Running}
-use Rattle.core_eval.specs.Scene.{Scene, scene_of}
+use Rattle.core_store.specs.Scene.{Scene, scene_of}
 use Rattle.core_interp.specs.Rest.{after, conts, config_of, goes_with}
-use Rattle.core_eval.specs.Fine.{Frame, frame_at, FineOne, Names, takes, gives}
+use Rattle.core_store.specs.Fine.{Frame, frame_at, FineOne, Names, takes, gives}
 use Rattle.core_interp.specs.Valid.{IsReady}
 use Rattle.core_interp.specs.Plains.{Does}
 use Rattle.core_interp.specs.Run.{progress, goes, own_parts, Ready, IsBefore, LeadsTo, Leads, RunLeads, ahead, TrapsBehind, steps, AsksFor, next_parts, Branches, branches, Returns, backs, IsCounted, Performs, HasTable, TakesLabel, Steps}

@@ -12,9 +12,9 @@ use Rattle.core_integer.specs.Operators.{undefined}
 use Rattle.core_integer.specs.Integer.{integer, results}
 use Rattle.core_store.specs.declared.value.CoreSpaces.{CoreSpaces}
 use Rattle.core_store.specs.State.{State, empty}
-use Rattle.core_eval.specs.Config.{Config, bare}
-use Rattle.core_eval.specs.Plain.{calculate, on_one, on_two, with_ok, operand_in}
-use Rattle.core_eval.specs.Fine.{numeric_takes}
+use Rattle.core_store.specs.Config.{Config, bare}
+use Rattle.core_store.specs.Plain.{calculate, on_one, on_two, with_ok, operand_in}
+use Rattle.core_store.specs.Fine.{numeric_takes}
 use Rattle.core_slots.specs.Stacked.{Stacked, with_operands}
 use Rattle.core_interp.specs.Plains.{Does, Did}
 use Rattle.core_interp.specs.Straight.{Takes, is_total}

@@ -7,8 +7,8 @@ use Rattle.core_store.specs.declared.value.CoreValue.{CoreValue}
 use Rattle.core_store.specs.declared.value.CoreValue.TheVariants.{I32, I64, Ref}
 use Rattle.core_store.specs.Table.{IsRef}
 use Rattle.core_store.specs.State.{State, IsStoreRef, IsStoreValue, IsSameType}
-use Rattle.core_eval.specs.Words.{ref_in, value_like}
-use Rattle.core_eval.specs.Scene.{scene_of}
+use Rattle.core_store.specs.Words.{ref_in, value_like}
+use Rattle.core_store.specs.Scene.{scene_of}
 use Rattle.core_interp.specs.Plains.{Stays}
 
 chosen_names : (n f : ℕ) (b : Bool) → nat_lt f n ≡ b → IsRef n (if b then Func f else Null)

@@ -4,15 +4,15 @@ use Rattle.wasm_ast.specs.declared.instr.Instr.{Instr}
 use Rattle.core_code.specs.Tree.{Part, first}
 use Rattle.core_store.specs.declared.value.CoreSpaces.{CoreSpaces}
 use Rattle.core_store.specs.State.{State}
-use Rattle.core_eval.specs.Config.{Reply, Out, Break, Back, then_do}
-use Rattle.core_eval.specs.Eval.{Enter, exec, go}
+use Rattle.core_store.specs.Config.{Reply, Out, Break, Back, then_do}
+use Rattle.core_store.specs.Eval.{Enter, exec, go}
 use Rattle.core_store.specs.declared.value.StoreFunc.{StoreFunc}
 use Rattle.core_slots.specs.Stacked.{Stacked}
 use Rattle.core_interp.specs.declared.control.Control.{Control}
 use Rattle.core_interp.specs.declared.control.Control.TheVariants.{Label, Called, Entry}
-use Rattle.core_eval.specs.Scene.{Scene}
+use Rattle.core_store.specs.Scene.{Scene}
 use Rattle.core_interp.specs.Rest.{after, conts, config_of}
-use Rattle.core_eval.specs.Fine.{Frame, Reaches, Fine, params_of, results_of}
+use Rattle.core_store.specs.Fine.{Frame, Reaches, Fine, params_of, results_of}
 use Rattle.core_interp.specs.Valid.{arities, Stands}
 
 -- a branch to label k can be made

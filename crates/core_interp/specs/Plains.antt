@@ -4,13 +4,13 @@ use Rattle.std.specs.Int.{w32, cast_unsigned}
 use Rattle.wasm_ast.specs.declared.instr.Op.{Op}
 use Rattle.core_store.specs.declared.value.CoreSpaces.{CoreSpaces}
 use Rattle.core_store.specs.State.{State}
-use Rattle.core_eval.specs.Config.{Reply}
-use Rattle.core_eval.specs.Plain.{plain}
+use Rattle.core_store.specs.Config.{Reply}
+use Rattle.core_store.specs.Plain.{plain}
 use Rattle.core_slots.specs.Stacked.{Stacked, with_operands}
 use Rattle.virt_base.specs.declared.fault.Trap.{Trap}
-use Rattle.core_eval.specs.Scene.{scene_of}
+use Rattle.core_store.specs.Scene.{scene_of}
 use Rattle.core_interp.specs.Rest.{config_of}
-use Rattle.core_eval.specs.Fine.{takes, gives}
+use Rattle.core_store.specs.Fine.{takes, gives}
 
 -- a store changed, but for what no instruction changes
 pub record Stays (s t : State) : Type 0 where

@@ -4,12 +4,12 @@ use Rattle.wasm_ast.specs.declared.instr.Instr.{Instr}
 use Rattle.core_code.specs.Tree.{Seq, Part, first, later, parts}
 use Rattle.core_store.specs.declared.value.CoreSpaces.{CoreSpaces}
 use Rattle.core_store.specs.State.{State}
-use Rattle.core_eval.specs.Config.{Reply, Config, Trapped, Out, Next, Break, Back, Over, then_do, with_stack, kept, bare}
-use Rattle.core_eval.specs.Eval.{call_end, exec, go}
+use Rattle.core_store.specs.Config.{Reply, Config, Trapped, Out, Next, Break, Back, Over, then_do, with_stack, kept, bare}
+use Rattle.core_store.specs.Eval.{call_end, exec, go}
 use Rattle.core_slots.specs.Stacked.{Held, Stacked}
 use Rattle.core_interp.specs.declared.control.Control.{Control}
 use Rattle.core_interp.specs.declared.control.Control.TheVariants.{Label, Called, Entry}
-use Rattle.core_eval.specs.Scene.{Scene, code_at, spaces_at}
+use Rattle.core_store.specs.Scene.{Scene, code_at, spaces_at}
 
 -- what comes after a piece: for each block, loop and call in progress, the innermost first. A branch to a label goes on with `target`
 pub data Cont : Type 0 where

@@ -11,18 +11,18 @@ use Rattle.core_code.specs.Tree.{Part, parts}
 use Rattle.core_store.specs.declared.value.CoreValue.{CoreValue}
 use Rattle.core_store.specs.declared.value.StoreFunc.TheVariants.{Outside}
 use Rattle.core_store.specs.State.{State}
-use Rattle.core_eval.specs.Words.{words}
-use Rattle.core_eval.specs.Config.{Reply, Config, Trapped, Asks, Spent, Out, Next, Over, bare}
-use Rattle.core_eval.specs.Eval.{target, arguments, deep}
+use Rattle.core_store.specs.Words.{words}
+use Rattle.core_store.specs.Config.{Reply, Config, Trapped, Asks, Spent, Out, Next, Over, bare}
+use Rattle.core_store.specs.Eval.{target, arguments, deep}
 use Rattle.core_slots.specs.Stacked.{Stacked, with_operands}
 use Rattle.core_interp.specs.declared.control.Control.{Control}
 use Rattle.core_interp.specs.declared.control.Control.TheVariants.{Label, Called, Entry}
 use Rattle.core_interp.specs.declared.control.Flow.{Flow}
 use Rattle.core_interp.specs.declared.control.Flow.TheVariants.{On, Ended, Failed, Asking, Exhausted, Deep}
 use Rattle.core_interp.specs.declared.running.Running.{Running}
-use Rattle.core_eval.specs.Scene.{Scene, scene_of, code_at, spaces_at, IsInside}
+use Rattle.core_store.specs.Scene.{Scene, scene_of, code_at, spaces_at, IsInside}
 use Rattle.core_interp.specs.Rest.{goes_at}
-use Rattle.core_eval.specs.Fine.{frame_at}
+use Rattle.core_store.specs.Fine.{frame_at}
 use Rattle.core_interp.specs.Valid.{IsReady}
 use Rattle.core_interp.specs.Jumping.{IsJumping, jumps, IsReturning, returns_from, IsEntering, enters}
 

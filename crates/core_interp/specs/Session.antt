@@ -6,19 +6,19 @@ use Rattle.core_store.specs.declared.value.StoreFunc.{StoreFunc}
 use Rattle.core_store.specs.declared.value.StoreFunc.TheVariants.{Inside, Outside}
 use Rattle.wasm_ast.specs.declared.module.CoreFunc.{CoreFunc}
 use Rattle.core_store.specs.State.{State}
-use Rattle.core_eval.specs.Words.{words, values_in, HaveTypes}
-use Rattle.core_eval.specs.Config.{Reply, Outcome, Done, Trapped, Asks, Spent, bare}
-use Rattle.core_eval.specs.Eval.{Enter, arguments, function_type, deep, go, finish, eval}
+use Rattle.core_store.specs.Words.{words, values_in, HaveTypes}
+use Rattle.core_store.specs.Config.{Reply, Outcome, Done, Trapped, Asks, Spent, bare}
+use Rattle.core_store.specs.Eval.{Enter, arguments, function_type, deep, go, finish, eval}
 use Rattle.core_slots.specs.Stacked.{Stacked, with_operands}
 use Rattle.core_interp.specs.declared.machine.Stage.{Stage}
 use Rattle.core_interp.specs.declared.machine.Stage.TheVariants.{Starts, Runs, Answered, Due}
 use Rattle.core_interp.specs.declared.machine.Machine.{Machine}
 use Rattle.core_interp.specs.declared.machine.Pause.{Pause}
 use Rattle.core_interp.specs.declared.machine.Pause.TheVariants as pauses
-use Rattle.core_eval.specs.Scene.{Grew, CameBack, scene_of, results_at}
-use Rattle.core_eval.specs.Laws.{Answers}
+use Rattle.core_store.specs.Scene.{Grew, CameBack, scene_of, results_at}
+use Rattle.core_store.specs.Laws.{Answers}
 use Rattle.core_interp.specs.Rest.{config_of}
-use Rattle.core_eval.specs.Fine.{params_of}
+use Rattle.core_store.specs.Fine.{params_of}
 use Rattle.core_interp.specs.Run.{goes, Ready, outermost}
 
 -- the types of the results that are due

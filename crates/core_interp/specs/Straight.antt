@@ -4,8 +4,8 @@ use Rattle.virt_base.specs.declared.core_type.CoreType.{CoreType}
 use Rattle.wasm_ast.specs.declared.numeric.Numeric.{Numeric}
 use Rattle.wasm_ast.specs.Numeric.{is_from_to}
 use Rattle.core_store.specs.State.{State}
-use Rattle.core_eval.specs.Config.{Reply}
-use Rattle.core_eval.specs.Scene.{scene_of}
+use Rattle.core_store.specs.Config.{Reply}
+use Rattle.core_store.specs.Scene.{scene_of}
 use Rattle.core_interp.specs.declared.running.Running.{Running}
 use Rattle.core_interp.specs.Run.{goes, ahead, Ready}
 

@@ -2,8 +2,8 @@
 use Rattle.std.specs.Prelude.{ℕ, ◌≡◌, ◌+◌, ◌-◌, ◌≤◌, List, [], ◌∷◌, drop, length, slice_get}
 use Rattle.wasm_ast.specs.declared.instr.Instr.{Instr}
 use Rattle.core_code.specs.Tree.{Part, first, later, parts}
-use Rattle.core_eval.specs.Scene.{Scene, code_at, IsInside}
-use Rattle.core_eval.specs.Fine.{Frame, Fine, frame_at}
+use Rattle.core_store.specs.Scene.{Scene, code_at, IsInside}
+use Rattle.core_store.specs.Fine.{Frame, Fine, frame_at}
 use Rattle.core_slots.specs.Stacked.{Held, Stacked}
 use Rattle.core_interp.specs.declared.control.Control.{Control}
 use Rattle.core_interp.specs.declared.control.Control.TheVariants.{Label, Called, Entry}

@@ -2,7 +2,7 @@
 
 ghost use Rattle.std.specs.Prelude.{◌≡◌, ◌+◌, ◌≤◌, IfOk, length};
 ghost use Rattle.core_interp.specs.Run.{IsBefore, Leads, Remains, steps};
-ghost use Rattle.core_eval.specs.Scene.{scene_of, code_at, spaces_at};
+ghost use Rattle.core_store.specs.Scene.{scene_of, code_at, spaces_at};
 
 use crate::control::{Control, Flow};
 use crate::fetch::{block_params, block_results, jump_at};

@@ -3,10 +3,10 @@
 ghost use Rattle.std.specs.Prelude.{◌≡◌, ◌≤◌, ◌<◌, IfOk, length};
 ghost use Rattle.core_memory.specs.Replaced.{repeated};
 ghost use Rattle.core_store.specs.State.{memory_at, segment_at};
-ghost use Rattle.core_eval.specs.Effects.{put_bytes, move_bytes};
-ghost use Rattle.core_eval.specs.Scene.{scene_of};
+ghost use Rattle.core_store.specs.Effects.{put_bytes, move_bytes};
+ghost use Rattle.core_store.specs.Scene.{scene_of};
 ghost use Rattle.core_interp.specs.Groups.{IsOnBytes};
-ghost use Rattle.core_eval.specs.Fine.{takes, Names};
+ghost use Rattle.core_store.specs.Fine.{takes, Names};
 ghost use Rattle.core_interp.specs.Plains.{Did, Made};
 
 use crate::fetch::{memory_place, segment_place};

@@ -1,10 +1,10 @@
 //! Calls.
 
 ghost use Rattle.std.specs.Prelude.{◌≡◌, ◌+◌, ◌≤◌, IfOk, length};
-ghost use Rattle.core_eval.specs.Scene.{scene_of, spaces_at};
-ghost use Rattle.core_eval.specs.Fine.{IsFine};
+ghost use Rattle.core_store.specs.Scene.{scene_of, spaces_at};
+ghost use Rattle.core_store.specs.Fine.{IsFine};
 ghost use Rattle.core_interp.specs.Run.{IsBefore, Leads, Remains, Enters, entry, steps};
-ghost use Rattle.core_eval.specs.Eval.{same_type as are_same, same_types as all_same, same_func as is_same, type_of as type_of_function};
+ghost use Rattle.core_store.specs.Eval.{same_type as are_same, same_types as all_same, same_func as is_same, type_of as type_of_function};
 
 use crate::control::{Control, Flow};
 use crate::fetch::{function_place, table_place, type_at};

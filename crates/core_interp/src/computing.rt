@@ -4,7 +4,7 @@ ghost use Rattle.std.specs.Prelude.{◌≡◌, ◌≤◌, true, length};
 ghost use Rattle.wasm_ast.specs.Numeric.{numeric};
 ghost use Rattle.core_store.specs.declared.value.CoreSpaces.{CoreSpaces};
 ghost use Rattle.core_store.specs.State.{State};
-ghost use Rattle.core_eval.specs.Fine.{takes};
+ghost use Rattle.core_store.specs.Fine.{takes};
 ghost use Rattle.core_interp.specs.Plains.{Does};
 ghost use Rattle.core_interp.specs.Straight.{Takes, is_total};
 

@@ -3,9 +3,9 @@
 ghost use Rattle.std.specs.Prelude.{◌≡◌, ◌<◌, ◌+◌, ◌^◌, Some, IfOk, length, slice_get};
 ghost use Rattle.core_code.specs.Jumps.{JumpsFrom};
 ghost use Rattle.wasm_ast.specs.declared.instr.Instr.{Instr};
-ghost use Rattle.core_eval.specs.Config.{block_params as params_of_block, block_results as results_of_block, type_at as type_in};
-ghost use Rattle.core_eval.specs.Scene.{scene_of, code_at, spaces_at, IsInside};
-ghost use Rattle.core_eval.specs.Fine.{Place, IsBlock};
+ghost use Rattle.core_store.specs.Config.{block_params as params_of_block, block_results as results_of_block, type_at as type_in};
+ghost use Rattle.core_store.specs.Scene.{scene_of, code_at, spaces_at, IsInside};
+ghost use Rattle.core_store.specs.Fine.{Place, IsBlock};
 
 use core_code::{Code, Jump};
 use core_store::{CoreSpaces, Shared, Store, StoreFunc, function, spaces};

@@ -3,11 +3,11 @@
 ghost use Rattle.std.specs.Prelude.{◌≡◌, ◌-◌, ◌<◌, ◌≤◌, ◌++◌, [], ℕ, List, IfOk, OnOk, length, slice_get, reverse, take, replicate};
 ghost use Rattle.core_store.specs.State.{State};
 ghost use Rattle.core_store.specs.declared.value.CoreValue.{CoreValue};
-ghost use Rattle.core_eval.specs.Words.{values_in};
-ghost use Rattle.core_eval.specs.Config.{Reply};
+ghost use Rattle.core_store.specs.Words.{values_in};
+ghost use Rattle.core_store.specs.Config.{Reply};
 ghost use Rattle.core_slots.specs.Stacked.{with_operands};
-ghost use Rattle.core_eval.specs.Scene.{scene_of};
-ghost use Rattle.core_eval.specs.Fine.{IsFine};
+ghost use Rattle.core_store.specs.Scene.{scene_of};
+ghost use Rattle.core_store.specs.Fine.{IsFine};
 ghost use Rattle.core_interp.specs.Session.{goes_on, results_due, CanRun, IsCallable, IsOutside, params_at, AsksBy, Dues, PauseLeads, PauseTraps, granted, Follows, Pauses, IsAwaited, awaited, resumed};
 
 use crate::calls::type_of;

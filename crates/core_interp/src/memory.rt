@@ -2,12 +2,12 @@
 
 ghost use Rattle.std.specs.Prelude.{◌≡◌, ◌≤◌, ◌<◌, ◌^◌, IfOk, length};
 ghost use Rattle.core_memory.specs.Number.{IsWidth, bytes_of};
-ghost use Rattle.core_eval.specs.Plain.{load_bytes, store_bytes, extended as extended_by};
+ghost use Rattle.core_store.specs.Plain.{load_bytes, store_bytes, extended as extended_by};
 ghost use Rattle.core_integer.specs.Integer.{converted as converted_by};
-ghost use Rattle.core_eval.specs.Effects.{put_bytes, grown_size, grow_memory};
-ghost use Rattle.core_eval.specs.Scene.{scene_of};
+ghost use Rattle.core_store.specs.Effects.{put_bytes, grown_size, grow_memory};
+ghost use Rattle.core_store.specs.Scene.{scene_of};
 ghost use Rattle.core_interp.specs.Groups.{IsOnMemory};
-ghost use Rattle.core_eval.specs.Fine.{takes, Names};
+ghost use Rattle.core_store.specs.Fine.{takes, Names};
 ghost use Rattle.core_interp.specs.Plains.{Did, Made, Stays, word_of_answer};
 
 use crate::fetch::memory_place;

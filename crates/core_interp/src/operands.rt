@@ -4,12 +4,12 @@ ghost use Rattle.std.specs.Prelude.{◌≡◌, ◌<◌, ◌≤◌, IfOk, length,
 ghost use Rattle.core_integer.specs.Integer.{IsOperand};
 ghost use Rattle.core_store.specs.declared.value.CoreSpaces.{CoreSpaces};
 ghost use Rattle.core_store.specs.State.{State};
-ghost use Rattle.core_eval.specs.Plain.{operand_in};
-ghost use Rattle.core_eval.specs.Words.{i32_in};
-ghost use Rattle.core_eval.specs.Scene.{scene_of};
+ghost use Rattle.core_store.specs.Plain.{operand_in};
+ghost use Rattle.core_store.specs.Words.{i32_in};
+ghost use Rattle.core_store.specs.Scene.{scene_of};
 ghost use Rattle.core_slots.specs.Stacked.{with_operands};
 ghost use Rattle.core_interp.specs.Groups.{IsOnOperands};
-ghost use Rattle.core_eval.specs.Fine.{takes, Names};
+ghost use Rattle.core_store.specs.Fine.{takes, Names};
 ghost use Rattle.core_interp.specs.Plains.{Did, Does, Puts};
 
 use crate::fetch::function_place;

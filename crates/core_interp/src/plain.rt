@@ -1,8 +1,8 @@
 //! The instructions that go on to the next.
 
 ghost use Rattle.std.specs.Prelude.{◌≡◌, ◌≤◌, IfOk, length};
-ghost use Rattle.core_eval.specs.Scene.{scene_of};
-ghost use Rattle.core_eval.specs.Fine.{takes, Names};
+ghost use Rattle.core_store.specs.Scene.{scene_of};
+ghost use Rattle.core_store.specs.Fine.{takes, Names};
 ghost use Rattle.core_interp.specs.Plains.{Did};
 
 use crate::bytes::on_bytes;

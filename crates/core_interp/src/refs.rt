@@ -2,10 +2,10 @@
 
 ghost use Rattle.std.specs.Prelude.{◌≡◌, ◌≤◌, ◌<◌, IfOk, length};
 ghost use Rattle.core_store.specs.State.{IsStoreRef, table_at, elements_at};
-ghost use Rattle.core_eval.specs.Effects.{fill_refs, move_refs};
-ghost use Rattle.core_eval.specs.Scene.{scene_of};
+ghost use Rattle.core_store.specs.Effects.{fill_refs, move_refs};
+ghost use Rattle.core_store.specs.Scene.{scene_of};
 ghost use Rattle.core_interp.specs.Groups.{IsOnRefs};
-ghost use Rattle.core_eval.specs.Fine.{takes, Names};
+ghost use Rattle.core_store.specs.Fine.{takes, Names};
 ghost use Rattle.core_interp.specs.Plains.{Did, Made};
 
 use crate::fetch::{element_place, table_place};

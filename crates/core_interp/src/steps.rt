@@ -1,10 +1,10 @@
 //! The instructions, one after another.
 
 ghost use Rattle.std.specs.Prelude.{◌≡◌, ◌+◌, ◌-◌, ◌*◌, ◌<◌, ◌≤◌, Some, IfOk, length, slice_get};
-ghost use Rattle.core_eval.specs.Eval.{target as target_of};
+ghost use Rattle.core_store.specs.Eval.{target as target_of};
 ghost use Rattle.wasm_ast.specs.declared.instr.Instr.{Instr};
-ghost use Rattle.core_eval.specs.Scene.{scene_of, code_at, spaces_at};
-ghost use Rattle.core_eval.specs.Fine.{IsFine};
+ghost use Rattle.core_store.specs.Scene.{scene_of, code_at, spaces_at};
+ghost use Rattle.core_store.specs.Fine.{IsFine};
 ghost use Rattle.core_interp.specs.Run.{IsBefore, IsTable, HasTable, TakesLabel, Leads, Performs, steps, Steps, Ready, goes, ahead, RunLeads, Remains, TrapsBehind, Falls, Stops};
 
 use crate::control::Flow;

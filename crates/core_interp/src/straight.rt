@@ -1,7 +1,7 @@
 //! Frequent instructions that go on to the next, one after another, with the place and the budget at hand.
 
 ghost use Rattle.std.specs.Prelude.{◌≡◌, IfOk, length};
-ghost use Rattle.core_eval.specs.Scene.{scene_of, code_at, spaces_at};
+ghost use Rattle.core_store.specs.Scene.{scene_of, code_at, spaces_at};
 ghost use Rattle.core_interp.specs.Run.{Ready};
 ghost use Rattle.core_interp.specs.Straight.{Came};
 

@@ -2,11 +2,11 @@
 
 ghost use Rattle.std.specs.Prelude.{◌≡◌, ◌≤◌, ◌<◌, IfOk, length};
 ghost use Rattle.core_store.specs.State.{IsStoreRef};
-ghost use Rattle.core_eval.specs.Words.{ref_in};
-ghost use Rattle.core_eval.specs.Effects.{set_ref, grown_table_size, grow_table};
-ghost use Rattle.core_eval.specs.Scene.{scene_of};
+ghost use Rattle.core_store.specs.Words.{ref_in};
+ghost use Rattle.core_store.specs.Effects.{set_ref, grown_table_size, grow_table};
+ghost use Rattle.core_store.specs.Scene.{scene_of};
 ghost use Rattle.core_interp.specs.Groups.{IsOnTable};
-ghost use Rattle.core_eval.specs.Fine.{takes, Names};
+ghost use Rattle.core_store.specs.Fine.{takes, Names};
 ghost use Rattle.core_interp.specs.Plains.{Did, Made, Stays};
 
 use crate::fetch::table_place;

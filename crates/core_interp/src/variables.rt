@@ -3,9 +3,9 @@
 ghost use Rattle.std.specs.Prelude.{◌≡◌, ◌<◌, ◌≤◌, IfOk, length};
 ghost use Rattle.core_store.specs.declared.value.CoreSpaces.{CoreSpaces};
 ghost use Rattle.core_store.specs.State.{State};
-ghost use Rattle.core_eval.specs.Scene.{scene_of};
+ghost use Rattle.core_store.specs.Scene.{scene_of};
 ghost use Rattle.core_interp.specs.Groups.{IsOnVariable};
-ghost use Rattle.core_eval.specs.Fine.{takes, Names};
+ghost use Rattle.core_store.specs.Fine.{takes, Names};
 ghost use Rattle.core_interp.specs.Plains.{Did, Does};
 
 use crate::fetch::global_place;

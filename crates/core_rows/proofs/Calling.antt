@@ -3,8 +3,8 @@ use Rattle.std.proofs.Common.{◌≡◌, ℕ, ◌+◌, ◌-◌, ◌≤◌, List,
 use Rattle.std.specs.Prelude.{slice_get}
 use Rattle.core_store.specs.declared.value.CoreValue.{CoreValue}
 use Rattle.core_store.specs.State.{State}
-use Rattle.core_eval.specs.Config.{Reply}
-use Rattle.core_eval.proofs.Stores.{back_self}
+use Rattle.core_store.specs.Config.{Reply}
+use Rattle.core_store.proofs.Stores.{back_self}
 use Rattle.core_interp.specs.declared.machine.Machine.{Machine}
 use Rattle.core_interp.specs.declared.machine.Pause.{Pause}
 use Rattle.core_interp.specs.declared.machine.Pause.TheVariants.{AtHost}

@@ -2,8 +2,8 @@
 
 ghost use Rattle.std.specs.Prelude.{◌<◌, IsTrue, IfOk, length, slice_get};
 ghost use Rattle.std.specs.List.{All};
-ghost use Rattle.core_eval.specs.Scene.{scene_of};
-ghost use Rattle.core_eval.specs.Fine.{IsFine};
+ghost use Rattle.core_store.specs.Scene.{scene_of};
+ghost use Rattle.core_store.specs.Fine.{IsFine};
 ghost use Rattle.core_instance.specs.Spaces.{IsThere};
 ghost use Rattle.core_interp.specs.Session.{IsCallable};
 

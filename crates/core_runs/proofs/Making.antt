@@ -5,7 +5,7 @@ use Rattle.wasm_ast.specs.declared.module.Module.{Module}
 use Rattle.core_memory.specs.declared.fault.StoreFault.{StoreFault}
 use Rattle.core_memory.specs.declared.fault.StoreFault.TheVariants.{Trap, NoMemory}
 use Rattle.core_store.specs.State.{State}
-use Rattle.core_eval.specs.Scene.{scene_of}
+use Rattle.core_store.specs.Scene.{scene_of}
 use Rattle.core_instance.specs.declared.external.Extern.{Extern}
 use Rattle.core_instance.specs.Instantiation.{Answers, allocated, instantiated}
 use Rattle.core_instance.proofs.SceneLemmas.{Has, instantiated_scene}

@@ -1,8 +1,8 @@
 -- Calls stay ready.
 use Rattle.std.proofs.Common.{◌≡◌, ◌∙◌, ◌≤◌, List, [], ◌∷◌, ◌++◌, Bool, true, false, refl, sym, ap, subst}
 use Rattle.core_store.specs.State.{State}
-use Rattle.core_eval.specs.Scene.{scene_of, Grew}
-use Rattle.core_eval.proofs.Stores.{grew_on}
+use Rattle.core_store.specs.Scene.{scene_of, Grew}
+use Rattle.core_store.proofs.Stores.{grew_on}
 use Rattle.core_runs.specs.declared.calls.CoreCall.{CoreCall}
 use Rattle.core_runs.specs.declared.runs.Counts.{Counts}
 use Rattle.core_runs.specs.Ready.{Awaits, IsReady, AreReady}

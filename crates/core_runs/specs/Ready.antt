@@ -2,8 +2,8 @@
 use Rattle.std.specs.Prelude.{◌≡◌, ◌≤◌, ℕ, List, [], ◌∷◌, Bool, true, false, length}
 use Rattle.core_store.specs.State.{State}
 use Rattle.core_store.specs.declared.value.CoreValue.{CoreValue}
-use Rattle.core_eval.specs.Config.{Reply}
-use Rattle.core_eval.specs.Scene.{Grew}
+use Rattle.core_store.specs.Config.{Reply}
+use Rattle.core_store.specs.Scene.{Grew}
 use Rattle.core_interp.specs.declared.machine.Machine.{Machine}
 use Rattle.core_interp.specs.Session.{Follows, IsAwaited, awaited, resumed}
 use Rattle.core_runs.specs.declared.calls.CoreCall.{CoreCall}

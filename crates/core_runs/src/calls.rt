@@ -1,5 +1,5 @@
 ghost use Rattle.std.specs.Prelude.{◌≡◌, IsTrue, ◌↔◌, slice_get};
-ghost use Rattle.core_eval.specs.Fine.{params_of};
+ghost use Rattle.core_store.specs.Fine.{params_of};
 ghost use Rattle.core_interp.specs.Session.{IsCallable};
 
 use core_interp::Machine;

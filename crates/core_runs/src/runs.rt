@@ -8,8 +8,8 @@ ghost use Rattle.core_instance.specs.Matching.{HasCounts};
 ghost use Rattle.core_instance.specs.Spaces.{IsThere};
 ghost use Rattle.core_runs.specs.Counting.{Counted};
 ghost use Rattle.core_runs.specs.Done.{Ran, stays_by, Begins, Goes, goes_by, Resumes, Provides, AreThere, Instantiates, Stores};
-ghost use Rattle.core_eval.specs.Scene.{scene_of};
-ghost use Rattle.core_eval.specs.Fine.{IsFine};
+ghost use Rattle.core_store.specs.Scene.{scene_of};
+ghost use Rattle.core_store.specs.Fine.{IsFine};
 ghost use Rattle.core_interp.specs.Session.{CanRun};
 
 use crate::calls::{CoreCall, is_callable};
@@ -56,8 +56,8 @@ impl Counts {
 
 impl Model for CoreRuns {
     ghost use Rattle.std.specs.Prelude.{◌≡◌};
-    ghost use Rattle.core_eval.specs.Scene.{scene_of};
-    ghost use Rattle.core_eval.specs.Fine.{IsFine};
+    ghost use Rattle.core_store.specs.Scene.{scene_of};
+    ghost use Rattle.core_store.specs.Fine.{IsFine};
     ghost use Rattle.core_runs.specs.Ready.{Runs, AreReady};
 
     ghost Value = { Runs };

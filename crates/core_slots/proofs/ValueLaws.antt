@@ -1,7 +1,7 @@
 -- Values from words, one after another.
 use Rattle.std.proofs.Common.{◌≡◌, ℕ, zero, suc, ◌+◌, ◌<◌, ◌≤◌, List, [], ◌∷◌, ◌++◌, length, take, get_or, min, refl, ap, ◌∙◌, arith}
 use Rattle.virt_base.specs.declared.core_type.CoreType.{CoreType}
-use Rattle.core_eval.specs.Words.{value_in, values_in}
+use Rattle.core_store.specs.Words.{value_in, values_in}
 
 pub values_none : (functions : ℕ) (ts : List CoreType) (ws : List ℕ) → values_in functions (take 0 ts) ws ≡ []
 values_none functions ts ws = refl

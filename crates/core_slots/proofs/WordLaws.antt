@@ -3,11 +3,11 @@ use Rattle.std.proofs.Common.{zero, suc, refl, ◌≡◌, ℕ, ◌+◌, ◌-◌,
 use Rattle.std.specs.Prelude.{reverse, replicate, slice_set}
 use Rattle.std.proofs.lemmas.List.{reverse-append, reverse-reverse, length-reverse, length-set, length-take-le, take-append-drop, take_at, drop_at, take_all, drop_all, take-take, take-append-le, drop-append-le, drop-drop, drop-take, take-set-le, drop-set-lt, drop-set-add, take_more_set, take_more, get_or-drop}
 use Rattle.std.proofs.Math.Seq.{take-set-lt}
-use Rattle.core_eval.specs.Config.{kept}
+use Rattle.core_store.specs.Config.{kept}
 use Rattle.core_slots.specs.Stacked.{Held, Stacked, with_operands, with_local, opened, closed}
 use Rattle.core_slots.specs.declared.slots.Base.{Base}
 use Rattle.core_store.specs.declared.value.CoreValue.{CoreValue}
-use Rattle.core_eval.specs.Words.{word_of, words}
+use Rattle.core_store.specs.Words.{word_of, words}
 use Rattle.core_slots.specs.Layout.{held, stacked, IsLaid}
 
 -- one word is moved down

@@ -2,8 +2,8 @@
 
 ghost use Rattle.std.specs.Prelude.{◌≡◌, ◌<◌, ◌≤◌, ◌+◌, [], ◌∷◌, List, ℕ, length, slice_get, Some, OnOk, IfOk, reverse, replicate, take, drop, ◌++◌, ◌-◌};
 ghost use Rattle.core_slots.specs.Stacked.{Held, Stacked, with_operands, with_local, opened, closed};
-ghost use Rattle.core_eval.specs.Words.{words};
-ghost use Rattle.core_eval.specs.Config.{kept};
+ghost use Rattle.core_store.specs.Words.{words};
+ghost use Rattle.core_store.specs.Config.{kept};
 
 use crate::words::word;
 use core_store::CoreValue;

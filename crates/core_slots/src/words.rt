@@ -1,5 +1,5 @@
 ghost use Rattle.std.specs.Prelude.{◌≡◌, ◌<◌, ◌^◌, IfOk, length};
-ghost use Rattle.core_eval.specs.Words.{i32_in, word_of, word_of_ref as word_of_reference, ref_in, value_in, value_like as value_of_word, values_in};
+ghost use Rattle.core_store.specs.Words.{i32_in, word_of, word_of_ref as word_of_reference, ref_in, value_in, value_like as value_of_word, values_in};
 
 use core_store::{CoreRef, CoreValue};
 use std::alloc::Global;

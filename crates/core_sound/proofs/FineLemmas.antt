@@ -18,10 +18,10 @@ use Rattle.core_body.specs.Shapes.{Missing, Fixed, same_ref, select_shape, call_
 use Rattle.core_body.specs.Typing.{Labels, Trees, Leaf, Block, Loop, If, IfElse, Nil, Cons, spell, AllBelow, EachTakes, Types, HasShape, Typed, operands, label_at, outermost}
 use Rattle.core_code.specs.Tree.{Seq, Stop}
 use Rattle.core_store.specs.declared.value.CoreSpaces.{CoreSpaces}
-use Rattle.core_eval.specs.Config.{type_at, block_params, block_results}
-use Rattle.core_eval.specs.Eval.{type_of}
-use Rattle.core_eval.specs.Scene.{Scene}
-use Rattle.core_eval.specs.Fine.{Frame, Reaches, IsBlock, FineOne, Fine}
+use Rattle.core_store.specs.Config.{type_at, block_params, block_results}
+use Rattle.core_store.specs.Eval.{type_of}
+use Rattle.core_store.specs.Scene.{Scene}
+use Rattle.core_store.specs.Fine.{Frame, Reaches, IsBlock, FineOne, Fine}
 use Rattle.core_sound.specs.Sound.{Suits, BodiesAreFine}
 use Rattle.core_sound.proofs.TreeLemmas.{seq, valid_tree}
 use Rattle.core_sound.proofs.NeedLemmas.{Needs, EachNeeds, needs, needs_behind}

@@ -19,8 +19,8 @@ use Rattle.core_body.specs.Context.{Context}
 use Rattle.core_body.specs.Conditions.{op_conditions, is_met, MemoryAt, DataAt, ElementAt, FunctionAt}
 use Rattle.core_body.specs.Shapes.{Shape, Missing, Fixed, shape, of_type, of_numeric, global_type, table_type, loaded_type, stored_type, value_of, same_ref, three, copy_shape, init_shape}
 use Rattle.core_body.specs.Typing.{HasShape, operands}
-use Rattle.core_eval.specs.Scene.{Scene}
-use Rattle.core_eval.specs.Fine.{Frame, Place, Names, takes, gives, numeric_takes}
+use Rattle.core_store.specs.Scene.{Scene}
+use Rattle.core_store.specs.Fine.{Frame, Place, Names, takes, gives, numeric_takes}
 use Rattle.core_sound.specs.Sound.{Suits, AllMet}
 
 pub length_operands : (ts : List CoreType) → length (operands ts) ≡ length ts

@@ -7,9 +7,9 @@ use Rattle.core_body.specs.Conditions.{Condition, is_met, code_conditions}
 use Rattle.core_body.specs.Typing.{IsValidBody}
 use Rattle.core_code.specs.Tree.{tree}
 use Rattle.core_store.specs.declared.value.StoreFunc.{StoreFunc}
-use Rattle.core_eval.specs.Eval.{type_of}
-use Rattle.core_eval.specs.Scene.{Scene}
-use Rattle.core_eval.specs.Fine.{Frame, Place, Fine}
+use Rattle.core_store.specs.Eval.{type_of}
+use Rattle.core_store.specs.Scene.{Scene}
+use Rattle.core_store.specs.Fine.{Frame, Place, Fine}
 
 -- the index names a function of the store, of the type that it has in the context
 pub record Callee (c : Context) (w : Scene) (functions : List ℕ) (i : ℕ) : Type 0 where

@@ -2,3 +2,11 @@ pub mod Table
 pub mod State
 pub mod View
 pub mod Locals
+pub mod Words
+pub mod Config
+pub mod Effects
+pub mod Plain
+pub mod Eval
+pub mod Laws
+pub mod Scene
+pub mod Fine

@@ -2,6 +2,7 @@
 #![tactic(auto)]
 
 mod globals;
+mod laws;
 mod locals;
 mod makers;
 mod memories;
@@ -15,6 +16,10 @@ pub use core_code::{Code, Jump};
 pub use core_integer::integer;
 pub use core_memory::StoreFault;
 pub use globals::{global_get, global_set};
+pub use laws::{
+    calls_are_bodies, fine_stores_grow, growth_adds_up, nesting_comes_back, replies_are_asked_for,
+    steps_are_counted, store_calls_grow, stores_begin_fine, stores_come_back, turns_are_bodies,
+};
 pub use locals::Locals;
 pub use makers::{
     add_elements, add_function, add_global, add_instance, add_memory, add_segment, add_table,

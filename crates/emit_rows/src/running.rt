@@ -1,8 +1,8 @@
 //! A routine and its code, from locals and a memory to their ends.
 
 ghost use Rattle.std.specs.Prelude.{IsTrue, IfOk, slice_get};
-ghost use Rattle.core_eval.specs.Scene.{scene_of};
-ghost use Rattle.core_eval.specs.Fine.{IsFine};
+ghost use Rattle.core_store.specs.Scene.{scene_of};
+ghost use Rattle.core_store.specs.Fine.{IsFine};
 ghost use Rattle.core_instance.specs.Matching.{HasCounts};
 ghost use Rattle.core_interp.specs.Session.{IsCallable};
 

@@ -3,10 +3,10 @@ use Rattle.std.proofs.Common.{◌≡◌, ℕ, ◌+◌, ◌-◌, ◌≤◌, List,
 use Rattle.std.specs.Prelude.{slice_get}
 use Rattle.core_store.specs.declared.value.CoreValue.{CoreValue}
 use Rattle.core_store.specs.State.{State}
-use Rattle.core_eval.specs.Config.{Reply}
-use Rattle.core_eval.specs.Scene.{scene_of}
-use Rattle.core_eval.specs.Fine.{IsFine}
-use Rattle.core_eval.proofs.Stores.{back_self}
+use Rattle.core_store.specs.Config.{Reply}
+use Rattle.core_store.specs.Scene.{scene_of}
+use Rattle.core_store.specs.Fine.{IsFine}
+use Rattle.core_store.proofs.Stores.{back_self}
 use Rattle.core_interp.specs.declared.machine.Machine.{Machine}
 use Rattle.core_interp.specs.declared.machine.Pause.{Pause}
 use Rattle.core_interp.specs.declared.machine.Pause.TheVariants.{AtHost}

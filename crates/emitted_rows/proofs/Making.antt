@@ -12,9 +12,9 @@ use Rattle.core_validate.specs.declared.item.CoreItem.TheVariants as item
 use Rattle.core_validate.specs.declared.item.CoreExport.{CoreExport}
 use Rattle.core_store.specs.declared.value.StoreFunc.TheVariants.{Outside}
 use Rattle.core_store.specs.State.{State}
-use Rattle.core_eval.specs.Scene.{scene_of}
-use Rattle.core_eval.specs.Fine.{IsFine}
-use Rattle.core_eval.proofs.Starting.{outside_fine}
+use Rattle.core_store.specs.Scene.{scene_of}
+use Rattle.core_store.specs.Fine.{IsFine}
+use Rattle.core_store.proofs.Starting.{outside_fine}
 use Rattle.core_instance.specs.declared.external.Extern.{Extern}
 use Rattle.core_instance.specs.declared.external.Extern.TheVariants.{Memory}
 use Rattle.core_instance.specs.declared.external.NamedExtern.{NamedExtern}

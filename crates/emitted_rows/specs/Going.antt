@@ -2,7 +2,7 @@
 use Rattle.std.specs.Prelude.{ℕ, List}
 use Rattle.core_store.specs.declared.value.CoreValue.{CoreValue}
 use Rattle.core_store.specs.State.{State}
-use Rattle.core_eval.specs.Config.{Reply}
+use Rattle.core_store.specs.Config.{Reply}
 use Rattle.core_interp.specs.declared.machine.Machine.{Machine}
 use Rattle.core_interp.specs.Session.{Follows}
 

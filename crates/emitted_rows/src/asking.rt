@@ -1,8 +1,8 @@
 //! Stubs without and with a function of the host.
 
 ghost use Rattle.std.specs.Prelude.{IfOk};
-ghost use Rattle.core_eval.specs.Scene.{scene_of};
-ghost use Rattle.core_eval.specs.Fine.{IsFine};
+ghost use Rattle.core_store.specs.Scene.{scene_of};
+ghost use Rattle.core_store.specs.Fine.{IsFine};
 
 use crate::calls::{Ran, call};
 use crate::stubs::all;

@@ -1,8 +1,8 @@
 //! Calls of functions of a store, whose questions to the embedder are answered in order.
 
 ghost use Rattle.std.specs.Prelude.{IsTrue, IfOk, slice_get};
-ghost use Rattle.core_eval.specs.Scene.{scene_of};
-ghost use Rattle.core_eval.specs.Fine.{IsFine};
+ghost use Rattle.core_store.specs.Scene.{scene_of};
+ghost use Rattle.core_store.specs.Fine.{IsFine};
 ghost use Rattle.core_interp.specs.Session.{IsCallable};
 ghost use Rattle.emitted_rows.specs.Going.{Goes};
 

@@ -1,8 +1,8 @@
 //! What the state module does: its memory, realloc, post-return and destructors.
 
 ghost use Rattle.std.specs.Prelude.{IfOk};
-ghost use Rattle.core_eval.specs.Scene.{scene_of};
-ghost use Rattle.core_eval.specs.Fine.{IsFine};
+ghost use Rattle.core_store.specs.Scene.{scene_of};
+ghost use Rattle.core_store.specs.Fine.{IsFine};
 
 use crate::asking::{ask, five, number, run};
 use crate::calls::{Ran, call};

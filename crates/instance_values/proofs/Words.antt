@@ -2,7 +2,7 @@
 use Rattle.std.proofs.Common.{◌≡◌, ℕ, List, [], ◌∷◌, refl, ap}
 use Rattle.core_store.specs.declared.value.CoreValue.{CoreValue}
 use Rattle.core_store.specs.declared.value.CoreValue.TheVariants as values
-use Rattle.core_eval.specs.Words.{words}
+use Rattle.core_store.specs.Words.{words}
 use Rattle.abi_load.specs.Lifted.{words as numbers}
 
 abbrev pub AreIntegers : List CoreValue → Type 0

@@ -1,2 +1,4 @@
 pub mod Passed
 pub mod Functions
+pub mod Calls
+pub mod Targets

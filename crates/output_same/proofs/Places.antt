@@ -3,8 +3,8 @@ use Rattle.std.proofs.Common.{◌≡◌, ◌∙◌, ap, sym, refl, List, [], ◌
 use Rattle.std.proofs.Math.Path.{ap₂}
 use Rattle.comp_grammar.specs.Trees.{Part, Tree, CoreModule, Nested, CoreInstances, Instances, Aliases, Types, Canons, Imports, Exports, Custom, End, More}
 use Rattle.comp_write.specs.Copying.{bare_part, bare}
-use Rattle.comp_rules.specs.Spaces.{Space}
-use Rattle.comp_rules.specs.Added.{entered, after_part, root}
+use Rattle.comp_types.specs.Spaces.{Space}
+use Rattle.comp_types.specs.Added.{entered, after_part, root}
 use Rattle.comp_link.specs.Plans.{Plan, End as NoPlan, Scope, no_scope, and_plan, Reached, followed, plan_part, plan_tree}
 use Rattle.comp_worlds.specs.Groups.{Group}
 use Rattle.comp_link.specs.Linking.{Making, begun, link, all_outside, all_known, behind_known, known_in, canon_in, owner_in, target_in, resource_of, exported, group_of}

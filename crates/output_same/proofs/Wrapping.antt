@@ -9,7 +9,7 @@ use Rattle.comp_types.specs.Items.{Item, Entries, FuncItem, InstanceItem, KindIt
 use Rattle.comp_types.proofs.ValueLaws.{name-sound}
 use Rattle.comp_grammar.specs.Trees.{Aliases, Exports as ExportSection, End as NoSection, More as Section}
 use Rattle.comp_grammar.specs.Components.{no_span}
-use Rattle.comp_rules.specs.Added.{type_of}
+use Rattle.comp_types.specs.Added.{type_of}
 use Rattle.comp_link.specs.Linking.{Given, Givens, GivenFunc, GivenInstance, GivenResource, GivenType, Nothing, Giving, find, linked}
 use Rattle.comp_wraps.specs.Wrapping.{Handed, alias_of, export_at, exports_from, HandOn, is_of_sort, AreThere, IsNamed, AreExports}
 use Rattle.comp_exports.specs.Exports.{IsOf, AreExportsOf}

@@ -14,13 +14,13 @@ use Rattle.wit_types.specs.Plain.{Name, PlainFunc}
 use Rattle.comp_names.specs.Names.{is_legal}
 use Rattle.comp_names.specs.Same.{folded, is_same_name}
 use Rattle.comp_types.specs.Items.{Item, Entries, FuncItem, InstanceItem, KindItem, End, More, look_up, names, same_name, and_entry}
-use Rattle.comp_rules.specs.Spaces.{Space, TypeEntry, item_at, and_type, entry_of, and_item}
-use Rattle.comp_rules.specs.Definitions.{AnAlias, AnExport}
-use Rattle.comp_rules.specs.Added.{and_some_item, and_some_type, and_again, and_some_entry, after, after_all}
-use Rattle.comp_rules.specs.Rules.{lengths_of, item_stands, exports_sort, is_of_sort, has_item, is_new_in, name_fits, if_there}
-use Rattle.comp_rules.specs.Validity.{AllHold, AreValid}
-use Rattle.comp_rules.specs.Faults.{first_failing}
-use Rattle.comp_rules.proofs.FaultLaws.{all_hold}
+use Rattle.comp_types.specs.Spaces.{Space, TypeEntry, item_at, and_type, entry_of, and_item}
+use Rattle.comp_types.specs.Definitions.{AnAlias, AnExport}
+use Rattle.comp_types.specs.Added.{and_some_item, and_some_type, and_again, and_some_entry, after, after_all}
+use Rattle.comp_types.specs.Rules.{lengths_of, item_stands, exports_sort, is_of_sort, has_item, is_new_in, name_fits, if_there}
+use Rattle.comp_types.specs.Validity.{AllHold, AreValid}
+use Rattle.comp_types.specs.Faults.{first_failing}
+use Rattle.comp_types.proofs.FaultLaws.{all_hold}
 use Rattle.output_form.specs.declared.counts.Counts.{Counts}
 use Rattle.output_form.specs.Counts.{sort_of, count_of, and_one}
 use Rattle.output_form.specs.Output.{aliases_of, exports_from}

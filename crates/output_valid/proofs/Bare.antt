@@ -2,9 +2,9 @@
 use Rattle.std.proofs.Common.{◌≡◌, ◌∙◌, ap, sym, refl, subst, List, [], ◌∷◌}
 use Rattle.comp_grammar.specs.Trees.{Part, Tree, CoreModule, Nested, CoreInstances, Instances, Aliases, Types, Canons, Imports, Exports, Custom, End, More}
 use Rattle.comp_write.specs.Copying.{bare_part, bare}
-use Rattle.comp_rules.specs.Spaces.{Space}
-use Rattle.comp_rules.specs.Added.{entered, and_nested, after_part, after_tree, root, signature_of, type_of}
-use Rattle.comp_rules.specs.Validity.{IsValidPart, IsValidTree, IsValidComponent}
+use Rattle.comp_types.specs.Spaces.{Space}
+use Rattle.comp_types.specs.Added.{entered, and_nested, after_part, after_tree, root, signature_of, type_of}
+use Rattle.comp_types.specs.Validity.{IsValidPart, IsValidTree, IsValidComponent}
 
 mutual
   unfolding bare_part bare

@@ -9,13 +9,13 @@ use Rattle.wasm_ast.specs.declared.component.OuterSort.TheVariants as sorts
 use Rattle.wasm_ast.specs.declared.component.Alias.TheVariants as aliases
 use Rattle.wasm_ast.specs.declared.component.TypeAlias.TheVariants as type_aliases
 use Rattle.comp_grammar.specs.Trees.{Part, Tree, CoreModule, Nested, CoreInstances, Instances, Aliases, Types, Canons, Imports, Exports, Custom, End, More}
-use Rattle.comp_rules.specs.declared.lengths.Lengths.{Lengths}
-use Rattle.comp_rules.specs.Declarations.{Declaration, Declarations, ATypeDef, AnInstanceType, ATypeAlias, ATypeExport, Done, Then}
-use Rattle.comp_rules.specs.Spaces.{Space}
-use Rattle.comp_rules.specs.Definitions.{Definition, ACoreInstance, AnInstance, AnAlias, AType, ACanon, AnImport, AnExport, definitions}
-use Rattle.comp_rules.specs.Added.{and_outer, opened, instance_type, and_depth, and_instance_type, after_declaration, after_declarations, after, after_all, entered, and_nested, after_part, after_tree}
-use Rattle.comp_rules.specs.Rules.{lengths_of, if_there, outer_stands, indexes_stand, leaves_component, names_none, type_stays, outer_stays, stays_inside, is_within_limits}
-use Rattle.comp_rules.specs.Validity.{AllHold, IsValidDeclaration, AreValidDeclarations, IsValidDefinition, AreValid, IsValidPart, IsValidTree}
+use Rattle.comp_types.specs.declared.lengths.Lengths.{Lengths}
+use Rattle.comp_types.specs.Declarations.{Declaration, Declarations, ATypeDef, AnInstanceType, ATypeAlias, ATypeExport, Done, Then}
+use Rattle.comp_types.specs.Spaces.{Space}
+use Rattle.comp_types.specs.Definitions.{Definition, ACoreInstance, AnInstance, AnAlias, AType, ACanon, AnImport, AnExport, definitions}
+use Rattle.comp_types.specs.Added.{and_outer, opened, instance_type, and_depth, and_instance_type, after_declaration, after_declarations, after, after_all, entered, and_nested, after_part, after_tree}
+use Rattle.comp_types.specs.Rules.{lengths_of, if_there, outer_stands, indexes_stand, leaves_component, names_none, type_stays, outer_stays, stays_inside, is_within_limits}
+use Rattle.comp_types.specs.Validity.{AllHold, IsValidDeclaration, AreValidDeclarations, IsValidDefinition, AreValid, IsValidPart, IsValidTree}
 
 -- ---- what stands in a list stands in a longer one
 

@@ -25,12 +25,12 @@ use Rattle.core_validate.specs.declared.item.ModuleType.{ModuleType}
 use Rattle.wit_types.specs.Plain.{Name}
 use Rattle.comp_types.specs.Items.{Item, Entries, FuncItem, InstanceItem, KindItem, End, More, look_up, and_entry}
 use Rattle.comp_grammar.specs.Trees.{Part, Tree, CoreModule, Nested, CoreInstances, Instances, Aliases, Types, Canons, Imports, Exports, Custom, End as NoSection, More as Section}
-use Rattle.comp_rules.specs.Declarations.{Declaration, ATypeDef, AnInstanceType, ATypeAlias, ATypeExport}
-use Rattle.comp_rules.specs.Spaces.{Space, TypeEntry, NestedComponent, and_core_item, and_type, entry_of, and_item, item_at}
-use Rattle.comp_rules.specs.Types.{kind_of}
-use Rattle.comp_rules.specs.CoreMatching.{core_look_up}
-use Rattle.comp_rules.specs.Definitions.{Definition, ACoreInstance, AnInstance, AnAlias, AType, ACanon, AnImport, AnExport, definitions}
-use Rattle.comp_rules.specs.Added.{and_again, and_export_index, and_instantiated, and_some_item, and_some_core_item, and_some_type, and_some_module, and_some_component, and_outer, described, and_index, and_resource, after, after_all, after_part, after_tree, root, named_items}
+use Rattle.comp_types.specs.Declarations.{Declaration, ATypeDef, AnInstanceType, ATypeAlias, ATypeExport}
+use Rattle.comp_types.specs.Spaces.{Space, TypeEntry, NestedComponent, and_core_item, and_type, entry_of, and_item, item_at}
+use Rattle.comp_types.specs.Types.{kind_of}
+use Rattle.comp_types.specs.CoreMatching.{core_look_up}
+use Rattle.comp_types.specs.Definitions.{Definition, ACoreInstance, AnInstance, AnAlias, AType, ACanon, AnImport, AnExport, definitions}
+use Rattle.comp_types.specs.Added.{and_again, and_export_index, and_instantiated, and_some_item, and_some_core_item, and_some_type, and_some_module, and_some_component, and_outer, described, and_index, and_resource, after, after_all, after_part, after_tree, root, named_items}
 
 -- ---- all definitions but imports leave what was imported as it is
 

@@ -4,7 +4,7 @@ use Rattle.std.specs.Prelude.{nat_eq, not, ◌||◌, ◌==◌, if◌then◌else�
 use Rattle.std.specs.List.{filter}
 use Rattle.std.proofs.lemmas.Bool.{eqb-true, eq-eqb, false≢true, false_from_ne_true}
 use Rattle.comp_types.specs.Substitution.{partner_in}
-use Rattle.comp_rules.specs.Resources.{is_among, without, distinct, numbered}
+use Rattle.comp_types.specs.GivenResources.{is_among, without, distinct, numbered}
 
 -- ---- numbers from the next one on
 

@@ -12,12 +12,12 @@ use Rattle.comp_types.specs.Substitution.{partner_in, entries_with}
 use Rattle.comp_types.specs.Subtyping.{MeetsImports}
 use Rattle.comp_types.proofs.ItemsWith.{entries-stay}
 use Rattle.comp_grammar.specs.Trees.{Tree, Instances, Aliases, Exports as ExportSection, End as NoSection, More as Section}
-use Rattle.comp_rules.specs.Spaces.{Space}
-use Rattle.comp_rules.specs.Definitions.{AnInstance, AnAlias, AnExport}
-use Rattle.comp_rules.specs.Resources.{is_among, named_in, numbered, given_by}
-use Rattle.comp_rules.specs.Added.{after, after_all, and_nested, nested_of, after_tree, root, type_of}
-use Rattle.comp_rules.specs.Validity.{AllHold, AreValid, IsValidTree, IsValidComponent}
-use Rattle.comp_rules.proofs.FaultLaws.{all_hold}
+use Rattle.comp_types.specs.Spaces.{Space}
+use Rattle.comp_types.specs.Definitions.{AnInstance, AnAlias, AnExport}
+use Rattle.comp_types.specs.GivenResources.{is_among, named_in, numbered, given_by}
+use Rattle.comp_types.specs.Added.{after, after_all, and_nested, nested_of, after_tree, root, type_of}
+use Rattle.comp_types.specs.Validity.{AllHold, AreValid, IsValidTree, IsValidComponent}
+use Rattle.comp_types.proofs.FaultLaws.{all_hold}
 use Rattle.output_form.specs.declared.counts.Counts.{Counts}
 use Rattle.output_form.specs.Counts.{sort_of, count_of, and_one}
 use Rattle.output_form.specs.Output.{one_instance, aliases_of, exports_from, behind_instance, exports_of, exporting, output_tree}

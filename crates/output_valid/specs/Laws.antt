@@ -3,9 +3,9 @@ use Rattle.std.specs.Prelude.{◌≡◌, ℕ, IsTrue}
 use Rattle.comp_types.specs.Items.{End}
 use Rattle.comp_types.specs.Substitution.{entries_with}
 use Rattle.comp_grammar.specs.Trees.{Tree}
-use Rattle.comp_rules.specs.Resources.{is_among, named_in}
-use Rattle.comp_rules.specs.Added.{type_of}
-use Rattle.comp_rules.specs.Validity.{IsValidComponent}
+use Rattle.comp_types.specs.GivenResources.{is_among, named_in}
+use Rattle.comp_types.specs.Added.{type_of}
+use Rattle.comp_types.specs.Validity.{IsValidComponent}
 use Rattle.output_form.specs.Output.{output_tree}
 
 -- a valid component that imports nothing

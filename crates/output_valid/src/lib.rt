@@ -6,8 +6,8 @@ ghost use Rattle.comp_grammar.specs.Trees.{Tree};
 ghost use Rattle.comp_write.specs.Copying.{bare};
 ghost use Rattle.comp_types.specs.Items.{End};
 ghost use Rattle.comp_types.specs.Resources.{entries_have_resource};
-ghost use Rattle.comp_rules.specs.Added.{type_of};
-ghost use Rattle.comp_rules.specs.Validity.{IsValidComponent};
+ghost use Rattle.comp_types.specs.Added.{type_of};
+ghost use Rattle.comp_types.specs.Validity.{IsValidComponent};
 ghost use Rattle.output_valid.specs.Laws.{StandsAlone, output_of, ExportsRenamed, KeepsApart};
 
 /// The law that the output of a valid component that imports nothing is a valid component. It does nothing when it runs.

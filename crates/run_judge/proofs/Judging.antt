@@ -11,9 +11,9 @@ use Rattle.comp_types.specs.Items.{Signature}
 use Rattle.comp_read.specs.Answers.{IsTheComponent, Answers as ReadAnswers}
 use Rattle.comp_read.specs.declared.reading.CompReadFault.{CompReadFault}
 use Rattle.comp_read.specs.declared.reading.CompReadFault.TheVariants as read_faults
-use Rattle.comp_rules.specs.Added.{type_of}
-use Rattle.comp_rules.specs.Validity.{BreaksComponent}
-use Rattle.comp_rules.proofs.VerdictLaws.{valid_breaks_nothing}
+use Rattle.comp_types.specs.Added.{type_of}
+use Rattle.comp_types.specs.Validity.{BreaksComponent}
+use Rattle.comp_types.proofs.VerdictLaws.{valid_breaks_nothing}
 use Rattle.code_sizes.specs.Sizes.{tree_code, capped}
 use Rattle.run_judge.specs.declared.refusal.RunRefusal.{RunRefusal}
 use Rattle.run_judge.specs.declared.refusal.RunRefusal.TheVariants.{Refused, OverLimit, BadScript, NoMemory}

@@ -5,9 +5,9 @@ use Rattle.virt_base.specs.declared.fault.AppFault.{AppFault}
 use Rattle.virt_base.specs.declared.fault.AppFault.TheVariants.{Malformed, Unsupported, Invalid, Unlisted, WrongType, TwoVersions, HandleExport}
 use Rattle.comp_grammar.specs.Trees.{Tree}
 use Rattle.comp_read.specs.Answers.{IsTheComponent}
-use Rattle.comp_rules.specs.Added.{type_of}
-use Rattle.comp_rules.specs.Validity.{BreaksComponent}
-use Rattle.comp_rules.proofs.VerdictLaws.{valid_breaks_nothing}
+use Rattle.comp_types.specs.Added.{type_of}
+use Rattle.comp_types.specs.Validity.{BreaksComponent}
+use Rattle.comp_types.proofs.VerdictLaws.{valid_breaks_nothing}
 use Rattle.code_sizes.specs.Sizes.{tree_code}
 use Rattle.run_judge.specs.declared.refusal.RunRefusal.{RunRefusal}
 use Rattle.run_judge.specs.declared.refusal.RunRefusal.TheVariants.{Refused, OverLimit, BadScript, NoMemory}

@@ -7,8 +7,8 @@ use Rattle.comp_grammar.specs.Trees.{Tree, plain}
 use Rattle.comp_read.specs.Answers.{IsTheComponent, Answers as ReadAnswers}
 use Rattle.comp_read.specs.declared.reading.CompReadFault.{CompReadFault}
 use Rattle.comp_read.specs.declared.reading.CompReadFault.TheVariants as read_faults
-use Rattle.comp_rules.specs.Added.{type_of}
-use Rattle.comp_rules.specs.Validity.{IsValidComponent, BreaksComponent}
+use Rattle.comp_types.specs.Added.{type_of}
+use Rattle.comp_types.specs.Validity.{IsValidComponent, BreaksComponent}
 use Rattle.comp_signature.specs.declared.ComponentType.{ComponentType}
 use Rattle.comp_signature.specs.Signatures.{component_signature}
 use Rattle.code_sizes.specs.Sizes.{tree_code, capped}

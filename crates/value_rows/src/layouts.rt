@@ -1,54 +1,62 @@
 // Sizes, alignments and flat types worked by hand by the rules of the Component Model's CanonicalABI.md.
 
+use crate::named::read;
 use abi_layout::{align, flatten, is_small, layout_of, size};
 use std::alloc::Global;
-use std::process::Abort;
 use std::rc::Rc;
 use std::test::Fail;
-use virt_base::CoreType::{self, I32, I64};
-use virt_base::{Items, NoMemory, Text};
-use wit_types::{Case, Cases, Field, Fields, Labels, Types, WitType};
+use virt_base::{Items, Text};
+use wasi_table::Meaning;
+use wit_types::{Case, Cases, Labels, Types, WitType, copy_type};
 
-fn labels(alloc: Global, count: usize) -> Result<Labels, NoMemory> {
+/// The last type of a text.
+fn last_type(alloc: Global, text: &'static str) -> Result<WitType, Fail> {
+    let interface = read(alloc, text)?;
+    match interface.types.as_slice() {
+        [.., named] => match &named.meaning {
+            Meaning::Value(ty) => Ok(copy_type(alloc, ty)?),
+            Meaning::Kind(_) => Err(Fail::from("the last type is a resource")),
+        },
+        [] => Err(Fail::from("no type")),
+    }
+}
+
+/// The size and the alignment, both once more as the layout has them, and the flat types where no more than 16 are due.
+fn layout_in_words(alloc: Global, ty: &WitType) -> Result<String, Fail> {
+    if !is_small(ty) {
+        return Ok(String::from_str(alloc, "large")?);
+    }
+    let layout = layout_of(ty);
+    let flat = flatten(ty);
+    let types = flat.types.get(..flat.count as usize);
+    Ok(format!(in alloc;
+        "{} {} {} {} {types:?}",
+        size(ty),
+        align(ty),
+        layout.size,
+        layout.align
+    )?)
+}
+
+fn labels(alloc: Global, count: usize) -> Result<Rc<Labels>, Fail> {
     let mut all = Items::empty(alloc);
     for _ in 0..count {
         all.push(Text::from_str(alloc, "a")?)?;
     }
-    Ok(all)
+    Ok(Rc::new(alloc, all)?)
 }
 
-fn tuple(alloc: Global, items: Vec<WitType>) -> Result<WitType, Fail> {
-    Ok(WitType::Tuple(Rc::new(alloc, Types { items })?))
-}
-
-fn record(alloc: Global, types: Vec<WitType>) -> Result<WitType, Fail> {
+/// A byte's case, and so many without a payload behind it.
+fn cases(alloc: Global, count: usize) -> Result<WitType, Fail> {
     let mut items = Vec::new(alloc);
-    for ty in types {
-        let name = Text::from_str(alloc, "f")?;
-        items.push(Field { name, ty })?;
-    }
-    Ok(WitType::Record(Rc::new(alloc, Fields { items })?))
-}
-
-fn variant(alloc: Global, payloads: Vec<Option<WitType>>) -> Result<WitType, Fail> {
-    let mut items = Vec::new(alloc);
-    for payload in payloads {
+    let name = Text::from_str(alloc, "c")?;
+    let ty = Some(Rc::new(alloc, WitType::U8)?);
+    items.push(Case { name, ty })?;
+    for _ in 0..count {
         let name = Text::from_str(alloc, "c")?;
-        let ty = match payload {
-            None => None,
-            Some(ty) => Some(Rc::new(alloc, ty)?),
-        };
-        items.push(Case { name, ty })?;
+        items.push(Case { name, ty: None })?;
     }
     Ok(WitType::Variant(Rc::new(alloc, Cases { items })?))
-}
-
-fn option(alloc: Global, ty: WitType) -> Result<WitType, Fail> {
-    Ok(WitType::Option(Rc::new(alloc, ty)?))
-}
-
-fn result(alloc: Global, ok: WitType, err: WitType) -> Result<WitType, Fail> {
-    Ok(WitType::Result(Some(Rc::new(alloc, ok)?), Some(Rc::new(alloc, err)?)))
 }
 
 /// So many core types of one kind in a tuple.
@@ -57,157 +65,100 @@ fn words(alloc: Global, count: usize) -> Result<WitType, Fail> {
     for _ in 0..count {
         items.push(WitType::U32)?;
     }
-    tuple(alloc, items)
+    Ok(WitType::Tuple(Rc::new(alloc, Types { items })?))
 }
 
-fn expect_layout(rt: &impl Abort, ty: &WitType, bytes: u32, alignment: u32) {
-    assert!(rt; is_small(ty), "{ty:?}");
-    assert_eq!(rt; size(ty), bytes, "the size of {ty:?}");
-    assert_eq!(rt; align(ty), alignment, "the alignment of {ty:?}");
-    let layout = layout_of(ty);
-    assert_eq!(rt;
-        (layout.size, layout.align),
-        (bytes, alignment),
-        "the layout of {ty:?}"
-    );
+/// A type of a form with so many parts.
+fn counted(alloc: Global, form: &str, count: usize) -> Result<WitType, Fail> {
+    match form {
+        "flags" => Ok(WitType::Flags(labels(alloc, count)?)),
+        "enum" => Ok(WitType::Enum(labels(alloc, count)?)),
+        "bare cases" => cases(alloc, count),
+        "words" => words(alloc, count),
+        "option of words" => Ok(WitType::Option(Rc::new(alloc, words(alloc, count)?)?)),
+        _ => {
+            let ok = Rc::new(alloc, words(alloc, count)?)?;
+            let err = Rc::new(alloc, WitType::U8)?;
+            Ok(WitType::Result(Some(ok), Some(err)))
+        }
+    }
 }
 
-fn expect(rt: &impl Abort, ty: &WitType, bytes: u32, alignment: u32, types: &[CoreType]) {
-    expect_layout(rt, ty, bytes, alignment);
-    let flat = flatten(ty);
-    assert!(rt; types.len() <= 16, "the row of {ty:?}");
-    assert_eq!(rt;
-        flat.count as usize,
-        types.len(),
-        "how many flat types {ty:?} has"
-    );
-    assert_eq!(rt;
-        &flat.types[..types.len()],
-        types,
-        "the flat types of {ty:?}"
-    );
+/// The type of a row.
+fn type_of(alloc: Global, text: &'static str) -> Result<WitType, Fail> {
+    match text.rsplit_once(' ') {
+        Some((form, count)) => match count.parse::<usize>() {
+            Ok(count) => counted(alloc, form, count),
+            Err(_) => last_type(alloc, text),
+        },
+        None => Err(Fail::from("no type")),
+    }
 }
+
+/// Behind each type what is wanted. A type is the last in a text in the notation of `wasi_table`, or a form and how many parts
+/// it has.
+const ROWS: &str = "\
+one byte;type t bool => 1 1 1 1 Some([I32])
+one byte;type t s8 => 1 1 1 1 Some([I32])
+one byte;type t u8 => 1 1 1 1 Some([I32])
+two bytes;type t s16 => 2 2 2 2 Some([I32])
+two bytes;type t u16 => 2 2 2 2 Some([I32])
+four bytes;type t s32 => 4 4 4 4 Some([I32])
+four bytes;type t u32 => 4 4 4 4 Some([I32])
+four bytes;type t char => 4 4 4 4 Some([I32])
+a handle;resource output-stream;type t own output-stream => 4 4 4 4 Some([I32])
+a handle;resource output-stream;type t borrow output-stream => 4 4 4 4 Some([I32])
+eight bytes;type t s64 => 8 8 8 8 Some([I64])
+eight bytes;type t u64 => 8 8 8 8 Some([I64])
+a place and a length;type t string => 8 4 8 4 Some([I32, I32])
+a place and a length;type t list u64 => 8 4 8 4 Some([I32, I32])
+padded;record t,a u8,b u32,c u16 => 12 4 12 4 Some([I32, I32, I32])
+rounded;record t,a u64,b u8 => 16 8 16 8 Some([I64, I32])
+bytes;type t tuple2 u8 bool => 2 1 2 1 Some([I32, I32])
+nested;type inner tuple2 u8 u64;record t,a u8,b inner,c u8 => 32 8 32 8 Some([I32, I32, I64, I32])
+two cases;variant t,a u8,b u64 => 16 8 16 8 Some([I32, I64])
+mixed cases;variant t,a u16,b,c tuple3 u8 u8 u8 => 6 2 6 2 Some([I32, I32, I32, I32])
+bare cases;variant t,a,b => 1 1 1 1 Some([I32])
+an option;type t option string => 12 4 12 4 Some([I32, I32, I32])
+options;type t option option u8 => 3 1 3 1 Some([I32, I32, I32])
+joined;type t result u64 string => 16 8 16 8 Some([I32, I64, I32])
+no payloads;type t result _ _ => 1 1 1 1 Some([I32])
+one payload;type t result u16 _ => 4 2 4 2 Some([I32, I32])
+flags 1 => 1 1 1 1 Some([I32])
+flags 8 => 1 1 1 1 Some([I32])
+flags 9 => 2 2 2 2 Some([I32])
+flags 16 => 2 2 2 2 Some([I32])
+flags 17 => 4 4 4 4 Some([I32])
+flags 32 => 4 4 4 4 Some([I32])
+enum 1 => 1 1 1 1 Some([I32])
+enum 256 => 1 1 1 1 Some([I32])
+enum 257 => 2 2 2 2 Some([I32])
+enum 65536 => 2 2 2 2 Some([I32])
+enum 65537 => 4 4 4 4 Some([I32])
+bare cases 256 => 4 2 4 2 Some([I32, I32])
+words 16 => 64 4 64 4 Some([I32, I32, I32, I32, I32, I32, I32, I32, I32, I32, I32, I32, I32, I32, I32, I32])
+words 17 => 68 4 68 4 None
+option of words 16 => 68 4 68 4 None
+result of words and a byte 20 => 84 4 84 4 None";
 
 #[test]
-fn types_without_parts(rt: HostRuntime) -> Result<(), Fail> {
+fn layouts(rt: HostRuntime) -> Result<(), Fail> {
     let alloc = rt.alloc();
-    for ty in [WitType::Bool, WitType::S8, WitType::U8] {
-        expect(&rt, &ty, 1, 1, &[I32]);
+    for row in ROWS.lines() {
+        let Some((text, wanted)) = row.split_once(" => ") else {
+            return Err(Fail::from("no row"));
+        };
+        let found = layout_in_words(alloc, &type_of(alloc, text)?)?;
+        assert_eq!(rt; found.as_str(), wanted, "{text}");
     }
-    for ty in [WitType::S16, WitType::U16] {
-        expect(&rt, &ty, 2, 2, &[I32]);
-    }
-    for ty in [
-        WitType::S32,
-        WitType::U32,
-        WitType::Char,
-        WitType::Own(3),
-        WitType::Borrow(3),
-    ] {
-        expect(&rt, &ty, 4, 4, &[I32]);
-    }
-    for ty in [WitType::S64, WitType::U64] {
-        expect(&rt, &ty, 8, 8, &[I64]);
-    }
-    expect(&rt, &WitType::Str, 8, 4, &[I32, I32]);
-    let list = WitType::List(Rc::new(alloc, WitType::U64)?);
-    expect(&rt, &list, 8, 4, &[I32, I32]);
-    Ok(())
-}
-
-#[test]
-fn flags_and_enums(rt: HostRuntime) -> Result<(), Fail> {
-    let alloc = rt.alloc();
-    for (count, bytes) in [(1, 1), (8, 1), (9, 2), (16, 2), (17, 4), (32, 4)] {
-        expect(
-            &rt,
-            &WitType::Flags(Rc::new(alloc, labels(alloc, count)?)?),
-            bytes,
-            bytes,
-            &[I32],
-        );
-    }
-    for (count, bytes) in [(1, 1), (256, 1), (257, 2), (65536, 2), (65537, 4)] {
-        expect(
-            &rt,
-            &WitType::Enum(Rc::new(alloc, labels(alloc, count)?)?),
-            bytes,
-            bytes,
-            &[I32],
-        );
-    }
-    Ok(())
-}
-
-#[test]
-fn records(rt: HostRuntime) -> Result<(), Fail> {
-    let alloc = rt.alloc();
-    let padded = vec![in alloc; WitType::U8, WitType::U32, WitType::U16]?;
-    expect(&rt, &record(alloc, padded)?, 12, 4, &[I32, I32, I32]);
-    let rounded = vec![in alloc; WitType::U64, WitType::U8]?;
-    expect(&rt, &record(alloc, rounded)?, 16, 8, &[I64, I32]);
-    let bytes = vec![in alloc; WitType::U8, WitType::Bool]?;
-    expect(&rt, &tuple(alloc, bytes)?, 2, 1, &[I32, I32]);
-    let inner = tuple(alloc, vec![in alloc; WitType::U8, WitType::U64]?)?;
-    let nested = vec![in alloc; WitType::U8, inner, WitType::U8]?;
-    expect(&rt, &record(alloc, nested)?, 32, 8, &[I32, I32, I64, I32]);
-    Ok(())
-}
-
-#[test]
-fn variants(rt: HostRuntime) -> Result<(), Fail> {
-    let alloc = rt.alloc();
-    let two = vec![in alloc; Some(WitType::U8), Some(WitType::U64)]?;
-    expect(&rt, &variant(alloc, two)?, 16, 8, &[I32, I64]);
-    let three_bytes = tuple(
-        alloc,
-        vec![in alloc; WitType::U8, WitType::U8, WitType::U8]?,
-    )?;
-    let mixed = vec![in alloc; Some(WitType::U16), None, Some(three_bytes)]?;
-    expect(&rt, &variant(alloc, mixed)?, 6, 2, &[I32, I32, I32, I32]);
-    let bare = vec![in alloc; None, None]?;
-    expect(&rt, &variant(alloc, bare)?, 1, 1, &[I32]);
-    let mut many = vec![in alloc; Some(WitType::U8)]?;
-    for _ in 0..256 {
-        many.push(None)?;
-    }
-    expect(&rt, &variant(alloc, many)?, 4, 2, &[I32, I32]);
-    Ok(())
-}
-
-#[test]
-fn options_and_results(rt: HostRuntime) -> Result<(), Fail> {
-    let alloc = rt.alloc();
-    expect(&rt, &option(alloc, WitType::Str)?, 12, 4, &[I32, I32, I32]);
-    let twice = option(alloc, option(alloc, WitType::U8)?)?;
-    expect(&rt, &twice, 3, 1, &[I32, I32, I32]);
-    let joined = result(alloc, WitType::U64, WitType::Str)?;
-    expect(&rt, &joined, 16, 8, &[I32, I64, I32]);
-    expect(&rt, &WitType::Result(None, None), 1, 1, &[I32]);
-    let ok = WitType::Result(Some(Rc::new(alloc, WitType::U16)?), None);
-    expect(&rt, &ok, 4, 2, &[I32, I32]);
-    Ok(())
-}
-
-#[test]
-fn many_flat_types(rt: HostRuntime) -> Result<(), Fail> {
-    let alloc = rt.alloc();
-    expect(&rt, &words(alloc, 16)?, 64, 4, &[I32; 16]);
-    let over = words(alloc, 17)?;
-    expect_layout(&rt, &over, 68, 4);
-    assert_eq!(rt; flatten(&over).count, 17);
-    let tagged = option(alloc, words(alloc, 16)?)?;
-    expect_layout(&rt, &tagged, 68, 4);
-    assert_eq!(rt; flatten(&tagged).count, 17);
-    let either = result(alloc, words(alloc, 20)?, WitType::U8)?;
-    assert_eq!(rt; flatten(&either).count, 17);
     Ok(())
 }
 
 #[test]
 fn large_types(rt: HostRuntime) -> Result<(), Fail> {
     let alloc = rt.alloc();
-    assert!(rt; is_small(&words(alloc, 999_999)?));
-    assert!(rt; !is_small(&words(alloc, 1_000_000)?));
+    for (count, small) in [(999_999, true), (1_000_000, false)] {
+        assert_eq!(rt; is_small(&words(alloc, count)?), small);
+    }
     Ok(())
 }

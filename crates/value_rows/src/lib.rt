@@ -6,6 +6,8 @@ mod handles;
 #[cfg(test)]
 mod layouts;
 #[cfg(test)]
+mod named;
+#[cfg(test)]
 mod places;
 #[cfg(test)]
 mod trees;

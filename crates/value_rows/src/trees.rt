@@ -15,28 +15,27 @@ use tree_table::{
 };
 use virt_base::{Items, Steps, Text, copy_bytes};
 
-/// What stands at a path of a fixture.
-#[derive(Clone, Copy)]
-enum What<'a> {
-    Folder,
-    File(&'a str),
-    Link(&'a str),
+/// What stands behind a node's name.
+fn node_of(alloc: Global, what: &str) -> Result<Node, Fail> {
+    if let Some(content) = what.strip_prefix("= ") {
+        return Ok(Node::File(copy_bytes(alloc, content.as_bytes())?));
+    }
+    if let Some(target) = what.strip_prefix("> ") {
+        return Ok(Node::Link(copy_bytes(alloc, target.as_bytes())?));
+    }
+    Ok(Node::Folder)
 }
 
-/// A node of a fixture: the number of its folder, its name, and what it is. The root has the number 0, and the others
-/// theirs in order.
-type Item<'a> = (usize, &'a str, What<'a>);
-
-fn node_of(alloc: Global, what: What<'_>) -> Result<Node, Fail> {
-    Ok(match what {
-        What::Folder => Node::Folder,
-        What::File(content) => Node::File(copy_bytes(alloc, content.as_bytes())?),
-        What::Link(target) => Node::Link(copy_bytes(alloc, target.as_bytes())?),
-    })
-}
-
-fn add_node(alloc: Global, nodes: &mut Nodes, item: Item<'_>) -> Result<(), Fail> {
-    let (folder, name, what) = item;
+fn add_node(alloc: Global, nodes: &mut Nodes, row: &str) -> Result<(), Fail> {
+    let Some((number, rest)) = row.split_once(' ') else {
+        return Err(Fail::from("no folder"));
+    };
+    let Some((name, what)) = rest.split_once(' ') else {
+        return Err(Fail::from("no name"));
+    };
+    let Ok(folder) = number.parse::<usize>() else {
+        return Err(Fail::from("no number"));
+    };
     if folder >= nodes.len() {
         return Err(Fail::from("no folder has this number"));
     }
@@ -44,58 +43,51 @@ fn add_node(alloc: Global, nodes: &mut Nodes, item: Item<'_>) -> Result<(), Fail
     Ok(())
 }
 
-fn add_tree(alloc: Global, trees: &mut Trees, name: &str, items: &[Item<'_>]) -> Result<(), Fail> {
+/// Each row: the number of a folder, the name of a node in it, and `/` for a folder, `=` and what a file holds, or `>` and a
+/// link's target. The root has the number 0, and the others theirs in order.
+fn tree_of(alloc: Global, name: &str, rows: &str) -> Result<NamedTree, Fail> {
     let mut nodes = Nodes::root(alloc);
-    for item in items {
-        add_node(alloc, &mut nodes, *item)?;
+    for row in rows.lines() {
+        add_node(alloc, &mut nodes, row)?;
     }
-    trees.push(NamedTree {
+    Ok(NamedTree {
         name: Text::from_str(alloc, name)?,
         entries: nodes.in_order(alloc)?,
-    })?;
-    Ok(())
+    })
 }
 
-/// Two trees: one with links, one with folders in one another whose names begin alike.
-fn two_trees(alloc: Global) -> Result<Trees, Fail> {
-    let mut trees = Items::empty(alloc);
-    let first = [
-        (0, "l", What::Link("a/f")),
-        (0, "a", What::Folder),
-        (2, "f", What::File("abc")),
-        (0, "u", What::Link("../x")),
-        (0, "s", What::Link("s")),
-        (0, "r", What::Link("/a")),
-    ];
-    add_tree(alloc, &mut trees, "/t", first.as_slice())?;
-    let second = [
-        (0, "a", What::Folder),
-        (0, "a-b", What::Folder),
-        (1, "h", What::Link("../a-b/.")),
-        (1, "f", What::Folder),
-        (4, "g", What::File("")),
-        (2, "k", What::File("k")),
-        (0, "b", What::File("bb")),
-    ];
-    add_tree(alloc, &mut trees, "/u", second.as_slice())?;
-    Ok(trees)
-}
+const LINKS: &str = "\
+0 l > a/f
+0 a /
+2 f = abc
+0 u > ../x
+0 s > s
+0 r > /a";
 
-/// A tree with a chain of 41 links to a file, `c00` to `c40`.
-fn chain(alloc: Global) -> Result<Trees, Fail> {
-    let mut nodes = Nodes::root(alloc);
-    for i in 0..41u8 {
-        let name = format!(in alloc; "c{i:02}")?;
-        let next = format!(in alloc; "c{:02}", i + 1)?;
-        let target = if i == 40 { "f" } else { next.as_str() };
-        add_node(alloc, &mut nodes, (0, name.as_str(), What::Link(target)))?;
+/// Folders in one another whose names begin alike.
+const FOLDERS: &str = "\
+0 a /
+0 a-b /
+1 h > ../a-b/.
+1 f /
+4 g = \n2 k = k
+0 b = bb";
+
+/// A chain of 41 links to a file, `c00` to `c40`.
+fn chain(alloc: Global) -> Result<String, Fail> {
+    let mut rows = String::from_str(alloc, "0 f = end\n0 c40 > f")?;
+    for i in 0..40u8 {
+        let row = format!(in alloc; "\n0 c{i:02} > c{:02}", i + 1)?;
+        rows.push_str(row.as_str())?;
     }
-    add_node(alloc, &mut nodes, (0, "f", What::File("end")))?;
+    Ok(rows)
+}
+
+fn three_trees(alloc: Global) -> Result<Trees, Fail> {
     let mut trees = Items::empty(alloc);
-    trees.push(NamedTree {
-        name: Text::from_str(alloc, "/c")?,
-        entries: nodes.in_order(alloc)?,
-    })?;
+    trees.push(tree_of(alloc, "/t", LINKS)?)?;
+    trees.push(tree_of(alloc, "/u", FOLDERS)?)?;
+    trees.push(tree_of(alloc, "/c", chain(alloc)?.as_str())?)?;
     Ok(trees)
 }
 
@@ -109,36 +101,61 @@ fn place_found(table: &Table, found: Result<u32, u8>) -> Result<u32, u8>
     }
 }
 
-const LOOP: Result<u32, u8> = Err(15);
-
-const NO_ENTRY: Result<u32, u8> = Err(20);
-
-const NOT_DIRECTORY: Result<u32, u8> = Err(24);
-
-const NOT_PERMITTED: Result<u32, u8> = Err(31);
-
-/// Walks from the root of a tree: each path, what it leads to where a last link is followed, and where it is not.
+/// Walks from the root of a tree: behind each path what it leads to where a last link is followed, and where it is not.
 fn walk_all<L: Ledger, R: Abort>(
     rt: &R,
+    alloc: Global,
     table: &Table,
     tree: u32,
-    rows: &[(&str, Result<u32, u8>, Result<u32, u8>)],
+    rows: &str,
     steps: &mut Steps<L>,
-)
+) -> Result<(), Fail>
     requires { tree < tree_count table.now }
 {
     let start = root(table, tree);
-    for (path, followed, plain) in rows {
-        let found = walk(table, start, path.as_bytes(), true, steps);
-        assert_eq!(rt;
-            place_found(table, found),
-            *followed,
-            "{path} with links followed"
-        );
-        let found = walk(table, start, path.as_bytes(), false, steps);
-        assert_eq!(rt; place_found(table, found), *plain, "{path}");
+    for row in rows.lines() {
+        let Some((path, wanted)) = row.split_once(" => ") else {
+            return Err(Fail::from("no row"));
+        };
+        let followed = place_found(table, walk(table, start, path.as_bytes(), true, steps));
+        let plain = place_found(table, walk(table, start, path.as_bytes(), false, steps));
+        let found = format!(in alloc; "{followed:?} {plain:?}")?;
+        assert_eq!(rt; found.as_str(), wanted, "{path}");
     }
+    Ok(())
 }
+
+// Places, or error codes of WASI: 15 for a loop, 20 for no entry, 24 for what is no directory, 31 for what is not permitted.
+const WITH_LINKS: &str = "\
+a/../../x => Err(31) Err(31)
+a//./f => Ok(2) Ok(2)
+ => Err(20) Err(20)
+a/f/ => Err(24) Err(24)
+/a => Err(31) Err(31)
+a/../a => Ok(1) Ok(1)
+b => Err(20) Err(20)
+l => Ok(2) Ok(3)
+u => Err(31) Ok(6)
+s => Err(15) Ok(5)
+r => Err(31) Ok(4)
+l/ => Err(24) Err(24)
+s/. => Err(15) Err(15)";
+
+const WITH_FOLDERS: &str = "\
+a/h/k => Ok(6) Ok(6)
+a/h => Ok(5) Ok(4)
+a/h/ => Ok(5) Ok(5)
+a/f/g => Ok(3) Ok(3)
+a-b/../b => Ok(7) Ok(7)
+. => Ok(0) Ok(0)
+a/f/.. => Ok(1) Ok(1)
+a/f/../../.. => Err(31) Err(31)
+a- => Err(20) Err(20)
+a-bc => Err(20) Err(20)";
+
+const WITH_A_CHAIN: &str = "\
+c01 => Ok(42) Ok(2)
+c00 => Err(15) Ok(1)";
 
 fn walks<L: Ledger, R: Abort>(rt: &R, alloc: Global, blank: Blank) -> Result<(), Fail>
     requires name { blank.name ≡ L.name }
@@ -146,46 +163,14 @@ fn walks<L: Ledger, R: Abort>(rt: &R, alloc: Global, blank: Blank) -> Result<(),
     requires some { 0 < L.parts }
 {
     let mut steps = Steps::<L>::start(blank);
-    let trees = two_trees(alloc)?;
-    assert!(rt; are_trees(alloc, trees.as_slice())?);
-    assert_eq!(rt; trees.len(), 2);
+    let trees = three_trees(alloc)?;
+    if !are_trees(alloc, trees.as_slice())? || trees.len() != 3 {
+        return Err(Fail::from("no trees"));
+    }
     let table = Table::build(alloc, &trees)?;
-    let rows = [
-        ("a/../../x", NOT_PERMITTED, NOT_PERMITTED),
-        ("a//./f", Ok(2), Ok(2)),
-        ("", NO_ENTRY, NO_ENTRY),
-        ("a/f/", NOT_DIRECTORY, NOT_DIRECTORY),
-        ("/a", NOT_PERMITTED, NOT_PERMITTED),
-        ("a/../a", Ok(1), Ok(1)),
-        ("b", NO_ENTRY, NO_ENTRY),
-        ("l", Ok(2), Ok(3)),
-        ("u", NOT_PERMITTED, Ok(6)),
-        ("s", LOOP, Ok(5)),
-        ("r", NOT_PERMITTED, Ok(4)),
-        ("l/", NOT_DIRECTORY, NOT_DIRECTORY),
-        ("s/.", LOOP, LOOP),
-    ];
-    walk_all(rt, &table, 0, rows.as_slice(), &mut steps);
-    let rows = [
-        ("a/h/k", Ok(6), Ok(6)),
-        ("a/h", Ok(5), Ok(4)),
-        ("a/h/", Ok(5), Ok(5)),
-        ("a/f/g", Ok(3), Ok(3)),
-        ("a-b/../b", Ok(7), Ok(7)),
-        (".", Ok(0), Ok(0)),
-        ("a/f/..", Ok(1), Ok(1)),
-        ("a/f/../../..", NOT_PERMITTED, NOT_PERMITTED),
-        ("a-", NO_ENTRY, NO_ENTRY),
-        ("a-bc", NO_ENTRY, NO_ENTRY),
-    ];
-    walk_all(rt, &table, 1, rows.as_slice(), &mut steps);
-    let trees = chain(alloc)?;
-    assert!(rt; are_trees(alloc, trees.as_slice())?);
-    assert_eq!(rt; trees.len(), 1);
-    let table = Table::build(alloc, &trees)?;
-    let rows = [("c01", Ok(42), Ok(2)), ("c00", LOOP, Ok(1))];
-    walk_all(rt, &table, 0, rows.as_slice(), &mut steps);
-    Ok(())
+    walk_all(rt, alloc, &table, 0, WITH_LINKS, &mut steps)?;
+    walk_all(rt, alloc, &table, 1, WITH_FOLDERS, &mut steps)?;
+    walk_all(rt, alloc, &table, 2, WITH_A_CHAIN, &mut steps)
 }
 
 #[test]
@@ -193,46 +178,70 @@ fn paths_lead_where_the_rows_say(rt: HostRuntime) -> Result<(), Fail> {
     walks::<Brand, HostRuntime>(&rt, rt.alloc(), Blank::new(1))
 }
 
-/// What is asked of a node: its kind, its name, its place, its target.
-type Asked<'a> = (NodeKind, &'a str, (u32, u32), Option<&'a str>);
+fn text_in(bytes: &[u8]) -> Result<&str, Fail> {
+    match str::from_utf8(bytes) {
+        Ok(text) => Ok(text),
+        Err(_) => Err(Fail::from("no UTF-8")),
+    }
+}
+
+/// A node's tree, its place there and its name; then `/` for a folder, `=` and what a file holds, `>` and a link's target.
+fn node_in_words(alloc: Global, table: &Table, node: u32) -> Result<String, Fail>
+    requires { node < count_of table.now }
+{
+    let (tree, at) = place(table, node);
+    let name = text_in(name(table, node))?;
+    if let Some(target) = target(table, node) {
+        let target = text_in(target)?;
+        return Ok(format!(in alloc; "{tree} {at} {name} > {target}")?);
+    }
+    if kind(table, node) == NodeKind::File {
+        let content = text_in(content(table, node))?;
+        return Ok(format!(in alloc; "{tree} {at} {name} = {content}")?);
+    }
+    Ok(format!(in alloc; "{tree} {at} {name} /")?)
+}
+
+fn children_are(
+    rt: &impl Abort,
+    alloc: Global,
+    table: &Table,
+    node: u32,
+    wanted: &str,
+) -> Result<(), Fail>
+    requires { node < count_of table.now }
+{
+    let mut nth = 0u32;
+    for wanted in wanted.lines() {
+        let Some(child) = child(table, node, nth) else {
+            return Err(Fail::from("a child is missing"));
+        };
+        let found = node_in_words(alloc, table, child)?;
+        assert_eq!(rt; found.as_str(), wanted);
+        nth = nth.saturating_add(1);
+    }
+    assert!(rt; child(table, node, nth).is_none());
+    Ok(())
+}
 
 #[test]
 fn nodes_read_their_trees(rt: HostRuntime) -> Result<(), Fail> {
     let alloc = rt.alloc();
-    let trees = two_trees(alloc)?;
-    assert!(rt; are_trees(alloc, trees.as_slice())?);
-    assert_eq!(rt; trees.len(), 2);
-    let table = Table::build(alloc, &trees)?;
-    let rows: [Asked<'_>; 5] = [
-        (NodeKind::Folder, "a", (0, 1), None),
-        (NodeKind::Link, "l", (0, 3), Some("a/f")),
-        (NodeKind::Link, "r", (0, 4), Some("/a")),
-        (NodeKind::Link, "s", (0, 5), Some("s")),
-        (NodeKind::Link, "u", (0, 6), Some("../x")),
-    ];
-    let top = root(&table, 0);
-    assert_eq!(rt;
-        (kind(&table, top), place(&table, top)),
-        (NodeKind::Folder, (0, 0))
-    );
-    assert_eq!(rt; name(&table, top).len(), 0);
-    let mut nth = 0u32;
-    for (what, named, at, link) in rows {
-        let Some(node) = child(&table, top, nth) else {
-            return Err(Fail::from("a child is missing"));
-        };
-        assert_eq!(rt; kind(&table, node), what);
-        assert_eq!(rt; name(&table, node), named.as_bytes());
-        assert_eq!(rt; place(&table, node), at);
-        assert_eq!(rt; target(&table, node), link.map(|text| text.as_bytes()));
-        nth = nth.saturating_add(1);
+    let trees = three_trees(alloc)?;
+    if !are_trees(alloc, trees.as_slice())? || trees.len() != 3 {
+        return Err(Fail::from("no trees"));
     }
-    assert!(rt; child(&table, top, nth).is_none());
-    let Some(file) = child(&table, root(&table, 1), 2) else {
-        return Err(Fail::from("the file is missing"));
-    };
-    assert_eq!(rt; place(&table, file), (1, 7));
-    assert!(rt; kind(&table, file) == NodeKind::File);
-    assert_eq!(rt; content(&table, file), b"bb".as_slice());
-    Ok(())
+    let table = Table::build(alloc, &trees)?;
+    let top = root(&table, 0);
+    let found = node_in_words(alloc, &table, top)?;
+    assert_eq!(rt; found.as_str(), "0 0  /");
+    children_are(
+        &rt,
+        alloc,
+        &table,
+        top,
+        "0 1 a /\n0 3 l > a/f\n0 4 r > /a\n0 5 s > s\n0 6 u > ../x",
+    )?;
+    let other = root(&table, 1);
+    children_are(&rt, alloc, &table, other, "1 1 a /\n1 5 a-b /\n1 7 b = bb")
 }

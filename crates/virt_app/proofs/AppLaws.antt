@@ -8,9 +8,9 @@ use Rattle.comp_types.specs.Items.{Item, Entries, Signature, End, More}
 use Rattle.comp_types.specs.Resources.{item_has_resource, entries_have_resource}
 use Rattle.comp_grammar.specs.Trees.{Tree}
 use Rattle.comp_read.specs.Answers.{IsTheComponent}
-use Rattle.comp_rules.specs.Added.{type_of}
-use Rattle.comp_rules.specs.Validity.{BreaksComponent}
-use Rattle.comp_rules.proofs.VerdictLaws.{valid_breaks_nothing}
+use Rattle.comp_types.specs.Added.{type_of}
+use Rattle.comp_types.specs.Validity.{BreaksComponent}
+use Rattle.comp_types.proofs.VerdictLaws.{valid_breaks_nothing}
 use Rattle.std.proofs.lemmas.Bool.{false≢true}
 use Rattle.wasi_match.specs.declared.listed.ListedUse.{ListedUse}
 use Rattle.wasi_match.specs.declared.fault.Cause.{Cause}

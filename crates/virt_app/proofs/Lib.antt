@@ -1,1 +1,4 @@
 pub mod AppLaws
+pub mod ReadLaws
+pub mod TypeLaws
+pub mod RefusalLaws

@@ -11,8 +11,8 @@ use Rattle.comp_grammar.specs.Trees.{Tree, plain}
 use Rattle.comp_read.specs.Answers.{IsTheComponent, Answers as ReadAnswers}
 use Rattle.comp_read.specs.declared.reading.CompReadFault.{CompReadFault}
 use Rattle.comp_read.specs.declared.reading.CompReadFault.TheVariants as read_faults
-use Rattle.comp_rules.specs.Added.{type_of}
-use Rattle.comp_rules.specs.Validity.{IsValidComponent, BreaksComponent}
+use Rattle.comp_types.specs.Added.{type_of}
+use Rattle.comp_types.specs.Validity.{IsValidComponent, BreaksComponent}
 use Rattle.wasi_match.specs.declared.listed.ListedUse.{ListedUse}
 use Rattle.wasi_match.specs.declared.fault.Cause.TheVariants as causes
 use Rattle.wasi_match.specs.declared.fault.MatchFault.{MatchFault}

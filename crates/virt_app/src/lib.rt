@@ -2,7 +2,9 @@
 #![tactic(auto)]
 
 mod judge;
+mod laws;
 mod refusal;
 
 pub use judge::judge_app;
+pub use laws::one_refusal_of_bytes;
 pub use refusal::AppRefusal;

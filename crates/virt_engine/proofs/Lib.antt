@@ -7,3 +7,6 @@ pub mod Planning
 pub mod Runs
 pub mod TaskLaws
 pub mod RunLaws
+pub mod Ending
+pub mod Making
+pub mod StatusLaws

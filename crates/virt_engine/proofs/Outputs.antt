@@ -4,7 +4,7 @@ use Rattle.std.specs.Prelude.{map}
 use Rattle.comp_types.specs.Items.{Entries, Signature, End, More}
 use Rattle.comp_grammar.specs.Trees.{Part, Tree, CoreModule, Nested, CoreInstances, Instances, Aliases, Types, Canons, Imports, Exports, Custom, End as NoSection, More as Section}
 use Rattle.comp_write.specs.Copying.{bare_part, bare, SpellsBare}
-use Rattle.comp_rules.specs.Added.{type_of}
+use Rattle.comp_types.specs.Added.{type_of}
 use Rattle.output_form.specs.Output.{exporting, output_tree}
 use Rattle.output_valid.specs.Holding.{and_inner, components_in}
 use Rattle.output_valid.proofs.Bare.{same_valid, same_type}

@@ -6,7 +6,7 @@ use Rattle.outside.specs.Files.{FilesState}
 use Rattle.outside.specs.Sink.{SinkState}
 use Rattle.comp_types.specs.Items.{Entries, Signature}
 use Rattle.comp_grammar.specs.Trees.{Tree, plain}
-use Rattle.comp_rules.specs.Added.{type_of}
+use Rattle.comp_types.specs.Added.{type_of}
 use Rattle.host_script.specs.Script.{PlainScript, due_script, json_in}
 use Rattle.host_script.specs.declared.fault.ScriptFault.{ScriptFault}
 use Rattle.host_script.specs.declared.fault.ScriptFault.TheVariants as faults

@@ -6,7 +6,7 @@ use Rattle.outside.specs.Fault.{Rose}
 use Rattle.outside.specs.Files.{FilesState, Held, with_file, no_place}
 use Rattle.outside.specs.Sink.{SinkState}
 use Rattle.comp_grammar.specs.Trees.{Tree}
-use Rattle.comp_rules.specs.Added.{type_of}
+use Rattle.comp_types.specs.Added.{type_of}
 use Rattle.virt_base.specs.declared.fault.AppFault.{AppFault}
 use Rattle.virt_app.specs.declared.refusal.AppRefusal.TheVariants as refusals
 use Rattle.virt_app.specs.Apps.{IsApp}

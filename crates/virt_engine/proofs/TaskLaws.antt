@@ -13,8 +13,8 @@ use Rattle.run_inputs.specs.declared.unready.Unready.TheVariants as unready
 use Rattle.run_inputs.specs.declared.inputs.Inputs.{Inputs}
 use Rattle.run_inputs.specs.Inputs.{FetchesInputs}
 use Rattle.sink_lines.specs.Lines.{text_of, PutsAll}
-use Rattle.virt_run.specs.declared.running.Shown.{Shown}
-use Rattle.virt_run.specs.Lines.{IsLine}
+use Rattle.virt_engine.specs.declared.runner.Shown.{Shown}
+use Rattle.virt_engine.specs.Lines.{IsLine}
 use Rattle.virt_engine.specs.declared.status.Status.{Status}
 use Rattle.virt_engine.specs.declared.status.Status.TheVariants.{SinkFault, NoMemory}
 use Rattle.virt_engine.specs.Command.{RunCommand}

@@ -3,7 +3,7 @@ use Rattle.std.specs.Prelude.{ℕ, ◌≤◌, ◌<◌, ◌≡◌, ◌⊎◌, Lis
 use Rattle.outside.specs.Fault.{Rose}
 use Rattle.outside.specs.Files.{FilesState, Held, Goes}
 use Rattle.comp_grammar.specs.Trees.{Tree}
-use Rattle.comp_rules.specs.Added.{type_of}
+use Rattle.comp_types.specs.Added.{type_of}
 use Rattle.comp_signature.specs.declared.ComponentType.{ComponentType}
 use Rattle.comp_signature.specs.Signatures.{component_signature}
 use Rattle.virt_app.specs.declared.refusal.AppRefusal.{AppRefusal}

@@ -10,3 +10,5 @@ pub mod PolicyTrees
 pub mod Report
 pub mod Runs
 pub mod Writing
+pub mod Lines
+pub mod Shown

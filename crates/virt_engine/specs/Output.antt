@@ -4,8 +4,8 @@ use Rattle.std.specs.Prelude.{◌≡◌, ℕ, List, ◌++◌, length}
 use Rattle.comp_types.specs.Items.{Entries, End}
 use Rattle.comp_grammar.specs.Trees.{Tree}
 use Rattle.comp_grammar.specs.Components.{SpellsComponent}
-use Rattle.comp_rules.specs.Added.{type_of}
-use Rattle.comp_rules.specs.Validity.{IsValidComponent}
+use Rattle.comp_types.specs.Added.{type_of}
+use Rattle.comp_types.specs.Validity.{IsValidComponent}
 use Rattle.output_valid.specs.Holding.{HoldsOnce}
 use Rattle.output_same.specs.Strategies.{DoesTheSame}
 use Rattle.virt_app.specs.Apps.{IsApp}

@@ -4,7 +4,7 @@ use Rattle.outside.specs.Fault.{Rose}
 use Rattle.outside.specs.Files.{FilesState, Held, Goes}
 use Rattle.outside.specs.Sink.{SinkState}
 use Rattle.comp_grammar.specs.Trees.{Tree}
-use Rattle.comp_rules.specs.Added.{type_of}
+use Rattle.comp_types.specs.Added.{type_of}
 use Rattle.host_script.specs.Script.{PlainScript, due_script, json_in}
 use Rattle.script_exports.specs.Callable.{callable}
 use Rattle.run_judge.specs.Components.{IsRunnable}
@@ -17,9 +17,9 @@ use Rattle.run_inputs.specs.declared.unready.Unready.TheVariants as unready
 use Rattle.run_inputs.specs.declared.inputs.Inputs.{Inputs}
 use Rattle.run_inputs.specs.Inputs.{AreReady, AreThere, InputsCause}
 use Rattle.sink_lines.specs.Lines.{text_of}
-use Rattle.virt_run.specs.declared.running.Shown.{Shown}
-use Rattle.virt_run.specs.Lines.{IsLine}
-use Rattle.virt_run.specs.Shown.{CanRun as IsJudged, IsShown}
+use Rattle.virt_engine.specs.declared.runner.Shown.{Shown}
+use Rattle.virt_engine.specs.Lines.{IsLine}
+use Rattle.virt_engine.specs.Shown.{CanRun as IsJudged, IsShown}
 use Rattle.virt_engine.specs.declared.status.Status.{Status}
 use Rattle.virt_engine.specs.declared.status.Status.TheVariants.{Done, AppRefused, FileFault, OverLimit, NoMemory, ScriptRefused, Trapped, ScriptEnded, StepsSpent, BadAnswer, TooDeep}
 use Rattle.virt_engine.specs.Command.{RunCommand}

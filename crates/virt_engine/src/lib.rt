@@ -3,16 +3,23 @@
 
 mod app;
 mod command;
+mod ends;
 mod engine;
 mod fetch;
+mod laws;
 mod line;
+mod lines;
 mod plan;
 mod policy;
 mod report;
+mod runner;
 mod running;
 mod status;
 mod trees;
 mod write_out;
 
 pub use engine::wasi_virt;
+pub use laws::one_status_is_due;
+pub use lines::Lines;
+pub use runner::{Shown, run_component};
 pub use status::{PolicyFault, Status, code};

@@ -5,12 +5,12 @@ ghost use Rattle.virt_engine.specs.Runs.{ended_as, CanRun, IsRefusedFor, PutsSho
 use crate::command::RunTask;
 use crate::report::refuse;
 use crate::status::Status;
+use crate::{Shown, run_component};
 use outside::{Files, Sink};
 use run_inputs::{Inputs, Unready, fetch_inputs};
 use run_judge::{RunEnd, RunRefusal};
 use sink_lines::put_lines;
 use std::alloc::Global;
-use virt_run::{Shown, run_component};
 
 /// The status of what is not run.
 fn refused_for(unready: Unready) -> Status

@@ -4,7 +4,7 @@ use Rattle.std.specs.Prelude.{codes}
 use Rattle.std.proofs.lemmas.Bool.{false≢true}
 use Rattle.wit_types.specs.Plain.{BoolType}
 use Rattle.comp_types.specs.Items.{Item, Entries, InstanceItem, KindItem, ValueKind, End, More, same_name, look_up}
-use Rattle.comp_rules.specs.Added.{type_of}
+use Rattle.comp_types.specs.Added.{type_of}
 use Rattle.comp_link.specs.Linking.{GivenType, Nothing, Giving, find, instance_in, linked}
 use Rattle.comp_exports.specs.Exports.{Either, IsOf, Finds}
 use Rattle.comp_exports.proofs.Shapes.{Has, has_exports}

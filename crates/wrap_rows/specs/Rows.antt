@@ -6,7 +6,7 @@ use Rattle.host_port.specs.Hosts.{HostStep}
 use Rattle.wit_types.specs.Plain.{BoolType}
 use Rattle.comp_types.specs.Items.{InstanceItem, KindItem, ResourceKind, ValueKind, End, More}
 use Rattle.comp_grammar.specs.Trees.{Tree}
-use Rattle.comp_rules.specs.Added.{type_of}
+use Rattle.comp_types.specs.Added.{type_of}
 use Rattle.comp_link.specs.Linking.{GivenInstance, GivenType, Nothing, Giving, linked}
 use Rattle.comp_worlds.specs.Observed.{Call}
 use Rattle.comp_link.specs.Components.{component_obs}

@@ -2,7 +2,7 @@ use Rattle.std.proofs.Common.{◌∙◌, ◌≤◌, ap, sym, arith}
 use Rattle.std.specs.Cmp.Lexicographic.{pointwise}
 use Rattle.std.proofs.lemmas.Bool.Decides.{nat_tests}
 use Rattle.wit_types.specs.Layout.{flat_fields}
-use Rattle.comp_rules.specs.CoreMatching.{same_core}
+use Rattle.comp_types.specs.CoreMatching.{same_core}
 use Rattle.comp_canons.proofs.CanonLemmas.{params-one, params-flat, flat-is}
 use Rattle.comp_canons.proofs.core_funcs.are_params_of.Goals as goal
 

@@ -2,7 +2,7 @@ use Rattle.std.proofs.Common.{◌∙◌, ◌≤◌, ap, sym, subst, arith}
 use Rattle.std.specs.Prelude.{IfSome}
 use Rattle.std.specs.Cmp.Lexicographic.{pointwise}
 use Rattle.abi_layout.specs.Functions.{flat_result}
-use Rattle.comp_rules.specs.CoreMatching.{same_core}
+use Rattle.comp_types.specs.CoreMatching.{same_core}
 use Rattle.comp_canons.proofs.CanonLemmas.{results-one, results-flat, flat-is, none-results, some-results, same-none}
 use Rattle.comp_canons.proofs.core_funcs.are_results_of.Goals as goal
 

@@ -1,6 +1,6 @@
 use Rattle.std.proofs.Common.{◌≡◌, length}
 use Rattle.std.specs.Cmp.Lexicographic.{pointwise}
-use Rattle.comp_rules.specs.CoreMatching.{same_core}
+use Rattle.comp_types.specs.CoreMatching.{same_core}
 use Rattle.comp_canons.proofs.core_funcs.same_types.Given as goal
 
 abbrev pub invariant-loop-one : goal.invariant-loop-one

@@ -1,6 +1,6 @@
 use Rattle.std.proofs.Common.{◌∙◌, ap}
-use Rattle.comp_rules.specs.Rules.{is_same_option}
-use Rattle.comp_labels.proofs.DifferLemmas.{are_new, starts_new, goes_on, was_new}
+use Rattle.comp_types.specs.Rules.{is_same_option}
+use Rattle.comp_indexes.proofs.DifferLemmas.{are_new, starts_new, goes_on, was_new}
 use Rattle.comp_canons.specs.Met.{has_met}
 use Rattle.comp_canons.proofs.options.are_apart.Goals as goal
 

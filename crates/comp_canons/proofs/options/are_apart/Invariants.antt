@@ -1,6 +1,6 @@
 use Rattle.std.proofs.Common.{◌≡◌, length}
-use Rattle.comp_rules.specs.Rules.{all_differ, is_same_option}
-use Rattle.comp_labels.proofs.DifferLemmas.{are_new}
+use Rattle.comp_types.specs.Rules.{all_differ, is_same_option}
+use Rattle.comp_indexes.proofs.DifferLemmas.{are_new}
 use Rattle.comp_canons.specs.Met.{has_met}
 use Rattle.comp_canons.proofs.options.are_apart.Given as goal
 

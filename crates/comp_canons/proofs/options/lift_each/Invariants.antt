@@ -1,7 +1,7 @@
 use Rattle.std.proofs.Common.{◌≡◌, length, Some}
 use Rattle.std.specs.List.{list_all}
 use Rattle.wit_types.specs.Plain.{PlainFunc}
-use Rattle.comp_rules.specs.Rules.{option_is_sound, post_return_type}
+use Rattle.comp_types.specs.Rules.{option_is_sound, post_return_type}
 use Rattle.comp_facts.specs.Facts.{IsFuncFactsOf}
 use Rattle.comp_canons.proofs.options.lift_each.Given as goal
 

@@ -1,6 +1,6 @@
 use Rattle.std.proofs.Common.{◌≡◌, length, None}
 use Rattle.std.specs.List.{list_all}
-use Rattle.comp_rules.specs.Rules.{option_is_sound}
+use Rattle.comp_types.specs.Rules.{option_is_sound}
 use Rattle.comp_canons.proofs.options.lower_each.Given as goal
 
 abbrev pub invariant-loop-option : goal.invariant-loop-option

@@ -1,7 +1,7 @@
 use Rattle.std.proofs.Common.{◌∙◌, ap, refl, sym, true, false}
 use Rattle.std.specs.Prelude.{nat_le, ◌&&◌}
 use Rattle.comp_types.specs.Measures.{kind_depth, kind_parts}
-use Rattle.comp_rules.specs.Rules.{def_stands}
+use Rattle.comp_types.specs.Rules.{def_stands}
 use Rattle.comp_defining.proofs.TypeLemmas.{answered}
 use Rattle.comp_defining.proofs.faults.type_fault.Goals as goal
 

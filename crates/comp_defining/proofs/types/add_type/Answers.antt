@@ -2,8 +2,8 @@ use Rattle.std.proofs.Common.{refl, subst}
 use Rattle.comp_types.specs.Items.{Kind}
 use Rattle.comp_types.specs.Measures.{kind_depth}
 use Rattle.comp_types.specs.Views.{kind_of}
-use Rattle.comp_rules.specs.Added.{and_depth, and_resource}
-use Rattle.comp_rules.specs.Spaces.{and_type, entry_of}
+use Rattle.comp_types.specs.Added.{and_depth, and_resource}
+use Rattle.comp_types.specs.Spaces.{and_type, entry_of}
 use Rattle.comp_scopes.specs.Stands.{Stands}
 use Rattle.comp_defining.proofs.types.add_type.Goals as goal
 

@@ -1,7 +1,7 @@
 use Rattle.std.proofs.Common.{sym, subst, None}
 use Rattle.std.proofs.lemmas.Result.{on_ok_weaker}
 use Rattle.wasm_ast.specs.declared.component.TypeDef.{TypeDef}
-use Rattle.comp_rules.specs.Added.{and_resource}
+use Rattle.comp_types.specs.Added.{and_resource}
 use Rattle.comp_scopes.specs.Stands.{Stands}
 use Rattle.comp_defining.proofs.types.and_resource.Goals as goal
 

@@ -1,6 +1,6 @@
 use Rattle.std.proofs.Common.{sym, subst, slice_get}
-use Rattle.comp_cores.proofs.EachLemmas.{none_of, some_of}
-use Rattle.comp_rules.specs.Added.{and_some_type}
+use Rattle.comp_scopes.proofs.EachLemmas.{none_of, some_of}
+use Rattle.comp_types.specs.Added.{and_some_type}
 use Rattle.comp_scopes.specs.Stands.{IsEntry, Stands}
 use Rattle.comp_describes.proofs.again.add_type_again.Goals as goal
 

@@ -1,7 +1,7 @@
 use Rattle.std.proofs.Common.{◌∙◌, ap, sym}
 use Rattle.wit_types.specs.declared.types.Field.{out-Field}
 use Rattle.wit_types.specs.Plain.{fields_of}
-use Rattle.comp_rules.specs.Rules.{begins_with_borrow_of}
+use Rattle.comp_types.specs.Rules.{begins_with_borrow_of}
 use Rattle.comp_describes.proofs.annotated.begins_with_borrow_of.Goals as goal
 
 pub returns-in-Some : goal.returns-in-Some

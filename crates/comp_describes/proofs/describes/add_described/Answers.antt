@@ -1,5 +1,5 @@
 use Rattle.std.proofs.Common.{◌+◌, length}
-use Rattle.comp_rules.specs.Added.{and_index, brought}
+use Rattle.comp_types.specs.Added.{and_index, brought}
 use Rattle.comp_describes.proofs.StandLemmas.{stands-next}
 use Rattle.comp_describes.proofs.describes.add_described.Goals as goal
 

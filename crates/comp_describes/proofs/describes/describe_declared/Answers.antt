@@ -4,8 +4,8 @@ use Rattle.std.proofs.lemmas.Grind.{common_steps}
 use Rattle.std.proofs.lemmas.List.{nil_from_length}
 use Rattle.comp_types.specs.Items.{InstanceItem}
 use Rattle.comp_types.specs.Substitution.{partner_in, entries_with}
-use Rattle.comp_rules.specs.Added.{new_numbers}
-use Rattle.comp_rules.specs.Resources.{numbered, renamed}
+use Rattle.comp_types.specs.Added.{new_numbers}
+use Rattle.comp_types.specs.GivenResources.{numbered, renamed}
 use Rattle.comp_describes.specs.Pairs.{FindAlike}
 use Rattle.comp_describes.proofs.AlikeLemmas.{alike-renamed, alike-same, alike-then}
 use Rattle.comp_describes.proofs.SameLemmas.{nothing_renamed}

@@ -1,7 +1,7 @@
 use Rattle.std.proofs.Common.{◌≡◌, ◌∙◌, ◌+◌, ◌++◌, ◌∷◌, [], ap, sym, drop, get_or, length, append_assoc, arith}
 use Rattle.std.proofs.lemmas.List.{drop_more}
-use Rattle.comp_rules.specs.Added.{new_numbers}
-use Rattle.comp_rules.specs.Resources.{numbered}
+use Rattle.comp_types.specs.Added.{new_numbers}
+use Rattle.comp_types.specs.GivenResources.{numbered}
 use Rattle.comp_describes.proofs.AlikeLemmas.{alike_onward}
 use Rattle.comp_describes.proofs.giving.give_numbers.Goals as goal
 

@@ -1,6 +1,6 @@
 use Rattle.std.proofs.Common.{◌≡◌, ◌+◌, ◌++◌, drop, length}
-use Rattle.comp_rules.specs.Added.{new_numbers}
-use Rattle.comp_rules.specs.Resources.{numbered}
+use Rattle.comp_types.specs.Added.{new_numbers}
+use Rattle.comp_types.specs.GivenResources.{numbered}
 use Rattle.comp_describes.specs.Pairs.{FindAlike}
 use Rattle.comp_describes.proofs.giving.give_numbers.Given as goal
 

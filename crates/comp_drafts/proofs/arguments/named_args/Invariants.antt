@@ -1,5 +1,5 @@
 use Rattle.std.proofs.Common.{◌≡◌, take}
-use Rattle.comp_rules.specs.Spaces.{Space}
+use Rattle.comp_types.specs.Spaces.{Space}
 use Rattle.comp_scopes.specs.Stands.{Stands}
 use Rattle.comp_link.specs.Plans.{named_args}
 use Rattle.comp_plans.specs.Planned.{args_named}

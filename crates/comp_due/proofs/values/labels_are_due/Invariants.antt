@@ -1,7 +1,7 @@
 use Rattle.std.proofs.Common.{◌≡◌, length}
 use Rattle.std.specs.List.{list_all}
-use Rattle.comp_rules.specs.Rules.{value_is_due}
-use Rattle.comp_rules.specs.Spaces.{Space}
+use Rattle.comp_types.specs.Rules.{value_is_due}
+use Rattle.comp_types.specs.Spaces.{Space}
 use Rattle.comp_scopes.specs.Stands.{Stands}
 use Rattle.comp_due.proofs.values.labels_are_due.Given as goal
 

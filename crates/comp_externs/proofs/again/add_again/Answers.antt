@@ -3,8 +3,8 @@ use Rattle.std.specs.Prelude.{Option, Some}
 use Rattle.wasm_ast.specs.declared.component.Sort.{Sort}
 use Rattle.comp_types.specs.Items.{Item}
 use Rattle.comp_types.specs.Views.{item_of}
-use Rattle.comp_rules.specs.Added.{and_again, and_some_item}
-use Rattle.comp_rules.specs.Spaces.{item_at}
+use Rattle.comp_types.specs.Added.{and_again, and_some_item}
+use Rattle.comp_types.specs.Spaces.{item_at}
 use Rattle.comp_scopes.specs.Stands.{Stands}
 use Rattle.comp_externs.proofs.again.add_again.Goals as goal
 

@@ -1,6 +1,6 @@
 use Rattle.std.proofs.Common.{◌≡◌, ◌∙◌, ◌++◌, min, max, subst}
 use Rattle.comp_types.specs.Items.{and_entry}
-use Rattle.comp_rules.specs.Added.{and_described, brought, described, described_depth, new_numbers}
+use Rattle.comp_types.specs.Added.{and_described, brought, described, described_depth, new_numbers}
 use Rattle.comp_scopes.specs.Named.{HasNamed}
 use Rattle.comp_scopes.specs.Numbers.{HasNumbers}
 use Rattle.comp_externs.proofs.StandLemmas.{stands_with, kept-index, deeper}

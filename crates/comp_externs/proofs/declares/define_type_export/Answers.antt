@@ -1,7 +1,7 @@
 use Rattle.std.proofs.Common.{◌≡◌, ◌∙◌, ap, sym, true}
-use Rattle.comp_rules.specs.Declarations.{ATypeExport}
-use Rattle.comp_rules.specs.Definitions.{AType}
-use Rattle.comp_rules.specs.Rules.{desc_stands, lengths_of}
+use Rattle.comp_types.specs.Declarations.{ATypeExport}
+use Rattle.comp_types.specs.Definitions.{AType}
+use Rattle.comp_types.specs.Rules.{desc_stands, lengths_of}
 use Rattle.comp_describes.proofs.IndexLemmas.{indexes_fail}
 use Rattle.comp_externs.proofs.declares.define_type_export.Goals as goal
 

@@ -1,6 +1,6 @@
 use Rattle.std.proofs.Common.{◌∙◌, ap, sym, min, slice_get}
-use Rattle.comp_cores.proofs.EachLemmas.{none_of, some_of}
-use Rattle.comp_rules.specs.Added.{depth_in}
+use Rattle.comp_scopes.proofs.EachLemmas.{none_of, some_of}
+use Rattle.comp_types.specs.Added.{depth_in}
 use Rattle.comp_scopes.specs.Stands.{IsEntry}
 use Rattle.comp_externs.proofs.declares.depth_at.Goals as goal
 

@@ -1,6 +1,6 @@
 use Rattle.std.proofs.Common.{◌∙◌, ap, refl, sym, true, false}
 use Rattle.comp_names.specs.Names.{is_legal}
-use Rattle.comp_rules.specs.Rules.{name_fits}
+use Rattle.comp_types.specs.Rules.{name_fits}
 use Rattle.comp_externs.proofs.FaultLemmas.{declared_answered}
 use Rattle.comp_externs.proofs.declares.type_export_fault.Goals as goal
 

@@ -1,7 +1,7 @@
 use Rattle.std.proofs.Common.{subst}
 use Rattle.comp_types.specs.Items.{and_entry}
 use Rattle.comp_types.specs.Views.{item_of}
-use Rattle.comp_rules.specs.Added.{and_again}
+use Rattle.comp_types.specs.Added.{and_again}
 use Rattle.comp_scopes.specs.Named.{HasNamed}
 use Rattle.comp_externs.proofs.StandLemmas.{stands_with, kept-again, export_plain}
 use Rattle.comp_externs.proofs.exports.add_plain.Goals as goal

@@ -1,6 +1,6 @@
 use Rattle.std.proofs.Common.{◌∙◌, subst}
 use Rattle.comp_types.specs.Items.{and_entry}
-use Rattle.comp_rules.specs.Added.{and_described, described}
+use Rattle.comp_types.specs.Added.{and_described, described}
 use Rattle.comp_scopes.specs.Named.{HasNamed}
 use Rattle.comp_externs.proofs.StandLemmas.{stands_with, kept-index, export_stated}
 use Rattle.comp_externs.proofs.exports.add_stated.Goals as goal

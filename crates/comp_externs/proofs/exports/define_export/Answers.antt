@@ -1,6 +1,6 @@
 use Rattle.std.proofs.Common.{◌≡◌, ◌∙◌, ap, sym, true}
-use Rattle.comp_rules.specs.Definitions.{AnExport}
-use Rattle.comp_rules.specs.Rules.{export_stands, lengths_of}
+use Rattle.comp_types.specs.Definitions.{AnExport}
+use Rattle.comp_types.specs.Rules.{export_stands, lengths_of}
 use Rattle.comp_describes.proofs.IndexLemmas.{indexes_fail}
 use Rattle.comp_externs.proofs.FaultLemmas.{early_fails}
 use Rattle.comp_externs.proofs.exports.define_export.Goals as goal

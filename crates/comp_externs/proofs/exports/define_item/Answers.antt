@@ -1,6 +1,6 @@
 use Rattle.std.proofs.Common.{◌∙◌, ap, sym}
 use Rattle.comp_types.specs.Views.{item_of}
-use Rattle.comp_rules.specs.Rules.{name_fits}
+use Rattle.comp_types.specs.Rules.{name_fits}
 use Rattle.comp_externs.proofs.FaultLemmas.{annotations_fail, export_fits, stated_nothing, valid_export}
 use Rattle.comp_externs.proofs.StandLemmas.{exported_plain}
 use Rattle.comp_externs.proofs.exports.define_item.Goals as goal

@@ -2,9 +2,9 @@ use Rattle.std.proofs.Common.{◌∙◌, sym}
 use Rattle.std.specs.Prelude.{option_map}
 use Rattle.std.proofs.lemmas.Bool.{false≢true}
 use Rattle.comp_types.specs.Views.{item_of}
-use Rattle.comp_rules.specs.Added.{described}
-use Rattle.comp_rules.specs.Definitions.{AnExport}
-use Rattle.comp_rules.specs.Rules.{name_fits}
+use Rattle.comp_types.specs.Added.{described}
+use Rattle.comp_types.specs.Definitions.{AnExport}
+use Rattle.comp_types.specs.Rules.{name_fits}
 use Rattle.comp_externs.proofs.FaultLemmas.{annotations_fail, export_fits, stated_back, stated_fails_first, stated_onward, valid_export}
 use Rattle.comp_externs.proofs.StandLemmas.{exported_stated}
 use Rattle.comp_externs.proofs.exports.define_stated.Goals as goal

@@ -1,6 +1,6 @@
 use Rattle.std.proofs.Common.{◌≡◌, ◌∙◌, ap, sym, true}
-use Rattle.comp_rules.specs.Definitions.{AnImport}
-use Rattle.comp_rules.specs.Rules.{desc_stands, lengths_of}
+use Rattle.comp_types.specs.Definitions.{AnImport}
+use Rattle.comp_types.specs.Rules.{desc_stands, lengths_of}
 use Rattle.comp_describes.proofs.IndexLemmas.{indexes_fail}
 use Rattle.comp_externs.proofs.imports.define_import.Goals as goal
 

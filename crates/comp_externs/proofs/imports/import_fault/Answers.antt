@@ -1,6 +1,6 @@
 use Rattle.std.proofs.Common.{◌∙◌, ap, refl, sym, true, false}
 use Rattle.comp_names.specs.Names.{is_legal}
-use Rattle.comp_rules.specs.Rules.{name_fits}
+use Rattle.comp_types.specs.Rules.{name_fits}
 use Rattle.comp_externs.proofs.FaultLemmas.{import_answered}
 use Rattle.comp_externs.proofs.imports.import_fault.Goals as goal
 

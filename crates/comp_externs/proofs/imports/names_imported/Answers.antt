@@ -1,7 +1,7 @@
 use Rattle.std.proofs.Common.{◌∙◌, ap}
 use Rattle.std.specs.List.{list_all}
-use Rattle.comp_rules.specs.Resources.{is_among}
-use Rattle.comp_rules.specs.Rules.{named_in_desc}
+use Rattle.comp_types.specs.GivenResources.{is_among}
+use Rattle.comp_types.specs.Rules.{named_in_desc}
 use Rattle.comp_externs.proofs.AmongLemmas.{all-distinct}
 use Rattle.comp_externs.proofs.imports.names_imported.Goals as goal
 

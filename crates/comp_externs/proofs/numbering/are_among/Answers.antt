@@ -2,7 +2,7 @@ use Rattle.std.proofs.Common.{◌∙◌, ◌+◌, ap, drop, sym}
 use Rattle.std.specs.Prelude.{◌&&◌}
 use Rattle.std.specs.List.{list_all}
 use Rattle.std.proofs.lemmas.List.{drop_more}
-use Rattle.comp_rules.specs.Resources.{is_among}
+use Rattle.comp_types.specs.GivenResources.{is_among}
 use Rattle.comp_externs.proofs.numbering.are_among.Goals as goal
 
 pub returns-then-not-has : goal.returns-then-not-has

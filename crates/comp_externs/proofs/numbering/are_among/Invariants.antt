@@ -1,6 +1,6 @@
 use Rattle.std.proofs.Common.{◌≡◌, ℕ, List, drop}
 use Rattle.std.specs.List.{list_all}
-use Rattle.comp_rules.specs.Resources.{is_among}
+use Rattle.comp_types.specs.GivenResources.{is_among}
 use Rattle.comp_scopes.specs.Numbers.{HasNumbers}
 use Rattle.comp_externs.proofs.numbering.are_among.Given as goal
 

@@ -1,5 +1,5 @@
 use Rattle.std.proofs.Common.{◌∙◌, ap}
-use Rattle.comp_rules.specs.Resources.{without}
+use Rattle.comp_types.specs.GivenResources.{without}
 use Rattle.comp_externs.proofs.numbering.own_resources.Goals as goal
 
 pub returns : goal.returns

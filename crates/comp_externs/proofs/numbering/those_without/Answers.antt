@@ -1,6 +1,6 @@
 use Rattle.std.proofs.Common.{◌∙◌, ◌++◌, ◌∷◌, ◌+◌, [], ap, get_or, drop, sym, append_assoc}
 use Rattle.std.proofs.lemmas.List.{drop_more}
-use Rattle.comp_rules.specs.Resources.{without}
+use Rattle.comp_types.specs.GivenResources.{without}
 use Rattle.comp_externs.proofs.NumberLemmas.{without-one}
 use Rattle.comp_externs.proofs.numbering.those_without.Goals as goal
 

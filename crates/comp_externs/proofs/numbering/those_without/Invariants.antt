@@ -1,5 +1,5 @@
 use Rattle.std.proofs.Common.{◌≡◌, ◌++◌, ℕ, List, drop}
-use Rattle.comp_rules.specs.Resources.{without}
+use Rattle.comp_types.specs.GivenResources.{without}
 use Rattle.comp_scopes.specs.Numbers.{HasNumbers}
 use Rattle.comp_externs.proofs.numbering.those_without.Given as goal
 

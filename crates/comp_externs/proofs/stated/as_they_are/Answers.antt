@@ -4,7 +4,7 @@ use Rattle.std.proofs.lemmas.List.{drop_more, at_drop_all}
 use Rattle.std.proofs.lemmas.List.Elements.{All-nil, All-cons, All-head, All-tail}
 use Rattle.comp_types.specs.Subtyping.{Takes}
 use Rattle.comp_types.specs.Substitution.{and_pair}
-use Rattle.comp_rules.specs.Rules.{as_they_are}
+use Rattle.comp_types.specs.Rules.{as_they_are}
 use Rattle.comp_externs.proofs.AmongLemmas.{AreSame, gives_pair, same-pair, takes_pair}
 use Rattle.comp_externs.proofs.stated.as_they_are.Goals as goal
 

@@ -1,6 +1,6 @@
 use Rattle.std.proofs.Common.{ℕ, drop}
 use Rattle.comp_types.specs.Subtyping.{Takes}
-use Rattle.comp_rules.specs.Rules.{as_they_are}
+use Rattle.comp_types.specs.Rules.{as_they_are}
 use Rattle.comp_externs.proofs.AmongLemmas.{AreSame}
 use Rattle.comp_externs.proofs.stated.as_they_are.Given as goal
 

@@ -2,8 +2,8 @@ use Rattle.std.proofs.Common.{subst, true}
 use Rattle.std.specs.Prelude.{Option, Some}
 use Rattle.std.specs.Bool.{Decides}
 use Rattle.comp_types.specs.Items.{InstanceItem, Kind}
-use Rattle.comp_rules.specs.Rules.{IsInstanceOf}
-use Rattle.comp_rules.specs.Types.{instance_in}
+use Rattle.comp_types.specs.Rules.{IsInstanceOf}
+use Rattle.comp_types.specs.Types.{instance_in}
 use Rattle.comp_externs.proofs.StatedLemmas.{decides_nothing}
 use Rattle.comp_externs.proofs.stated.is_instance_at.Goals as goal
 

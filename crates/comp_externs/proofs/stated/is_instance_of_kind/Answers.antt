@@ -6,9 +6,9 @@ use Rattle.comp_types.specs.declared.types.DeclaredInstance.{DeclaredInstance}
 use Rattle.comp_types.specs.Items.{InstanceItem, InstanceKind}
 use Rattle.comp_types.specs.Subtyping.{IsSubtype}
 use Rattle.comp_types.specs.Views.{kind_of}
-use Rattle.comp_rules.specs.Resources.{named_in_kind}
-use Rattle.comp_rules.specs.Rules.{IsInstanceOf, as_they_are}
-use Rattle.comp_rules.specs.Types.{instance_in}
+use Rattle.comp_types.specs.GivenResources.{named_in_kind}
+use Rattle.comp_types.specs.Rules.{IsInstanceOf, as_they_are}
+use Rattle.comp_types.specs.Types.{instance_in}
 use Rattle.comp_externs.proofs.StatedLemmas.{decides_given, decides_nothing}
 use Rattle.comp_externs.proofs.stated.is_instance_of_kind.Goals as goal
 

@@ -3,8 +3,8 @@ use Rattle.std.specs.Bool.{Decides}
 use Rattle.comp_types.specs.declared.types.InstanceType.{InstanceType}
 use Rattle.comp_types.specs.Subtyping.{IsSubtype}
 use Rattle.comp_types.specs.Views.{kind_of}
-use Rattle.comp_rules.specs.Resources.{distinct, named_in_kind}
-use Rattle.comp_rules.specs.Rules.{as_they_are}
+use Rattle.comp_types.specs.GivenResources.{distinct, named_in_kind}
+use Rattle.comp_types.specs.Rules.{as_they_are}
 use Rattle.comp_externs.specs.Takes.{TakesAlike}
 use Rattle.comp_externs.proofs.AmongLemmas.{alike_then, distinct_alike}
 use Rattle.comp_externs.proofs.StatedLemmas.{decides_instance}

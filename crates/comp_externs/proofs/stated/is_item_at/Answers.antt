@@ -5,9 +5,9 @@ use Rattle.comp_types.specs.declared.types.ItemType.{ItemType}
 use Rattle.comp_types.specs.declared.types.InstanceType.{InstanceType}
 use Rattle.comp_types.specs.Items.{InstanceItem}
 use Rattle.comp_types.specs.Views.{item_of}
-use Rattle.comp_rules.specs.Rules.{IsInstanceOf}
-use Rattle.comp_rules.specs.Spaces.{kind_at}
-use Rattle.comp_rules.specs.Types.{instance_in}
+use Rattle.comp_types.specs.Rules.{IsInstanceOf}
+use Rattle.comp_types.specs.Spaces.{kind_at}
+use Rattle.comp_types.specs.Types.{instance_in}
 use Rattle.comp_externs.proofs.StatedLemmas.{decides_no_instance}
 use Rattle.comp_externs.proofs.stated.is_item_at.Goals as goal
 

@@ -5,7 +5,7 @@ use Rattle.comp_types.specs.declared.types.ItemType.{ItemType}
 use Rattle.comp_types.specs.Items.{Kind, KindItem}
 use Rattle.comp_types.specs.Equality.{IsEqualType}
 use Rattle.comp_types.specs.Views.{item_of, kind_of}
-use Rattle.comp_rules.specs.Rules.{IsKind}
+use Rattle.comp_types.specs.Rules.{IsKind}
 use Rattle.comp_externs.proofs.StatedLemmas.{decides_some, decides_none}
 use Rattle.comp_externs.proofs.stated.is_kind.Goals as goal
 

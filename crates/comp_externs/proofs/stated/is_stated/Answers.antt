@@ -5,7 +5,7 @@ use Rattle.std.specs.Prelude.{Bool}
 use Rattle.wasm_ast.specs.declared.component.ExternDesc.{ExternDesc}
 use Rattle.wasm_ast.specs.declared.component.ExternDesc.TheVariants.{Resource}
 use Rattle.comp_types.specs.Views.{item_of}
-use Rattle.comp_rules.specs.Rules.{IsStated}
+use Rattle.comp_types.specs.Rules.{IsStated}
 use Rattle.comp_externs.proofs.StatedLemmas.{decides_resource}
 use Rattle.comp_externs.proofs.stated.is_stated.Goals as goal
 

@@ -7,9 +7,9 @@ use Rattle.comp_types.specs.declared.types.ItemType.{ItemType}
 use Rattle.comp_types.specs.Items.{FuncItem}
 use Rattle.comp_types.specs.Equality.{IsEqualType}
 use Rattle.comp_types.specs.Views.{item_of}
-use Rattle.comp_rules.specs.Rules.{IsStated}
-use Rattle.comp_rules.specs.Spaces.{kind_at}
-use Rattle.comp_rules.specs.Types.{func_in}
+use Rattle.comp_types.specs.Rules.{IsStated}
+use Rattle.comp_types.specs.Spaces.{kind_at}
+use Rattle.comp_types.specs.Types.{func_in}
 use Rattle.comp_externs.proofs.StatedLemmas.{decides_some, decides_none}
 use Rattle.comp_externs.proofs.stated.is_stated_func.Goals as goal
 

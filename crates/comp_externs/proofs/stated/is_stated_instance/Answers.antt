@@ -4,9 +4,9 @@ use Rattle.std.specs.Bool.{Decides}
 use Rattle.wasm_ast.specs.declared.component.ExternDesc.TheVariants.{Instance}
 use Rattle.comp_types.specs.declared.types.ItemType.{ItemType}
 use Rattle.comp_types.specs.Views.{item_of}
-use Rattle.comp_rules.specs.Rules.{IsStated}
-use Rattle.comp_rules.specs.Spaces.{kind_at}
-use Rattle.comp_rules.specs.Types.{instance_in}
+use Rattle.comp_types.specs.Rules.{IsStated}
+use Rattle.comp_types.specs.Spaces.{kind_at}
+use Rattle.comp_types.specs.Types.{instance_in}
 use Rattle.comp_externs.proofs.StatedLemmas.{decides_no_instance}
 use Rattle.comp_externs.proofs.stated.is_stated_instance.Goals as goal
 

@@ -3,7 +3,7 @@ use Rattle.std.specs.Prelude.{option_map}
 use Rattle.std.specs.Bool.{Decides}
 use Rattle.comp_types.specs.Items.{Kind}
 use Rattle.comp_types.specs.Views.{item_of}
-use Rattle.comp_rules.specs.Rules.{IsKind}
+use Rattle.comp_types.specs.Rules.{IsKind}
 use Rattle.comp_externs.proofs.stated.is_stated_type.Goals as goal
 
 pub returns-in-None : goal.returns-in-None

@@ -5,7 +5,7 @@ use Rattle.comp_types.specs.Sizes.{item_size}
 use Rattle.comp_types.specs.Views.{item_of, entries_of}
 use Rattle.comp_types.specs.declared.types.InstanceEntry.{InstanceEntry}
 use Rattle.comp_types.proofs.UnpackLemmas.{item_in}
-use Rattle.comp_rules.specs.Resources.{given_by, given_for}
+use Rattle.comp_types.specs.GivenResources.{given_by, given_for}
 use Rattle.comp_instances.specs.Given.{and_pairs}
 use Rattle.comp_instances.proofs.GivenLemmas.{onward}
 use Rattle.comp_instances.proofs.given.+add_given.Goals as goal

@@ -1,7 +1,7 @@
 use Rattle.std.proofs.Common.{◌≡◌, ◌+◌, ◌*◌, drop}
 use Rattle.comp_types.specs.Sizes.{item_size, entries_size}
 use Rattle.comp_types.specs.Views.{item_of, entries_of}
-use Rattle.comp_rules.specs.Resources.{given_by}
+use Rattle.comp_types.specs.GivenResources.{given_by}
 use Rattle.comp_instances.specs.Given.{and_pairs}
 use Rattle.comp_instances.proofs.given.+add_given.Given as goal
 

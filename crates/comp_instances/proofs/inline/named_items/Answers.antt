@@ -1,7 +1,7 @@
 use Rattle.std.proofs.Common.{◌≡◌, ◌∙◌, ◌∷◌, ◌++◌, ◌+◌, [], ap, sym, take}
 use Rattle.std.proofs.lemmas.List.{take_more}
-use Rattle.comp_rules.specs.Added.{and_some_entry, named_items}
-use Rattle.comp_rules.specs.Spaces.{item_at}
+use Rattle.comp_types.specs.Added.{and_some_entry, named_items}
+use Rattle.comp_types.specs.Spaces.{item_at}
 use Rattle.comp_instances.proofs.NamedLemmas.{named-last}
 use Rattle.comp_instances.proofs.inline.named_items.Goals as goal
 

@@ -1,6 +1,6 @@
 use Rattle.std.proofs.Common.{◌≡◌, take}
-use Rattle.comp_rules.specs.Added.{named_items}
-use Rattle.comp_rules.specs.Spaces.{Space}
+use Rattle.comp_types.specs.Added.{named_items}
+use Rattle.comp_types.specs.Spaces.{Space}
 use Rattle.comp_scopes.specs.Stands.{Stands}
 use Rattle.comp_instances.proofs.inline.named_items.Given as goal
 

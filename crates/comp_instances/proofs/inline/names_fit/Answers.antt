@@ -2,9 +2,9 @@ use Rattle.std.proofs.Common.{◌≡◌, ◌∙◌, ◌∷◌, ◌++◌, ◌+◌
 use Rattle.std.specs.Prelude.{◌&&◌, option_map}
 use Rattle.std.proofs.lemmas.List.{drop_more, take_more}
 use Rattle.comp_types.specs.Views.{item_of}
-use Rattle.comp_rules.specs.Added.{and_some_entry, named_items}
-use Rattle.comp_rules.specs.Rules.{if_there, name_fits, names_fit_in}
-use Rattle.comp_rules.specs.Spaces.{item_at}
+use Rattle.comp_types.specs.Added.{and_some_entry, named_items}
+use Rattle.comp_types.specs.Rules.{if_there, name_fits, names_fit_in}
+use Rattle.comp_types.specs.Spaces.{item_at}
 use Rattle.comp_instances.proofs.NamedLemmas.{named-last}
 use Rattle.comp_instances.proofs.inline.names_fit.Goals as goal
 

@@ -1,7 +1,7 @@
 use Rattle.std.proofs.Common.{◌≡◌, [], take, drop}
-use Rattle.comp_rules.specs.Added.{named_items}
-use Rattle.comp_rules.specs.Rules.{names_fit_in}
-use Rattle.comp_rules.specs.Spaces.{Space}
+use Rattle.comp_types.specs.Added.{named_items}
+use Rattle.comp_types.specs.Rules.{names_fit_in}
+use Rattle.comp_types.specs.Spaces.{Space}
 use Rattle.comp_scopes.specs.Stands.{Stands}
 use Rattle.comp_instances.proofs.inline.names_fit.Given as goal
 

@@ -1,7 +1,7 @@
 use Rattle.std.proofs.Common.{◌≡◌, ◌∙◌, subst, rules, arith}
 use Rattle.std.proofs.lemmas.Grind.{common_steps}
 use Rattle.comp_types.specs.Items.{Entries, InstanceItem}
-use Rattle.comp_rules.specs.Spaces.{and_item}
+use Rattle.comp_types.specs.Spaces.{and_item}
 use Rattle.comp_scopes.specs.Stands.{Stands}
 use Rattle.comp_instances.proofs.instances.add_inline.Goals as goal
 

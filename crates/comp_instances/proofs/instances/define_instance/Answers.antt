@@ -1,8 +1,8 @@
 use Rattle.std.proofs.Common.{◌≡◌, ◌∙◌, ap, sym, subst, true}
 use Rattle.wasm_ast.specs.declared.component.Instance.{Instance}
 use Rattle.wasm_ast.specs.declared.component.Instance.TheVariants.{Inline, Instantiate}
-use Rattle.comp_rules.specs.Definitions.{AnInstance}
-use Rattle.comp_rules.specs.Rules.{instance_stands, lengths_of}
+use Rattle.comp_types.specs.Definitions.{AnInstance}
+use Rattle.comp_types.specs.Rules.{instance_stands, lengths_of}
 use Rattle.comp_scopes.specs.Judged.{Judged}
 use Rattle.comp_describes.proofs.IndexLemmas.{indexes_fail}
 use Rattle.comp_instances.proofs.instances.define_instance.Goals as goal

@@ -2,11 +2,11 @@ use Rattle.std.proofs.Common.{◌≡◌, ◌∙◌, sym, subst, slice_get, refl,
 use Rattle.std.specs.Prelude.{Option}
 use Rattle.std.specs.Bool.{Decides}
 use Rattle.std.proofs.lemmas.Grind.{common_steps}
-use Rattle.comp_cores.proofs.EachLemmas.{none_of, some_of}
+use Rattle.comp_scopes.proofs.EachLemmas.{none_of, some_of}
 use Rattle.comp_types.specs.Items.{Entries}
 use Rattle.comp_types.specs.Subtyping.{MeetsImports}
-use Rattle.comp_rules.specs.Rules.{MeetsComponent}
-use Rattle.comp_rules.specs.Spaces.{NestedComponent}
+use Rattle.comp_types.specs.Rules.{MeetsComponent}
+use Rattle.comp_types.specs.Spaces.{NestedComponent}
 use Rattle.comp_scopes.specs.Stands.{IsNested}
 use Rattle.comp_instances.proofs.instantiate.are_given.Goals as goal
 

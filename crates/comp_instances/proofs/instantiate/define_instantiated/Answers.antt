@@ -1,8 +1,8 @@
 use Rattle.std.proofs.Common.{◌∙◌, sym, subst, slice_get}
 use Rattle.std.proofs.lemmas.Bool.{false≢true}
 use Rattle.comp_types.specs.Items.{Entries}
-use Rattle.comp_rules.specs.Added.{and_instantiated}
-use Rattle.comp_rules.specs.Rules.{MeetsComponent}
+use Rattle.comp_types.specs.Added.{and_instantiated}
+use Rattle.comp_types.specs.Rules.{MeetsComponent}
 use Rattle.comp_scopes.specs.Stands.{Stands}
 use Rattle.comp_instances.proofs.InstanceLemmas.{names_repeat, argument_fails, valid_instantiated}
 use Rattle.comp_instances.proofs.instantiate.define_instantiated.Goals as goal

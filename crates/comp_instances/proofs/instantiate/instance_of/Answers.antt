@@ -1,8 +1,8 @@
 use Rattle.std.proofs.Common.{◌≡◌, ◌∙◌, ℕ, sym, subst, slice_get, rules, arith}
 use Rattle.std.specs.Prelude.{Option}
 use Rattle.std.proofs.lemmas.Grind.{common_steps}
-use Rattle.comp_cores.proofs.EachLemmas.{none_of, some_of}
-use Rattle.comp_rules.specs.Spaces.{NestedComponent}
+use Rattle.comp_scopes.proofs.EachLemmas.{none_of, some_of}
+use Rattle.comp_types.specs.Spaces.{NestedComponent}
 use Rattle.comp_scopes.specs.Stands.{IsNested}
 use Rattle.comp_scopes.specs.declared.entries.KnownComponent.{KnownComponent}
 use Rattle.comp_instances.specs.Instances.{IsMade, IsMadeAt}

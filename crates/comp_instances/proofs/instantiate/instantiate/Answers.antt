@@ -2,7 +2,7 @@ use Rattle.std.proofs.Common.{◌≡◌, ◌∙◌, ◌+◌, ◌++◌, [], ℕ, 
 use Rattle.std.proofs.lemmas.Grind.{common_steps}
 use Rattle.comp_types.specs.Items.{Entries}
 use Rattle.comp_types.specs.Substitution.{partner_in, entries_with}
-use Rattle.comp_rules.specs.Resources.{given_by, numbered, renamed}
+use Rattle.comp_types.specs.GivenResources.{given_by, numbered, renamed}
 use Rattle.comp_describes.specs.Pairs.{FindAlike}
 use Rattle.comp_describes.proofs.AlikeLemmas.{alike-append, alike-renamed, alike-same, alike-then}
 use Rattle.comp_instances.specs.Given.{and_pairs}

@@ -2,7 +2,7 @@ use Rattle.std.proofs.Common.{◌≡◌, ◌∙◌, ap, sym, rules, [], arith}
 use Rattle.std.specs.Prelude.{option_map}
 use Rattle.std.proofs.lemmas.Grind.{common_steps}
 use Rattle.wit_types.specs.Plain.{cases_of}
-use Rattle.comp_rules.specs.Types.{cases_of as cases_due, value_of}
+use Rattle.comp_types.specs.Types.{cases_of as cases_due, value_of}
 use Rattle.comp_kinds.proofs.PartLemmas.{and_parts, case-first, parts_end, nil_of}
 use Rattle.comp_kinds.proofs.parts.cases_at.Goals as goal
 

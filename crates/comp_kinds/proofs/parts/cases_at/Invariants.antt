@@ -1,8 +1,8 @@
 use Rattle.std.proofs.Common.{◌≡◌, length}
 use Rattle.wit_types.specs.Plain.{cases_of}
 use Rattle.comp_facts.specs.Facts.{AreFactsOf}
-use Rattle.comp_rules.specs.Spaces.{Space}
-use Rattle.comp_rules.specs.Types.{cases_of as cases_due}
+use Rattle.comp_types.specs.Spaces.{Space}
+use Rattle.comp_types.specs.Types.{cases_of as cases_due}
 use Rattle.comp_scopes.specs.Stands.{Stands}
 use Rattle.comp_kinds.proofs.PartLemmas.{and_parts}
 use Rattle.comp_kinds.proofs.parts.cases_at.Given as goal

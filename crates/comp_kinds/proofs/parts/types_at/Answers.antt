@@ -1,7 +1,7 @@
 use Rattle.std.proofs.Common.{◌≡◌, ◌∙◌, ap, sym, rules, [], map, arith}
 use Rattle.std.proofs.lemmas.Grind.{common_steps}
 use Rattle.wit_types.specs.Plain.{types_of}
-use Rattle.comp_rules.specs.Types.{unnamed, value_of}
+use Rattle.comp_types.specs.Types.{unnamed, value_of}
 use Rattle.comp_kinds.proofs.PartLemmas.{and_parts, part-first, parts_end, nil_of}
 use Rattle.comp_kinds.proofs.parts.types_at.Goals as goal
 

@@ -1,8 +1,8 @@
 use Rattle.std.proofs.Common.{◌≡◌, length, map}
 use Rattle.wit_types.specs.Plain.{types_of}
 use Rattle.comp_facts.specs.Facts.{AreFactsOf}
-use Rattle.comp_rules.specs.Spaces.{Space}
-use Rattle.comp_rules.specs.Types.{unnamed, value_of}
+use Rattle.comp_types.specs.Spaces.{Space}
+use Rattle.comp_types.specs.Types.{unnamed, value_of}
 use Rattle.comp_scopes.specs.Stands.{Stands}
 use Rattle.comp_kinds.proofs.PartLemmas.{and_parts}
 use Rattle.comp_kinds.proofs.parts.types_at.Given as goal

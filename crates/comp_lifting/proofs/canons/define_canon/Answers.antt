@@ -2,8 +2,8 @@ use Rattle.std.proofs.Common.{◌≡◌, ◌∙◌, ap, sym, subst, true}
 use Rattle.std.specs.Prelude.{Result, Ok, Err, IfOk}
 use Rattle.wasm_ast.specs.declared.component.Canon.{Canon}
 use Rattle.wasm_ast.specs.declared.component.Canon.TheVariants.{Lift, Lower}
-use Rattle.comp_rules.specs.Definitions.{ACanon}
-use Rattle.comp_rules.specs.Rules.{canon_stands, lengths_of}
+use Rattle.comp_types.specs.Definitions.{ACanon}
+use Rattle.comp_types.specs.Rules.{canon_stands, lengths_of}
 use Rattle.comp_scopes.specs.Judged.{Judged}
 use Rattle.comp_lifting.proofs.canons.define_canon.Goals as goal
 

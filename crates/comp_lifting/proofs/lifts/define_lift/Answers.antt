@@ -2,7 +2,7 @@ use Rattle.std.proofs.Common.{subst}
 use Rattle.wasm_ast.specs.declared.component.Canon.TheVariants.{Lift}
 use Rattle.wit_types.specs.Plain.{PlainFunc}
 use Rattle.comp_types.specs.Items.{FuncItem}
-use Rattle.comp_rules.specs.Spaces.{and_item}
+use Rattle.comp_types.specs.Spaces.{and_item}
 use Rattle.comp_scopes.specs.Stands.{Stands}
 use Rattle.comp_lifting.proofs.CanonLemmas.{broken_canon, valid_canon}
 use Rattle.comp_lifting.proofs.lifts.define_lift.Goals as goal

@@ -1,7 +1,7 @@
 use Rattle.std.proofs.Common.{◌∙◌, ap}
-use Rattle.comp_rules.specs.Rules.{lift_options}
-use Rattle.comp_rules.specs.Spaces.{kind_at}
-use Rattle.comp_rules.specs.Types.{func_in}
+use Rattle.comp_types.specs.Rules.{lift_options}
+use Rattle.comp_types.specs.Spaces.{kind_at}
+use Rattle.comp_types.specs.Types.{func_in}
 use Rattle.comp_lifting.proofs.CanonLemmas.{same_funcs}
 use Rattle.comp_lifting.proofs.lifts.options_are_sound.Goals as goal
 

@@ -2,7 +2,7 @@ use Rattle.std.proofs.Common.{subst}
 use Rattle.wasm_ast.specs.declared.component.Canon.TheVariants.{Lower}
 use Rattle.wasm_ast.specs.declared.module.CoreFunc.{CoreFunc}
 use Rattle.core_validate.specs.declared.item.CoreItem.TheVariants.{Func}
-use Rattle.comp_rules.specs.Spaces.{and_core_item}
+use Rattle.comp_types.specs.Spaces.{and_core_item}
 use Rattle.comp_scopes.specs.Stands.{Stands}
 use Rattle.comp_lifting.proofs.CanonLemmas.{broken_canon, valid_canon}
 use Rattle.comp_lifting.proofs.lowers.define_lower.Goals as goal

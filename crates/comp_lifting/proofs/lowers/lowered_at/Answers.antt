@@ -1,7 +1,7 @@
 use Rattle.std.proofs.Common.{◌∙◌, ap}
 use Rattle.std.specs.Prelude.{Result, Ok, Err, IfOk}
-use Rattle.comp_rules.specs.Added.{lowered_at}
-use Rattle.comp_rules.specs.Types.{no_func}
+use Rattle.comp_types.specs.Added.{lowered_at}
+use Rattle.comp_types.specs.Types.{no_func}
 use Rattle.comp_lifting.proofs.lowers.lowered_at.Goals as goal
 
 if_ok : {A E : Type 0} {P Q : A → Type 0} (r : Result A E) → ((a : A) → P a → Q a) → IfOk r P → IfOk r Q

@@ -1,8 +1,8 @@
 use Rattle.std.proofs.Common.{◌∙◌, ap, subst}
 use Rattle.wit_types.specs.Plain.{PlainFunc}
 use Rattle.comp_facts.specs.Facts.{IsFuncFactsOf}
-use Rattle.comp_rules.specs.Rules.{if_there, lower_options}
-use Rattle.comp_rules.specs.Spaces.{core_func_at}
+use Rattle.comp_types.specs.Rules.{if_there, lower_options}
+use Rattle.comp_types.specs.Spaces.{core_func_at}
 use Rattle.comp_lifting.proofs.CanonLemmas.{same_funcs}
 use Rattle.comp_lifting.proofs.lowers.options_are_sound.Goals as goal
 

@@ -2,7 +2,7 @@ use Rattle.std.proofs.Common.{sym, subst}
 use Rattle.std.proofs.lemmas.Result.{on_ok_weaker}
 use Rattle.wasm_ast.specs.declared.component.Alias.TheVariants.{Outer}
 use Rattle.wasm_ast.specs.declared.component.OuterSort.{OuterSort}
-use Rattle.comp_rules.specs.Definitions.{AnAlias}
+use Rattle.comp_types.specs.Definitions.{AnAlias}
 use Rattle.comp_linking.specs.Goes.{Plans}
 use Rattle.comp_linking.proofs.aliases.plan_outer_alias.Goals as goal
 

@@ -1,8 +1,8 @@
 use Rattle.std.proofs.Common.{refl, sym, subst, ◌∷◌, slice_get, List}
 use Rattle.wasm_ast.specs.declared.component.Alias.TheVariants.{Outer}
 use Rattle.wasm_ast.specs.declared.component.OuterSort.TheVariants as outer_sorts
-use Rattle.comp_rules.specs.Spaces.{NestedComponent}
-use Rattle.comp_rules.specs.Definitions.{AnAlias}
+use Rattle.comp_types.specs.Spaces.{NestedComponent}
+use Rattle.comp_types.specs.Definitions.{AnAlias}
 use Rattle.comp_link.specs.Plans.{Plan, End, and_module, followed}
 use Rattle.comp_plans.proofs.Earlier.{followed-end}
 use Rattle.comp_drafts.specs.Drafts.{IsDraft}

@@ -1,6 +1,6 @@
 use Rattle.std.proofs.Common.{ap, subst, map, List}
 use Rattle.std.proofs.lemmas.List.{nil_from_length}
-use Rattle.comp_rules.specs.Definitions.{Definition}
+use Rattle.comp_types.specs.Definitions.{Definition}
 use Rattle.comp_linking.proofs.RestLemmas.{DefinitionsLeft, all_left, one_planned, none_left}
 use Rattle.comp_linking.proofs.definitions.plan_all.Goals as goal
 

@@ -1,7 +1,7 @@
 use Rattle.std.proofs.Common.{List, map, length}
 use Rattle.wasm_ast.specs.Boxed.{Held}
 use Rattle.wasm_ast.specs.declared.module.Module.{Module}
-use Rattle.comp_rules.specs.Validity.{AreValid}
+use Rattle.comp_types.specs.Validity.{AreValid}
 use Rattle.comp_linking.specs.Walks.{At, spaces, Walks}
 use Rattle.comp_linking.proofs.RestLemmas.{DefinitionsLeft}
 use Rattle.comp_linking.proofs.definitions.plan_all.Given as goal

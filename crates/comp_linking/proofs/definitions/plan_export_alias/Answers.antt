@@ -1,6 +1,6 @@
 use Rattle.std.proofs.Common.{refl, ap, Some}
 use Rattle.wasm_ast.specs.declared.component.Alias.TheVariants.{Export}
-use Rattle.comp_rules.specs.Definitions.{AnAlias}
+use Rattle.comp_types.specs.Definitions.{AnAlias}
 use Rattle.comp_link.specs.Plans.{ItemOf, just}
 use Rattle.comp_plans.specs.declared.items.PlanItem.TheVariants as items
 use Rattle.comp_linking.specs.Walks.{spaces}

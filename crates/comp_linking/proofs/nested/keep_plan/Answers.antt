@@ -1,5 +1,5 @@
 use Rattle.std.proofs.Common.{◌≡◌, ◌∙◌, ap, sym, subst, reverse, refl, List, [], ◌∷◌, ◌++◌, length, Some, arith}
-use Rattle.comp_rules.specs.Added.{nested_of}
+use Rattle.comp_types.specs.Added.{nested_of}
 use Rattle.comp_link.specs.Plans.{and_plan}
 use Rattle.comp_plans.specs.declared.linked.ComponentPlan.{ComponentPlan}
 use Rattle.comp_plans.specs.Planned.{PlannedComponent}

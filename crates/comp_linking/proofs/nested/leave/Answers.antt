@@ -1,6 +1,6 @@
 use Rattle.std.proofs.Common.{◌∙◌, ap}
 use Rattle.std.proofs.lemmas.Result.{on_ok_weaker}
-use Rattle.comp_rules.specs.Resources.{without, distinct, named_in}
+use Rattle.comp_types.specs.GivenResources.{without, distinct, named_in}
 use Rattle.comp_linking.specs.Walks.{spaces}
 use Rattle.comp_linking.proofs.nested.leave.Goals as goal
 

@@ -2,7 +2,7 @@ use Rattle.std.proofs.Common.{◌++◌, List, drop}
 use Rattle.wasm_ast.specs.Boxed.{Held}
 use Rattle.wasm_ast.specs.declared.module.Module.{Module}
 use Rattle.comp_grammar.specs.Trees.{plain_sections}
-use Rattle.comp_rules.specs.Validity.{IsValidTree}
+use Rattle.comp_types.specs.Validity.{IsValidTree}
 use Rattle.comp_drafts.specs.Modules.{modules_in}
 use Rattle.comp_linking.specs.Walks.{At, spaces, Walks}
 use Rattle.comp_linking.proofs.RestLemmas.{SectionsLeft}

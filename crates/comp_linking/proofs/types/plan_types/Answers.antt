@@ -1,8 +1,8 @@
 use Rattle.std.proofs.Common.{◌≡◌, ◌∙◌, ap, sym, subst, List, ◌∷◌, take, drop}
 use Rattle.std.proofs.lemmas.List.{nil_from_length}
 use Rattle.wasm_ast.specs.declared.component.TypeItem.{TypeItem}
-use Rattle.comp_rules.specs.Declarations.{Done, Then, grouped}
-use Rattle.comp_rules.specs.Definitions.{Definition, AType, types_in}
+use Rattle.comp_types.specs.Declarations.{Done, Then, grouped}
+use Rattle.comp_types.specs.Definitions.{Definition, AType, types_in}
 use Rattle.comp_linking.specs.Firsts.{taken}
 use Rattle.comp_linking.proofs.FirstLemmas.{First, first}
 use Rattle.comp_linking.proofs.RestLemmas.{DefinitionsLeft, all_left, one_planned, none_left}

@@ -1,9 +1,9 @@
 use Rattle.std.proofs.Common.{List, length}
 use Rattle.wasm_ast.specs.Boxed.{Held}
 use Rattle.wasm_ast.specs.declared.module.Module.{Module}
-use Rattle.comp_rules.specs.Declarations.{grouped}
-use Rattle.comp_rules.specs.Definitions.{types_in}
-use Rattle.comp_rules.specs.Validity.{AreValid}
+use Rattle.comp_types.specs.Declarations.{grouped}
+use Rattle.comp_types.specs.Definitions.{types_in}
+use Rattle.comp_types.specs.Validity.{AreValid}
 use Rattle.comp_linking.specs.Walks.{At, spaces, Walks}
 use Rattle.comp_linking.proofs.RestLemmas.{DefinitionsLeft}
 use Rattle.comp_linking.proofs.types.plan_types.Given as goal

@@ -1,10 +1,10 @@
 use Rattle.std.proofs.Common.{◌∙◌, ap, refl, sym, subst, slice_get, ◌∷◌}
 use Rattle.std.proofs.lemmas.Result.{on_ok_weaker}
 use Rattle.std.specs.Option.{option_and_then}
-use Rattle.comp_cores.proofs.EachLemmas.{none_of, some_of}
-use Rattle.comp_cores.specs.Found.{EachSome, IsKnownModule}
-use Rattle.comp_rules.specs.Spaces.{Space}
-use Rattle.comp_rules.specs.Added.{and_module, and_some_module}
+use Rattle.comp_scopes.proofs.EachLemmas.{none_of, some_of}
+use Rattle.comp_scopes.specs.Found.{EachSome, IsKnownModule}
+use Rattle.comp_types.specs.Spaces.{Space}
+use Rattle.comp_types.specs.Added.{and_module, and_some_module}
 use Rattle.comp_around.specs.Around.{StandAll}
 use Rattle.comp_around.proofs.Inner.{inner_stands}
 use Rattle.comp_outer.proofs.OuterLemmas.{added_module}

@@ -1,6 +1,6 @@
 use Rattle.std.proofs.Common.{sym, slice_get, ◌∷◌}
 use Rattle.wasm_ast.specs.declared.component.OuterSort.TheVariants as sorts
-use Rattle.comp_cores.proofs.EachLemmas.{none_of, some_of}
+use Rattle.comp_scopes.proofs.EachLemmas.{none_of, some_of}
 use Rattle.comp_scopes.specs.Stands.{IsNested, Stands}
 use Rattle.comp_outer.proofs.OuterLemmas.{no_scope, no_component, some_component}
 use Rattle.comp_outer.proofs.outer.component_fault.Goals as goal

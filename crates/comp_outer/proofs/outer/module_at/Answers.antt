@@ -1,8 +1,8 @@
 use Rattle.std.proofs.Common.{sym, subst, slice_get, ◌∷◌}
-use Rattle.comp_cores.proofs.EachLemmas.{none_of, some_of}
-use Rattle.comp_cores.specs.Found.{IsKnownModule}
+use Rattle.comp_scopes.proofs.EachLemmas.{none_of, some_of}
+use Rattle.comp_scopes.specs.Found.{IsKnownModule}
 use Rattle.comp_scopes.specs.Stands.{Stands}
-use Rattle.comp_rules.specs.Spaces.{Space}
+use Rattle.comp_types.specs.Spaces.{Space}
 use Rattle.comp_outer.proofs.OuterLemmas.{found_none, found_nothing, found_some}
 use Rattle.comp_outer.proofs.outer.module_at.Goals as goal
 

@@ -1,7 +1,7 @@
 use Rattle.std.proofs.Common.{sym, slice_get, ◌∷◌}
 use Rattle.wasm_ast.specs.declared.component.OuterSort.TheVariants as sorts
-use Rattle.comp_cores.proofs.EachLemmas.{none_of, some_of}
-use Rattle.comp_cores.specs.Found.{IsKnownModule}
+use Rattle.comp_scopes.proofs.EachLemmas.{none_of, some_of}
+use Rattle.comp_scopes.specs.Found.{IsKnownModule}
 use Rattle.comp_scopes.specs.Stands.{Stands}
 use Rattle.comp_outer.proofs.OuterLemmas.{no_scope, no_module, some_module}
 use Rattle.comp_outer.proofs.outer.module_fault.Goals as goal

@@ -1,7 +1,7 @@
 use Rattle.std.proofs.Common.{◌∙◌, slice_get, ◌∷◌}
-use Rattle.comp_cores.proofs.EachLemmas.{none_of, some_of}
+use Rattle.comp_scopes.proofs.EachLemmas.{none_of, some_of}
 use Rattle.comp_scopes.specs.Stands.{IsEntry, Stands}
-use Rattle.comp_rules.specs.Spaces.{Space}
+use Rattle.comp_types.specs.Spaces.{Space}
 use Rattle.comp_outer.proofs.OuterLemmas.{found_none, found_nothing, found_some}
 use Rattle.comp_outer.proofs.outer.type_at.Goals as goal
 

@@ -1,8 +1,8 @@
 use Rattle.std.proofs.Common.{◌∙◌, ap, sym, slice_get, ◌∷◌, not, true}
 use Rattle.wasm_ast.specs.declared.component.OuterSort.TheVariants as sorts
-use Rattle.comp_rules.specs.Resources.{named_in_kind}
-use Rattle.comp_rules.specs.Rules.{is_filled}
-use Rattle.comp_cores.proofs.EachLemmas.{none_of, some_of}
+use Rattle.comp_types.specs.GivenResources.{named_in_kind}
+use Rattle.comp_types.specs.Rules.{is_filled}
+use Rattle.comp_scopes.proofs.EachLemmas.{none_of, some_of}
 use Rattle.comp_scopes.specs.Stands.{IsEntry, Stands}
 use Rattle.comp_outer.proofs.OuterLemmas.{rule_of, within, no_scope, no_type, stays_in, goes_out}
 use Rattle.comp_outer.proofs.outer.type_fault.Goals as goal

@@ -4,7 +4,7 @@ use Rattle.comp_types.specs.Sizes.{item_size}
 use Rattle.comp_types.specs.Views.{item_of, entries_of}
 use Rattle.comp_types.specs.declared.types.InstanceEntry.{InstanceEntry}
 use Rattle.comp_types.proofs.UnpackLemmas.{item_in}
-use Rattle.comp_rules.specs.Resources.{without, named_in, named_in_item}
+use Rattle.comp_types.specs.GivenResources.{without, named_in, named_in_item}
 use Rattle.comp_resources.specs.Once.{and_each}
 use Rattle.comp_resources.proofs.OnceLemmas.{onward, next_is, each-without}
 use Rattle.comp_resources.proofs.ItemLemmas.{item-nothing}

@@ -1,7 +1,7 @@
 use Rattle.std.proofs.Common.{◌≡◌, ◌+◌, drop}
 use Rattle.comp_types.specs.Sizes.{item_size, kind_size, entries_size}
 use Rattle.comp_types.specs.Views.{item_of, kind_of, entries_of}
-use Rattle.comp_rules.specs.Resources.{named_in}
+use Rattle.comp_types.specs.GivenResources.{named_in}
 use Rattle.comp_resources.specs.Once.{and_each}
 use Rattle.comp_resources.proofs.items.+add_item.Given as goal
 

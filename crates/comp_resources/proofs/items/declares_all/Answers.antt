@@ -1,6 +1,6 @@
 use Rattle.std.proofs.Common.{◌∙◌, ap, not}
-use Rattle.comp_rules.specs.Resources.{without, named_in}
-use Rattle.comp_rules.specs.Rules.{is_filled}
+use Rattle.comp_types.specs.GivenResources.{without, named_in}
+use Rattle.comp_types.specs.Rules.{is_filled}
 use Rattle.comp_resources.specs.Once.{and_each}
 use Rattle.comp_resources.proofs.OnceLemmas.{each-of_none, filled-distinct}
 use Rattle.comp_resources.proofs.items.declares_all.Goals as goal

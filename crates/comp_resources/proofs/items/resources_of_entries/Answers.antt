@@ -1,6 +1,6 @@
 use Rattle.std.proofs.Common.{◌∙◌, ap, []}
 use Rattle.comp_types.specs.Views.{entries_of}
-use Rattle.comp_rules.specs.Resources.{named_in}
+use Rattle.comp_types.specs.GivenResources.{named_in}
 use Rattle.comp_resources.specs.Once.{and_each}
 use Rattle.comp_resources.proofs.OnceLemmas.{each-of_none}
 use Rattle.comp_resources.proofs.items.resources_of_entries.Goals as goal

@@ -2,7 +2,7 @@ use Rattle.std.proofs.Common.{◌∙◌, ap, drop, ◌+◌}
 use Rattle.wit_types.specs.declared.types.Field.{out-Field}
 use Rattle.wit_types.specs.declared.types.Case.{out-Case}
 use Rattle.wit_types.specs.Plain.{plain, payload_of, fields_of, types_of, cases_of}
-use Rattle.comp_rules.specs.Resources.{named_in_value, named_in_parts, named_in_answer}
+use Rattle.comp_types.specs.GivenResources.{named_in_value, named_in_parts, named_in_answer}
 use Rattle.comp_resources.specs.Once.{and_each}
 use Rattle.comp_resources.proofs.OnceLemmas.{onward, next_is}
 use Rattle.comp_resources.proofs.ValueLemmas.{named-case_part}

@@ -1,6 +1,6 @@
 use Rattle.std.proofs.Common.{◌≡◌, drop}
 use Rattle.wit_types.specs.Plain.{fields_of, types_of, cases_of}
-use Rattle.comp_rules.specs.Resources.{named_in_parts}
+use Rattle.comp_types.specs.GivenResources.{named_in_parts}
 use Rattle.comp_resources.specs.Once.{and_each}
 use Rattle.comp_resources.proofs.values.+add_value.Given as goal
 

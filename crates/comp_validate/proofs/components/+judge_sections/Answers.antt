@@ -6,9 +6,9 @@ use Rattle.wasm_ast.specs.declared.component.Section.{Section}
 use Rattle.wasm_ast.specs.declared.module.Module.{Module}
 use Rattle.comp_grammar.specs.Trees.{Part, Tree, CoreModule, Nested, More, plain, plain_section, plain_sections}
 use Rattle.comp_grammar.proofs.PlainLemmas.{plain-Nested, plain-CoreInstances, plain-Instances, plain-Aliases, plain-Types, plain-Canons, plain-Imports, plain-Exports, plain-CoreModule, plain-Custom}
-use Rattle.comp_rules.specs.Added.{entered, after_tree}
-use Rattle.comp_rules.specs.Declarations.{grouped}
-use Rattle.comp_rules.specs.Definitions.{ACoreInstance, AnInstance, AnAlias, ACanon, AnImport, AnExport, types_in}
+use Rattle.comp_types.specs.Added.{entered, after_tree}
+use Rattle.comp_types.specs.Declarations.{grouped}
+use Rattle.comp_types.specs.Definitions.{ACoreInstance, AnInstance, AnAlias, ACanon, AnImport, AnExport, types_in}
 use Rattle.comp_around.specs.Judged.{JudgedEach}
 use Rattle.comp_validate.specs.Judged.{JudgedPart, JudgedTree}
 use Rattle.comp_validate.proofs.PartLemmas.{part_core_instances, part_instances, part_aliases, part_types, part_canons, part_imports, part_exports, part_custom, nested_breaks, nested_valid}

@@ -1,5 +1,5 @@
 use Rattle.std.proofs.Common.{subst, ℕ, sym}
-use Rattle.comp_rules.specs.Added.{and_component, nested_of}
+use Rattle.comp_types.specs.Added.{and_component, nested_of}
 use Rattle.comp_scopes.specs.Stands.{Stands, IsNested}
 use Rattle.comp_validate.proofs.NestedLemmas.{with_next}
 use Rattle.comp_validate.proofs.nested.add_nested.Goals as goal

@@ -1,5 +1,5 @@
 use Rattle.std.proofs.Common.{◌∙◌, ap}
-use Rattle.comp_rules.specs.Resources.{without, distinct, named_in}
+use Rattle.comp_types.specs.GivenResources.{without, distinct, named_in}
 use Rattle.comp_validate.proofs.nested.known_component.Goals as goal
 
 pub returns : goal.returns

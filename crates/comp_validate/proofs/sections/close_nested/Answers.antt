@@ -1,7 +1,7 @@
 use Rattle.std.proofs.Common.{refl}
 use Rattle.std.proofs.lemmas.Result.{on_ok_weaker}
 use Rattle.std.specs.Prelude.{Result, Ok, Err, OnOk}
-use Rattle.comp_rules.specs.Added.{and_nested}
+use Rattle.comp_types.specs.Added.{and_nested}
 use Rattle.comp_around.proofs.Inner.{inner_stands}
 use Rattle.comp_validate.proofs.sections.close_nested.Goals as goal
 

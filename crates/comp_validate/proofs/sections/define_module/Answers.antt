@@ -1,8 +1,8 @@
 use Rattle.std.proofs.Common.{refl, subst, sym}
 use Rattle.core_validate.specs.Typed.{type_of}
-use Rattle.comp_cores.specs.Found.{IsKnownModule}
-use Rattle.comp_cores.specs.Judged.{IsJudged}
-use Rattle.comp_rules.specs.Added.{and_module}
+use Rattle.comp_scopes.specs.Found.{IsKnownModule}
+use Rattle.comp_scopes.specs.CoreJudged.{IsJudged}
+use Rattle.comp_types.specs.Added.{and_module}
 use Rattle.comp_around.proofs.Inner.{inner_stands}
 use Rattle.comp_validate.proofs.sections.define_module.Goals as goal
 

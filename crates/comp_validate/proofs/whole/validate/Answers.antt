@@ -2,7 +2,7 @@ use Rattle.std.proofs.Common.{◌≡◌, [], List, subst, Some, None}
 use Rattle.wasm_ast.specs.declared.component.Section.{Section}
 use Rattle.comp_grammar.specs.Trees.{plain, plain_sections}
 use Rattle.comp_types.specs.Items.{Signature}
-use Rattle.comp_rules.specs.Added.{root, after_tree}
+use Rattle.comp_types.specs.Added.{root, after_tree}
 use Rattle.comp_validate.specs.Judged.{JudgedTree}
 use Rattle.comp_validate.proofs.whole.validate.Goals as goal
 

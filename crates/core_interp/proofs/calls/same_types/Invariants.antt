@@ -1,5 +1,5 @@
 use Rattle.std.proofs.Common.{◌≡◌, length, drop}
-use Rattle.core_eval.specs.Eval.{same_types}
+use Rattle.core_store.specs.Eval.{same_types}
 use Rattle.core_interp.proofs.calls.same_types.Given as goal
 
 abbrev pub invariant-loop-i : goal.invariant-loop-i

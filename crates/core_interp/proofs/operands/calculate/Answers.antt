@@ -1,7 +1,7 @@
 use Rattle.std.proofs.Common.{◌∙◌, ap, ℕ, drop}
 use Rattle.wasm_ast.specs.Numeric.{numeric}
 use Rattle.core_integer.specs.Integer.{integer}
-use Rattle.core_eval.specs.Plain.{operand_in}
+use Rattle.core_store.specs.Plain.{operand_in}
 use Rattle.core_slots.specs.Stacked.{with_operands}
 use Rattle.core_interp.proofs.Numerics.{unary, binary}
 use Rattle.core_interp.proofs.operands.calculate.Goals as goal

@@ -1,5 +1,5 @@
 use Rattle.std.proofs.Common.{◌≡◌, ◌++◌, take}
-use Rattle.core_eval.specs.Words.{words}
+use Rattle.core_store.specs.Words.{words}
 use Rattle.core_slots.proofs.slots.add_words.Given as goal
 
 abbrev pub invariant-loop-value : goal.invariant-loop-value

@@ -1,5 +1,5 @@
 use Rattle.std.proofs.Common.{◌≡◌, ◌+◌, ◌++◌, length, take}
-use Rattle.core_eval.specs.Words.{words}
+use Rattle.core_store.specs.Words.{words}
 use Rattle.core_slots.proofs.slots.put_words.Given as goal
 
 abbrev pub invariant-loop-i : goal.invariant-loop-i

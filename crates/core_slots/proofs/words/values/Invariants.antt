@@ -1,5 +1,5 @@
 use Rattle.std.proofs.Common.{◌≡◌, take}
-use Rattle.core_eval.specs.Words.{values_in}
+use Rattle.core_store.specs.Words.{values_in}
 use Rattle.core_slots.proofs.words.values.Given as goal
 
 abbrev pub invariant-loop-i : goal.invariant-loop-i

@@ -1,5 +1,5 @@
 use Rattle.std.proofs.Common.{◌≡◌, ◌≤◌, length, sym, subst, ◌∙◌, arith}
-use Rattle.core_eval.specs.Fine.{IsFine}
+use Rattle.core_store.specs.Fine.{IsFine}
 use Rattle.core_interp.specs.declared.machine.Machine.{Machine}
 use Rattle.emitted_rows.specs.Going.{Goes}
 use Rattle.emitted_rows.proofs.Calling.{awaits, goes_on, same_scene}

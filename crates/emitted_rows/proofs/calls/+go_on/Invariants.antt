@@ -1,6 +1,6 @@
 use Rattle.std.proofs.Common.{length, IsTrue, IfOk, slice_get, ◌≡◌, ℕ, ◌+◌, ◌-◌, ◌*◌, ◌<◌, ◌≤◌}
-use Rattle.core_eval.specs.Scene.{scene_of}
-use Rattle.core_eval.specs.Fine.{IsFine}
+use Rattle.core_store.specs.Scene.{scene_of}
+use Rattle.core_store.specs.Fine.{IsFine}
 use Rattle.core_interp.specs.Session.{IsCallable}
 use Rattle.emitted_rows.specs.Going.{Goes}
 use Rattle.emitted_rows.proofs.calls.+go_on.Given as goal

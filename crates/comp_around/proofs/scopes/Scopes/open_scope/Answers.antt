@@ -1,5 +1,5 @@
 use Rattle.std.proofs.Common.{sym, subst, refl, ℕ}
-use Rattle.comp_rules.specs.Spaces.{empty_space}
+use Rattle.comp_types.specs.Spaces.{empty_space}
 use Rattle.comp_scopes.specs.Stands.{Stands}
 use Rattle.comp_around.proofs.AroundLemmas.{pushed}
 use Rattle.comp_around.proofs.scopes.Scopes.open_scope.Goals as goal

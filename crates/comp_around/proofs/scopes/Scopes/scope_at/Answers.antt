@@ -1,8 +1,8 @@
 use Rattle.std.proofs.Common.{◌≡◌, ◌∙◌, ◌<◌, ◌+◌, ap, sym, subst, slice_get, arith, ◌∷◌, ℕ, length, Option, Some, None}
 use Rattle.std.specs.Prelude.{option_map}
-use Rattle.comp_cores.specs.Found.{EachSome}
-use Rattle.comp_cores.proofs.EachLemmas.{got}
-use Rattle.comp_rules.specs.Spaces.{Space}
+use Rattle.comp_scopes.specs.Found.{EachSome}
+use Rattle.comp_scopes.proofs.EachLemmas.{got}
+use Rattle.comp_types.specs.Spaces.{Space}
 use Rattle.comp_scopes.specs.Stands.{Stands}
 use Rattle.comp_around.specs.declared.scopes.Level.{Level}
 use Rattle.comp_around.proofs.AroundLemmas.{scope_found, scope_past}

@@ -1,7 +1,7 @@
 use Rattle.std.proofs.Common.{sym, subst}
 use Rattle.std.proofs.lemmas.Result.{on_ok_weaker}
 use Rattle.wasm_ast.specs.declared.component.Alias.{Alias}
-use Rattle.comp_rules.specs.Definitions.{AnAlias}
+use Rattle.comp_types.specs.Definitions.{AnAlias}
 use Rattle.comp_linking.specs.Goes.{Plans}
 use Rattle.comp_linking.proofs.definitions.AliasPlanned.plan.Goals as goal
 

@@ -1,5 +1,5 @@
 use Rattle.std.proofs.Common.{refl, ◌++◌, Some}
-use Rattle.comp_rules.specs.Definitions.{AnExport}
+use Rattle.comp_types.specs.Definitions.{AnExport}
 use Rattle.comp_linking.specs.Walks.{spaces, made}
 use Rattle.comp_linking.proofs.StayLemmas.{export_stays}
 use Rattle.comp_linking.proofs.StepLemmas.{behind_judged}

@@ -1,5 +1,5 @@
 use Rattle.std.proofs.Common.{refl, ◌++◌}
-use Rattle.comp_rules.specs.Definitions.{AnInstance}
+use Rattle.comp_types.specs.Definitions.{AnInstance}
 use Rattle.comp_linking.specs.Walks.{spaces, made}
 use Rattle.comp_linking.proofs.StayLemmas.{instance_stays}
 use Rattle.comp_linking.proofs.StepLemmas.{behind_judged}

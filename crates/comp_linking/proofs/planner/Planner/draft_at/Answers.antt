@@ -1,6 +1,6 @@
 use Rattle.std.proofs.Common.{◌≡◌, ◌∙◌, ◌<◌, ◌+◌, ap, sym, subst, slice_get, arith, ◌∷◌, ℕ, length, Option, Some, None}
 use Rattle.std.specs.Prelude.{option_map}
-use Rattle.comp_cores.proofs.EachLemmas.{got}
+use Rattle.comp_scopes.proofs.EachLemmas.{got}
 use Rattle.comp_linking.specs.Walks.{At, made}
 use Rattle.comp_linking.specs.Names.{AreNamed}
 use Rattle.comp_linking.proofs.DraftAt.{draft_found, draft_past}

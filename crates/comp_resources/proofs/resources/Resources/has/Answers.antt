@@ -1,5 +1,5 @@
 use Rattle.std.proofs.Common.{◌∙◌, ap}
-use Rattle.comp_rules.specs.Resources.{is_among}
+use Rattle.comp_types.specs.GivenResources.{is_among}
 use Rattle.comp_resources.proofs.OnceLemmas.{set-has}
 use Rattle.comp_resources.proofs.resources.Resources.has.Goals as goal
 

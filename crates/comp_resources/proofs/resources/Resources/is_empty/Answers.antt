@@ -1,5 +1,5 @@
 use Rattle.std.proofs.Common.{◌∙◌, ap, not}
-use Rattle.comp_rules.specs.Rules.{is_filled}
+use Rattle.comp_types.specs.Rules.{is_filled}
 use Rattle.comp_resources.proofs.OnceLemmas.{empty-is}
 use Rattle.comp_resources.proofs.resources.Resources.is_empty.Goals as goal
 

@@ -1,5 +1,5 @@
 use Rattle.std.proofs.Common.{◌≡◌, drop}
-use Rattle.comp_rules.specs.Resources.{without}
+use Rattle.comp_types.specs.GivenResources.{without}
 use Rattle.comp_resources.specs.Once.{and_each}
 use Rattle.comp_resources.proofs.resources.Resources.push_without.Given as goal
 

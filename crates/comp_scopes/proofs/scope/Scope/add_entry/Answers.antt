@@ -1,6 +1,6 @@
 use Rattle.std.proofs.Common.{sym, subst, ◌++◌, ◌∷◌, []}
-use Rattle.comp_cores.specs.Found.{Each}
-use Rattle.comp_cores.proofs.EachLemmas.{each_and}
+use Rattle.comp_scopes.specs.Found.{Each}
+use Rattle.comp_scopes.proofs.EachLemmas.{each_and}
 use Rattle.comp_scopes.specs.Stands.{IsEntry}
 use Rattle.comp_scopes.proofs.RestLemmas.{core-type}
 use Rattle.comp_scopes.proofs.scope.Scope.add_entry.Goals as goal

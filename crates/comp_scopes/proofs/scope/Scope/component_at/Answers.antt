@@ -1,7 +1,7 @@
 use Rattle.std.proofs.Common.{◌≡◌, ◌∙◌, ap, sym, subst, slice_get}
 use Rattle.std.specs.Prelude.{option_map}
-use Rattle.comp_cores.specs.Found.{EachSome}
-use Rattle.comp_cores.proofs.EachLemmas.{each_get, got}
+use Rattle.comp_scopes.specs.Found.{EachSome}
+use Rattle.comp_scopes.proofs.EachLemmas.{each_get, got}
 use Rattle.comp_scopes.specs.Stands.{IsNested}
 use Rattle.comp_scopes.proofs.scope.Scope.component_at.Goals as goal
 

@@ -1,8 +1,8 @@
 use Rattle.std.proofs.Common.{◌≡◌, ◌∙◌, ap, sym, ℕ, length, rules}
 use Rattle.std.proofs.lemmas.List.{length-map}
-use Rattle.comp_rules.specs.declared.lengths.Lengths.{Lengths}
-use Rattle.comp_rules.specs.Rules.{lengths_of}
-use Rattle.comp_cores.proofs.EachLemmas.{each_length}
+use Rattle.comp_types.specs.declared.lengths.Lengths.{Lengths}
+use Rattle.comp_types.specs.Rules.{lengths_of}
+use Rattle.comp_scopes.proofs.EachLemmas.{each_length}
 use Rattle.comp_scopes.specs.Stands.{IsEntry, IsNested}
 use Rattle.comp_scopes.proofs.scope.Scope.lengths.Goals as goal
 

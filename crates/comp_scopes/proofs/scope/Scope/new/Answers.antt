@@ -1,5 +1,5 @@
 use Rattle.std.proofs.Common.{◌≡◌, refl, rules, sym, subst, []}
-use Rattle.comp_cores.specs.Found.{Each}
+use Rattle.comp_scopes.specs.Found.{Each}
 use Rattle.comp_scopes.specs.Stands.{IsEntry, IsNested}
 use Rattle.comp_scopes.proofs.scope.Scope.new.Goals as goal
 

@@ -2,7 +2,7 @@ use Rattle.std.proofs.Common.{sym, subst}
 use Rattle.std.proofs.lemmas.Result.{IfOk-weaker}
 use Rattle.wasm_ast.specs.declared.component.Alias.{Alias}
 use Rattle.wasm_ast.specs.declared.component.Alias.TheVariants.{Export, CoreExport}
-use Rattle.comp_rules.specs.Definitions.{AnAlias}
+use Rattle.comp_types.specs.Definitions.{AnAlias}
 use Rattle.comp_around.specs.Judged.{JudgedIn}
 use Rattle.comp_around.proofs.Inner.{judged_inner}
 use Rattle.comp_validate.proofs.definitions.AliasDefines.define.Goals as goal

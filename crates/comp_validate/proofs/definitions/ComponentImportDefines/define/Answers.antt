@@ -1,5 +1,5 @@
 use Rattle.std.proofs.lemmas.Result.{IfOk-weaker}
-use Rattle.comp_rules.specs.Definitions.{AnImport}
+use Rattle.comp_types.specs.Definitions.{AnImport}
 use Rattle.comp_around.proofs.Inner.{judged_inner}
 use Rattle.comp_validate.proofs.definitions.ComponentImportDefines.define.Goals as goal
 

@@ -1,5 +1,5 @@
 use Rattle.std.proofs.lemmas.Result.{IfOk-weaker}
-use Rattle.comp_rules.specs.Definitions.{ACoreInstance}
+use Rattle.comp_types.specs.Definitions.{ACoreInstance}
 use Rattle.comp_around.proofs.Inner.{judged_inner}
 use Rattle.comp_validate.proofs.definitions.CoreInstanceDefines.define.Goals as goal
 

@@ -4,7 +4,7 @@ use Rattle.core_slots.specs.Stacked.{opened}
 use Rattle.core_interp.specs.declared.control.Control.TheVariants.{Entry}
 use Rattle.core_interp.specs.declared.machine.Stage.TheVariants.{Runs, Answered}
 use Rattle.core_interp.specs.declared.machine.Machine.{Machine}
-use Rattle.core_eval.specs.Scene.{scene_of}
+use Rattle.core_store.specs.Scene.{scene_of}
 use Rattle.core_interp.specs.Session.{goes_on}
 use Rattle.core_interp.proofs.Pauses.{pause_from, traps_from, asks_no_trap, asked_entry}
 use Rattle.core_interp.proofs.Beginning.{first_of, begun_goes, begun_can, first_asks}

@@ -1,7 +1,7 @@
 use Rattle.std.proofs.Common.{◌∙◌, ap, sym, refl, Option}
 use Rattle.wasm_ast.specs.declared.module.CoreFunc.{CoreFunc}
 use Rattle.core_store.specs.declared.value.StoreFunc.{StoreFunc}
-use Rattle.core_eval.specs.Eval.{function_type}
+use Rattle.core_store.specs.Eval.{function_type}
 use Rattle.core_interp.proofs.Asking.{topmost}
 use Rattle.core_interp.proofs.Pauses.{results_ok}
 use Rattle.core_interp.proofs.machine.Machine.results.Goals as goal

@@ -1,7 +1,7 @@
 use Rattle.std.proofs.Common.{refl, ap, ◌∙◌, ◌++◌, List}
 use Rattle.std.specs.Prelude.{reverse}
 use Rattle.core_store.specs.declared.value.CoreValue.{CoreValue}
-use Rattle.core_eval.specs.Words.{words}
+use Rattle.core_store.specs.Words.{words}
 use Rattle.core_slots.specs.Stacked.{with_operands}
 use Rattle.core_interp.proofs.Saying.{start_follows}
 use Rattle.core_interp.proofs.machine.Machine.start.Goals as goal

@@ -1,5 +1,5 @@
 use Rattle.std.proofs.Common.{◌<◌, arith, ◌∙◌, ap, sym, length}
-use Rattle.core_eval.specs.Words.{i32_in}
+use Rattle.core_store.specs.Words.{i32_in}
 use Rattle.core_slots.specs.Stacked.{Stacked}
 use Rattle.wasm_ast.specs.declared.instr.Instr.TheVariants.{If}
 use Rattle.core_interp.proofs.Given.{if_can, if_other_leads, if_body_leads}

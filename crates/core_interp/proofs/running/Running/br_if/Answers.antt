@@ -1,5 +1,5 @@
 use Rattle.std.proofs.Common.{◌<◌, arith, ◌∙◌, sym}
-use Rattle.core_eval.specs.Words.{i32_in}
+use Rattle.core_store.specs.Words.{i32_in}
 use Rattle.core_interp.proofs.Entering.{leads_from}
 use Rattle.core_interp.proofs.Stepping.{br_if_needs, br_if_on, br_if_can, br_if_goes}
 use Rattle.core_interp.proofs.running.Running.br_if.Goals as goal

@@ -1,5 +1,5 @@
 use Rattle.std.proofs.Common.{◌∙◌, ap}
-use Rattle.core_eval.specs.Eval.{target}
+use Rattle.core_store.specs.Eval.{target}
 use Rattle.wasm_ast.specs.declared.instr.Instr.TheVariants.{BrTable}
 use Rattle.core_interp.proofs.Entering.{leads_from}
 use Rattle.core_interp.proofs.AtHand.{within_held, table_held, label_held}

@@ -1,7 +1,7 @@
 use Rattle.std.proofs.Common.{◌∙◌, ap, sym, subst, length}
 use Rattle.std.specs.Prelude.{slice_get}
 use Rattle.core_store.specs.declared.value.CoreSpaces.{CoreSpaces}
-use Rattle.core_eval.specs.Fine.{Place}
+use Rattle.core_store.specs.Fine.{Place}
 use Rattle.core_interp.proofs.Entering.{call_names, call_enters, call_leads, leads_from}
 use Rattle.core_interp.proofs.running.Running.call.Goals as goal
 

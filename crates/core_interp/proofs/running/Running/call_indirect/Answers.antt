@@ -1,7 +1,7 @@
 use Rattle.std.proofs.Common.{◌<◌, arith, ◌∙◌, ap, sym, refl, subst, length, Ok, true, false}
 use Rattle.core_store.specs.declared.value.CoreSpaces.{CoreSpaces}
 use Rattle.std.specs.Prelude.{slice_get}
-use Rattle.core_eval.specs.Fine.{Place}
+use Rattle.core_store.specs.Fine.{Place}
 use Rattle.core_store.specs.Table.{got}
 use Rattle.core_store.specs.State.{table_at}
 use Rattle.core_interp.specs.declared.running.Running.{Running}

@@ -1,6 +1,6 @@
 use Rattle.std.proofs.Common.{◌≡◌, ◌+◌, ◌-◌, ◌≤◌, ◌*◌, ℕ, List, length}
-use Rattle.core_eval.specs.Config.{Reply}
-use Rattle.core_eval.specs.Scene.{scene_of}
+use Rattle.core_store.specs.Config.{Reply}
+use Rattle.core_store.specs.Scene.{scene_of}
 use Rattle.core_interp.specs.Run.{goes, ahead, outermost, Ready}
 use Rattle.core_interp.proofs.running.Running.run_on.Given as goal
 

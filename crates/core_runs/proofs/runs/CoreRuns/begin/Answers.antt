@@ -1,7 +1,7 @@
 use Rattle.std.proofs.Common.{◌≡◌, ◌++◌, ◌∷◌, ◌∙◌, [], true, false, refl, sym, ap, subst, slice_get, length}
-use Rattle.core_eval.specs.Scene.{scene_of}
-use Rattle.core_eval.specs.Fine.{IsFine}
-use Rattle.core_eval.proofs.Stores.{grew_same}
+use Rattle.core_store.specs.Scene.{scene_of}
+use Rattle.core_store.specs.Fine.{IsFine}
+use Rattle.core_store.proofs.Stores.{grew_same}
 use Rattle.core_interp.specs.Session.{IsCallable, Follows}
 use Rattle.core_runs.specs.Ready.{AreReady}
 use Rattle.core_runs.proofs.Readying.{counts_on, ready_on, ready_and}

@@ -1,5 +1,5 @@
 use Rattle.std.proofs.Common.{◌≡◌, ◌++◌, ◌∷◌, ◌∙◌, [], true, sym, ap, subst}
-use Rattle.core_eval.specs.Fine.{IsFine}
+use Rattle.core_store.specs.Fine.{IsFine}
 use Rattle.core_runs.specs.Ready.{AreReady}
 use Rattle.core_runs.specs.Done.{Ran}
 use Rattle.core_runs.proofs.Readying.{counts_on, inner_ready, one_last}

@@ -1,10 +1,10 @@
 use Rattle.std.proofs.Common.{◌≡◌, ◌++◌, ◌∷◌, [], sym, subst}
 use Rattle.core_store.specs.State.{State}
 use Rattle.core_store.specs.declared.value.StoreFunc.TheVariants.{Outside}
-use Rattle.core_eval.specs.Scene.{scene_of, Grew}
-use Rattle.core_eval.specs.Fine.{IsFine}
-use Rattle.core_eval.proofs.Stores.{calls_grow}
-use Rattle.core_eval.proofs.Starting.{outside_fine}
+use Rattle.core_store.specs.Scene.{scene_of, Grew}
+use Rattle.core_store.specs.Fine.{IsFine}
+use Rattle.core_store.proofs.Stores.{calls_grow}
+use Rattle.core_store.proofs.Starting.{outside_fine}
 use Rattle.core_runs.specs.Counting.{CountsOf}
 use Rattle.core_runs.proofs.Readying.{idle_on}
 use Rattle.core_runs.proofs.runs.CoreRuns.provide.Goals as goal

@@ -1,9 +1,9 @@
 use Rattle.std.proofs.Common.{◌≡◌, ◌++◌, ◌∷◌, ◌∙◌, List, Bool, [], true, false, refl, sym, ap, subst, length}
 use Rattle.core_store.specs.State.{State}
 use Rattle.core_store.specs.declared.value.CoreValue.{CoreValue}
-use Rattle.core_eval.specs.Scene.{scene_of, Grew}
-use Rattle.core_eval.specs.Fine.{IsFine}
-use Rattle.core_eval.proofs.Stores.{grew_same}
+use Rattle.core_store.specs.Scene.{scene_of, Grew}
+use Rattle.core_store.specs.Fine.{IsFine}
+use Rattle.core_store.proofs.Stores.{grew_same}
 use Rattle.core_interp.specs.Session.{awaited, IsAwaited, resumed}
 use Rattle.core_runs.specs.declared.calls.CoreCall.{CoreCall}
 use Rattle.core_runs.specs.Ready.{IsAt, AreReady}

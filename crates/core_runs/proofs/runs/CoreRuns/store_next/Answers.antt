@@ -1,9 +1,9 @@
 use Rattle.std.proofs.Common.{◌≡◌, ◌∙◌, sym, ap, subst}
 use Rattle.core_store.specs.State.{memory_at}
-use Rattle.core_eval.specs.Scene.{scene_of}
-use Rattle.core_eval.specs.Fine.{IsFine}
-use Rattle.core_eval.proofs.Keeping.{same_memory}
-use Rattle.core_eval.proofs.Stores.{grew_same}
+use Rattle.core_store.specs.Scene.{scene_of}
+use Rattle.core_store.specs.Fine.{IsFine}
+use Rattle.core_store.proofs.Keeping.{same_memory}
+use Rattle.core_store.proofs.Stores.{grew_same}
 use Rattle.core_runs.proofs.Readying.{counts_on, idle_on}
 use Rattle.core_runs.proofs.runs.CoreRuns.store_next.Goals as goal
 

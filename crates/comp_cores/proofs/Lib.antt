@@ -1,4 +1,0 @@
-pub mod EachLemmas
-pub mod NamedLemmas
-pub mod ArgumentLemmas
-pub mod JudgedLemmas

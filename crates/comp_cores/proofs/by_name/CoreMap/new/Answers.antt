@@ -1,7 +1,0 @@
-use Rattle.std.proofs.Common.{rules}
-use Rattle.comp_cores.specs.Found.{found}
-use Rattle.comp_cores.proofs.by_name.CoreMap.new.Goals as goal
-
-pub returns : goal.returns
-unfolding found
-returns c = search rules

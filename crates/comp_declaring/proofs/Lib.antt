@@ -1,3 +1,0 @@
-pub mod RestLemmas
-pub mod StepLemmas
-pub mod ClosingLemmas

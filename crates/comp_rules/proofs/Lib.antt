@@ -1,4 +1,0 @@
-pub mod FaultLaws
-pub mod VerdictLaws
-pub mod Examples
-pub mod GivenLaws

@@ -1,5 +1,0 @@
-use Rattle.comp_rules.proofs.GivenLaws as laws
-use Rattle.comp_rules.proofs.given_is_partner.Goals as goal
-
-pub returns : goal.returns
-returns c = laws.given_is_partner

@@ -1,5 +1,0 @@
-use Rattle.core_eval.proofs.Steps.{go_enter}
-use Rattle.core_eval.proofs.laws.calls_are_bodies.Goals as goal
-
-pub returns : goal.returns
-returns c = go_enter

@@ -1,5 +1,0 @@
-use Rattle.core_eval.proofs.Stores.{nesting_back}
-use Rattle.core_eval.proofs.laws.nesting_comes_back.Goals as goal
-
-pub returns : goal.returns
-returns c = nesting_back

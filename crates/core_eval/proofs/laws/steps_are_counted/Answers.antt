@@ -1,9 +1,0 @@
-use Rattle.core_eval.proofs.Further.{further}
-use Rattle.core_eval.proofs.Steps.{within}
-use Rattle.core_eval.proofs.laws.steps_are_counted.Goals as goal
-
-pub returns-clause-further : goal.returns-clause-further
-returns-clause-further c = further
-
-pub returns-clause-within : goal.returns-clause-within
-returns-clause-within c = within

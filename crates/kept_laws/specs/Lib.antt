@@ -1,4 +1,0 @@
-pub mod Kept
-pub mod Lending
-pub mod Laws
-pub mod LoanLaws

@@ -1,3 +1,0 @@
-pub mod ReadLaws
-pub mod TypeLaws
-pub mod RefusalLaws

@@ -1,0 +1,147 @@
+ghost use Rattle.std.specs.Prelude.{IfOk};
+ghost use Rattle.virt_engine.specs.Lines.{EndsBy};
+ghost use Rattle.virt_engine.specs.Shown.{CanRun, IsShown};
+
+use crate::ends::{end_by, seen_by};
+use crate::lines::Lines;
+use comp_interp::{Run, RunEnd as CallEnd};
+use comp_linking::link;
+use host_port::{Host, Observation};
+use host_script::{Call, ExportTypes, Script, ScriptHost};
+use run_judge::{Judged, RunEnd};
+use script_exports::callable;
+use std::alloc::Global;
+use virt_base::{NoMemory, Text};
+use wit_types::WitType;
+
+/// What is shown of a run.
+#[derive(Drop)]
+pub struct Shown {
+    pub lines: Lines,
+    pub end: RunEnd,
+}
+
+/// The result type of the first function with a name.
+fn result_named<'a>(exports: &'a ExportTypes, name: &Text) -> Option<&'a WitType> {
+    for export in exports.as_slice() {
+        if export.name.is_same(name) {
+            return export.ty.result.as_ref();
+        }
+    }
+    None
+}
+
+/// What was seen behind the first ones.
+fn behind(seen: &[Observation], shown: usize) -> &[Observation] {
+    if shown < seen.len() {
+        &seen[shown..]
+    } else {
+        &[]
+    }
+}
+
+/// A component that runs, with the lines of what was seen so far.
+#[derive(Drop)]
+struct Runner {
+    run: Run<ScriptHost>,
+    lines: Lines,
+    /// So many of the host's observations stand among them.
+    shown: usize,
+}
+
+impl Runner {
+    /// Adds what was seen of the host since then.
+    fn show_host(&mut self, alloc: Global) -> Result<(), NoMemory> {
+        let seen = self.run.host().observations().as_slice();
+        self.lines.add_all(alloc, behind(seen, self.shown))?;
+        self.shown = seen.len();
+        Ok(())
+    }
+
+    /// Adds how a call came out, with a result of this type.
+    fn show_end(
+        &mut self,
+        alloc: Global,
+        end: CallEnd,
+        ty: Option<&WitType>,
+    ) -> Result<RunEnd, NoMemory>
+        ensures { IfOk result (EndsBy self.new.lines) }
+    {
+        let how = end_by(&end);
+        self.lines.add(alloc, &seen_by(end), ty)?;
+        Ok(how)
+    }
+
+    /// Makes the instances of the component.
+    fn make(&mut self, alloc: Global) -> Result<RunEnd, NoMemory>
+        ensures { IfOk result (EndsBy self.new.lines) }
+    {
+        let end = self.run.instantiate(alloc)?;
+        self.show_host(alloc)?;
+        match end {
+            CallEnd::Returned(_) => Ok(RunEnd::Done),
+            end => self.show_end(alloc, end, None),
+        }
+    }
+
+    fn call(
+        &mut self,
+        alloc: Global,
+        exports: &ExportTypes,
+        call: &Call,
+    ) -> Result<RunEnd, NoMemory>
+        ensures { IfOk result (EndsBy self.new.lines) }
+    {
+        let end = self.run.call_export(alloc, &call.name, &call.args)?;
+        self.show_host(alloc)?;
+        self.show_end(alloc, end, result_named(exports, &call.name))
+    }
+
+    /// Makes the component and calls its exports, until all are called or one does not return.
+    fn go(
+        &mut self,
+        alloc: Global,
+        exports: &ExportTypes,
+        calls: &[Call],
+    ) -> Result<RunEnd, NoMemory>
+        ensures { IfOk result (EndsBy self.new.lines) }
+    {
+        let made = self.make(alloc)?;
+        let RunEnd::Done = made else {
+            return Ok(made);
+        };
+        for call in calls {
+            let end = self.call(alloc, exports, call)?;
+            let RunEnd::Done = end else {
+                return Ok(end);
+            };
+        }
+        Ok(RunEnd::Done)
+    }
+}
+
+/// Runs a component over a script, in at most so many steps: it is made, and the script's calls are made, until one does not return.
+pub fn run_component(
+    alloc: Global,
+    judged: Judged,
+    script: Script,
+    steps: u64,
+) -> Result<Shown, NoMemory>
+    requires { CanRun judged }
+    ensures { IfOk result IsShown }
+{
+    let Judged { component, ty } = judged;
+    let Script { answers, calls } = script;
+    let exports = callable(alloc, &ty)?;
+    let linked = link(alloc, component)?;
+    let mut runner = Runner {
+        run: Run::new(alloc, linked, ScriptHost::new(answers), steps),
+        lines: Lines::none(alloc),
+        shown: 0,
+    };
+    let end = runner.go(alloc, &exports, calls.as_slice())?;
+    Ok(Shown {
+        lines: runner.lines,
+        end,
+    })
+}
