@@ -1,5 +1,5 @@
 #!/usr/bin/env python3
-"""Writes the small components of crates/run_cases that show handles, instances in one another and closed instances.
+"""Writes the small components of crates/engine_rows that show handles, instances in one another and closed instances.
 
 Each is put together section by section, as the Component Model's Binary.md has them; core modules as WebAssembly Core 2.0 has them.
 """

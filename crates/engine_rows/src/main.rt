@@ -1,14 +1,38 @@
 //! Runs the components of tables over their scripts, and says of each whether its status and its lines are those that stand beside
-//! them.
+//! them. Its tests are the rows for the top call: the files that it writes, the text that it puts and its exit status; which words give a
+//! run, and why nothing is run; and each exit status over files that tell nothing and answer what a row says, where a file of any length
+//! costs nothing.
 #![tactic(auto)]
 
+#[cfg(test)]
+mod calling;
+#[cfg(test)]
+mod calls;
 mod cases;
+#[cfg(test)]
+mod fixtures;
+#[cfg(test)]
+mod puts;
+#[cfg(test)]
+mod refusals;
+#[cfg(test)]
+mod run_fixtures;
+#[cfg(test)]
+mod run_refusals;
+#[cfg(test)]
 mod runs;
+#[cfg(test)]
+mod saying;
+#[cfg(test)]
+mod statuses;
+mod stored;
+#[cfg(test)]
+mod usage;
 
 use cases::case_in;
-use runs::comes_out;
 use std::process::ExitCode;
 use std::{env, fs, io};
+use stored::comes_out;
 
 /// Whether a row of a table comes out.
 fn run_row(rt: &HostRuntime, row: &str) -> io::Result<bool> {
