@@ -1,3 +1,4 @@
 pub mod PlainLemmas
 pub mod ValueLemmas
 pub mod TypingLemmas
+pub mod Only

@@ -1,4 +1,4 @@
-#![tactic(auto, using(crate::proofs::PlainLemmas::plains, crate::proofs::ValueLemmas::values))]
+#![tactic(auto, using(crate::proofs::PlainLemmas::plains, crate::proofs::ValueLemmas::values, crate::proofs::Only::only))]
 
 ghost use Rattle.std.specs.Prelude.{◌≡◌, ◌↔◌, ◌&&◌, nat_lt, pos, IsTrue, []};
 ghost use Rattle.wit_types.specs.Plain.{plain, payload_of, fields_of, types_of, cases_of, case_part, End, More, Bare};
@@ -14,14 +14,7 @@ fn is_bool(value: &Value) -> bool
 {
     match value {
         Value::Bool(_) => true,
-        Value::Int(_)
-        | Value::Char(_)
-        | Value::Str(_)
-        | Value::List(_)
-        | Value::Record(_)
-        | Value::Variant(_, _)
-        | Value::Flags(_)
-        | Value::Handle(_) => false,
+        _ => false,
     }
 }
 
@@ -30,14 +23,7 @@ fn is_string(value: &Value) -> bool
 {
     match value {
         Value::Str(_) => true,
-        Value::Bool(_)
-        | Value::Int(_)
-        | Value::Char(_)
-        | Value::List(_)
-        | Value::Record(_)
-        | Value::Variant(_, _)
-        | Value::Flags(_)
-        | Value::Handle(_) => false,
+        _ => false,
     }
 }
 
@@ -46,14 +32,7 @@ fn is_integer(value: &Value, low: i128, end: i128) -> bool
 {
     match value {
         Value::Int(n) => low <= *n && *n < end,
-        Value::Bool(_)
-        | Value::Char(_)
-        | Value::Str(_)
-        | Value::List(_)
-        | Value::Record(_)
-        | Value::Variant(_, _)
-        | Value::Flags(_)
-        | Value::Handle(_) => false,
+        _ => false,
     }
 }
 
@@ -70,14 +49,7 @@ fn is_char(value: &Value) -> bool
 {
     match value {
         Value::Char(c) => is_scalar(*c),
-        Value::Bool(_)
-        | Value::Int(_)
-        | Value::Str(_)
-        | Value::List(_)
-        | Value::Record(_)
-        | Value::Variant(_, _)
-        | Value::Flags(_)
-        | Value::Handle(_) => false,
+        _ => false,
     }
 }
 
@@ -93,14 +65,7 @@ fn is_flags(value: &Value, count: usize) -> bool
 {
     match value {
         Value::Flags(bits) => fits_flags(*bits, count),
-        Value::Bool(_)
-        | Value::Int(_)
-        | Value::Char(_)
-        | Value::Str(_)
-        | Value::List(_)
-        | Value::Record(_)
-        | Value::Variant(_, _)
-        | Value::Handle(_) => false,
+        _ => false,
     }
 }
 
@@ -109,14 +74,7 @@ fn is_handle(value: &Value) -> bool
 {
     match value {
         Value::Handle(_) => true,
-        Value::Bool(_)
-        | Value::Int(_)
-        | Value::Char(_)
-        | Value::Str(_)
-        | Value::List(_)
-        | Value::Record(_)
-        | Value::Variant(_, _)
-        | Value::Flags(_) => false,
+        _ => false,
     }
 }
 
@@ -128,10 +86,7 @@ fn is_byte_of(byte: u8, ty: &WitType) -> bool
         WitType::S8 => byte < 0x80,
         WitType::U8 | WitType::S16 | WitType::U16 | WitType::S32 | WitType::U32 => true,
         WitType::S64 | WitType::U64 => true,
-        WitType::Bool | WitType::Char | WitType::Str | WitType::Flags(_) | WitType::Enum(_) =>
-            false,
-        WitType::Record(_) | WitType::Tuple(_) | WitType::Variant(_) | WitType::List(_) => false,
-        WitType::Option(_) | WitType::Result(_, _) | WitType::Own(_) | WitType::Borrow(_) => false,
+        _ => false,
     }
 }
 
@@ -204,14 +159,7 @@ fn is_list(value: &Value, item: &WitType) -> bool
 {
     match value {
         Value::List(values) => are_items(values, item),
-        Value::Bool(_)
-        | Value::Int(_)
-        | Value::Char(_)
-        | Value::Str(_)
-        | Value::Record(_)
-        | Value::Variant(_, _)
-        | Value::Flags(_)
-        | Value::Handle(_) => false,
+        _ => false,
     }
 }
 
@@ -243,14 +191,7 @@ fn is_record(value: &Value, fields: &[Field]) -> bool
 {
     match value {
         Value::Record(values) => are_fields(values, fields),
-        Value::Bool(_)
-        | Value::Int(_)
-        | Value::Char(_)
-        | Value::Str(_)
-        | Value::List(_)
-        | Value::Variant(_, _)
-        | Value::Flags(_)
-        | Value::Handle(_) => false,
+        _ => false,
     }
 }
 
@@ -285,14 +226,7 @@ fn is_tuple(value: &Value, types: &[WitType]) -> bool
 {
     match value {
         Value::Record(values) => are_parts(values, types),
-        Value::Bool(_)
-        | Value::Int(_)
-        | Value::Char(_)
-        | Value::Str(_)
-        | Value::List(_)
-        | Value::Variant(_, _)
-        | Value::Flags(_)
-        | Value::Handle(_) => false,
+        _ => false,
     }
 }
 
@@ -330,14 +264,7 @@ fn is_variant(value: &Value, cases: &[Case]) -> bool
             let number = *number as usize;
             number < cases.len() && is_payload(payload, &cases[number].ty)
         }
-        Value::Bool(_)
-        | Value::Int(_)
-        | Value::Char(_)
-        | Value::Str(_)
-        | Value::List(_)
-        | Value::Record(_)
-        | Value::Flags(_)
-        | Value::Handle(_) => false,
+        _ => false,
     }
 }
 
@@ -346,14 +273,7 @@ fn is_enum(value: &Value, count: usize) -> bool
 {
     match value {
         Value::Variant(number, payload) => (*number as usize) < count && payload.is_none(),
-        Value::Bool(_)
-        | Value::Int(_)
-        | Value::Char(_)
-        | Value::Str(_)
-        | Value::List(_)
-        | Value::Record(_)
-        | Value::Flags(_)
-        | Value::Handle(_) => false,
+        _ => false,
     }
 }
 
@@ -369,14 +289,7 @@ fn is_option(value: &Value, some: &WitType) -> bool
                 *number == 1 && is_present(payload, some)
             }
         }
-        Value::Bool(_)
-        | Value::Int(_)
-        | Value::Char(_)
-        | Value::Str(_)
-        | Value::List(_)
-        | Value::Record(_)
-        | Value::Flags(_)
-        | Value::Handle(_) => false,
+        _ => false,
     }
 }
 
@@ -392,19 +305,13 @@ fn is_result(value: &Value, ok: &Option<Rc<WitType>>, err: &Option<Rc<WitType>>)
                 *number == 1 && is_payload(payload, err)
             }
         }
-        Value::Bool(_)
-        | Value::Int(_)
-        | Value::Char(_)
-        | Value::Str(_)
-        | Value::List(_)
-        | Value::Record(_)
-        | Value::Flags(_)
-        | Value::Handle(_) => false,
+        _ => false,
     }
 }
 
 /// Whether the value has the type. A handle type has every handle.
 #[cycle(has_type)]
+#[tactic(auto, using(crate::proofs::PlainLemmas::plains, crate::proofs::ValueLemmas::values))]
 pub fn has_type(value: &Value, ty: &WitType) -> bool
     ensures value { result ≡ is_of (plain ty.now) (plain_value value.now) }
     ensures rule { IsTrue result ↔ HasType value.now ty.now }
