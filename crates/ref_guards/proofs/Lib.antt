@@ -2,3 +2,4 @@ mod AlikeLemmas
 mod AtomLemmas
 mod HandleLemmas
 mod RoomLemmas
+mod Only

@@ -1,5 +1,5 @@
 // Types that are equal but for the numbers of handles.
-#![tactic(auto, using(wit_types::proofs::PlainLemmas::plains, crate::proofs::AlikeLemmas::case_before, crate::proofs::AlikeLemmas::bare_alike, crate::proofs::AlikeLemmas::result_alike))]
+#![tactic(auto, using(wit_types::proofs::PlainLemmas::plains, crate::proofs::AlikeLemmas::case_before, crate::proofs::AlikeLemmas::bare_alike, crate::proofs::AlikeLemmas::result_alike, crate::proofs::Only::only))]
 
 ghost use Rattle.std.specs.Prelude.{◌≡◌, [], false, IfSome, IfNone};
 ghost use Rattle.wit_types.specs.Plain.{Parts, plain, plain_result, payload_of, case_part, fields_of, types_of, cases_of, bare, AsRecord, AsTuple, AsVariant, AsEnum, AsOption, AsResult, Bare, More, End, ListType, RecordType, VariantType};
@@ -41,9 +41,7 @@ fn leaf_of(ty: &WitType) -> Option<Leaf>
         WitType::U64 => Some(Leaf::U64),
         WitType::Char => Some(Leaf::Char),
         WitType::Str => Some(Leaf::Str),
-        WitType::Record(_) | WitType::Tuple(_) | WitType::Variant(_) | WitType::List(_) => None,
-        WitType::Flags(_) | WitType::Enum(_) | WitType::Option(_) | WitType::Result(_, _) => None,
-        WitType::Own(_) | WitType::Borrow(_) => None,
+        _ => None,
     }
 }
 
@@ -58,15 +56,7 @@ fn is_own(ty: &WitType) -> bool
 {
     match ty {
         WitType::Own(_) => true,
-        WitType::Bool | WitType::S8 | WitType::U8 | WitType::S16 | WitType::U16 => false,
-        WitType::S32 | WitType::U32 | WitType::S64 | WitType::U64 => false,
-        WitType::Char | WitType::Str => false,
-        WitType::Record(_)
-        | WitType::Tuple(_)
-        | WitType::Variant(_)
-        | WitType::List(_)
-        | WitType::Flags(_) => false,
-        WitType::Enum(_) | WitType::Option(_) | WitType::Result(_, _) | WitType::Borrow(_) => false,
+        _ => false,
     }
 }
 
@@ -75,15 +65,7 @@ fn is_borrow(ty: &WitType) -> bool
 {
     match ty {
         WitType::Borrow(_) => true,
-        WitType::Bool | WitType::S8 | WitType::U8 | WitType::S16 | WitType::U16 => false,
-        WitType::S32 | WitType::U32 | WitType::S64 | WitType::U64 => false,
-        WitType::Char | WitType::Str => false,
-        WitType::Record(_)
-        | WitType::Tuple(_)
-        | WitType::Variant(_)
-        | WitType::List(_)
-        | WitType::Flags(_) => false,
-        WitType::Enum(_) | WitType::Option(_) | WitType::Result(_, _) | WitType::Own(_) => false,
+        _ => false,
     }
 }
 
@@ -106,15 +88,7 @@ fn is_flags(labels: &[Text], ty: &WitType) -> bool
 {
     match ty {
         WitType::Flags(others) => same_labels(labels, others.as_slice()),
-        WitType::Bool | WitType::S8 | WitType::U8 | WitType::S16 | WitType::U16 => false,
-        WitType::S32 | WitType::U32 | WitType::S64 | WitType::U64 => false,
-        WitType::Char | WitType::Str => false,
-        WitType::Record(_)
-        | WitType::Tuple(_)
-        | WitType::Variant(_)
-        | WitType::List(_)
-        | WitType::Enum(_) => false,
-        WitType::Option(_) | WitType::Result(_, _) | WitType::Own(_) | WitType::Borrow(_) => false,
+        _ => false,
     }
 }
 
@@ -123,15 +97,7 @@ fn is_enum(labels: &[Text], ty: &WitType) -> bool
 {
     match ty {
         WitType::Enum(others) => same_labels(labels, others.as_slice()),
-        WitType::Bool | WitType::S8 | WitType::U8 | WitType::S16 | WitType::U16 => false,
-        WitType::S32 | WitType::U32 | WitType::S64 | WitType::U64 => false,
-        WitType::Char | WitType::Str => false,
-        WitType::Record(_)
-        | WitType::Tuple(_)
-        | WitType::Variant(_)
-        | WitType::List(_)
-        | WitType::Flags(_) => false,
-        WitType::Option(_) | WitType::Result(_, _) | WitType::Own(_) | WitType::Borrow(_) => false,
+        _ => false,
     }
 }
 
@@ -142,15 +108,7 @@ fn payloads_of(ty: &WitType) -> Option<(&Option<Rc<WitType>>, &Option<Rc<WitType
 {
     match ty {
         WitType::Result(ok, err) => Some((ok, err)),
-        WitType::Bool | WitType::S8 | WitType::U8 | WitType::S16 | WitType::U16 => None,
-        WitType::S32 | WitType::U32 | WitType::S64 | WitType::U64 => None,
-        WitType::Char | WitType::Str => None,
-        WitType::Record(_)
-        | WitType::Tuple(_)
-        | WitType::Variant(_)
-        | WitType::List(_)
-        | WitType::Flags(_) => None,
-        WitType::Enum(_) | WitType::Option(_) | WitType::Own(_) | WitType::Borrow(_) => None,
+        _ => None,
     }
 }
 
@@ -218,15 +176,7 @@ fn is_record(fields: &[Field], ty: &WitType) -> bool
 {
     match ty {
         WitType::Record(others) => are_fields(fields, &others.items),
-        WitType::Bool | WitType::S8 | WitType::U8 | WitType::S16 | WitType::U16 => false,
-        WitType::S32 | WitType::U32 | WitType::S64 | WitType::U64 => false,
-        WitType::Char | WitType::Str => false,
-        WitType::Tuple(_)
-        | WitType::Variant(_)
-        | WitType::List(_)
-        | WitType::Flags(_)
-        | WitType::Enum(_) => false,
-        WitType::Option(_) | WitType::Result(_, _) | WitType::Own(_) | WitType::Borrow(_) => false,
+        _ => false,
     }
 }
 
@@ -254,15 +204,7 @@ fn is_variant(cases: &[Case], ty: &WitType) -> bool
 {
     match ty {
         WitType::Variant(others) => are_cases(cases, &others.items),
-        WitType::Bool | WitType::S8 | WitType::U8 | WitType::S16 | WitType::U16 => false,
-        WitType::S32 | WitType::U32 | WitType::S64 | WitType::U64 => false,
-        WitType::Char | WitType::Str => false,
-        WitType::Record(_)
-        | WitType::Tuple(_)
-        | WitType::List(_)
-        | WitType::Flags(_)
-        | WitType::Enum(_) => false,
-        WitType::Option(_) | WitType::Result(_, _) | WitType::Own(_) | WitType::Borrow(_) => false,
+        _ => false,
     }
 }
 
@@ -272,15 +214,7 @@ fn is_list(item: &WitType, ty: &WitType) -> bool
 {
     match ty {
         WitType::List(other) => alike(item, other),
-        WitType::Bool | WitType::S8 | WitType::U8 | WitType::S16 | WitType::U16 => false,
-        WitType::S32 | WitType::U32 | WitType::S64 | WitType::U64 => false,
-        WitType::Char | WitType::Str => false,
-        WitType::Record(_)
-        | WitType::Tuple(_)
-        | WitType::Variant(_)
-        | WitType::Flags(_)
-        | WitType::Enum(_) => false,
-        WitType::Option(_) | WitType::Result(_, _) | WitType::Own(_) | WitType::Borrow(_) => false,
+        _ => false,
     }
 }
 
@@ -290,20 +224,13 @@ fn is_option(some: &WitType, ty: &WitType) -> bool
 {
     match ty {
         WitType::Option(other) => alike(some, other),
-        WitType::Bool | WitType::S8 | WitType::U8 | WitType::S16 | WitType::U16 => false,
-        WitType::S32 | WitType::U32 | WitType::S64 | WitType::U64 => false,
-        WitType::Char | WitType::Str => false,
-        WitType::Record(_)
-        | WitType::Tuple(_)
-        | WitType::Variant(_)
-        | WitType::List(_)
-        | WitType::Flags(_) => false,
-        WitType::Enum(_) | WitType::Result(_, _) | WitType::Own(_) | WitType::Borrow(_) => false,
+        _ => false,
     }
 }
 
 /// Whether two types are equal but for the numbers of handles.
 #[cycle(alike)]
+#[tactic(auto, using(wit_types::proofs::PlainLemmas::plains, crate::proofs::AlikeLemmas::case_before, crate::proofs::AlikeLemmas::bare_alike, crate::proofs::AlikeLemmas::result_alike))]
 pub fn alike(ty: &WitType, other: &WitType) -> bool
     ensures { result ≡ alike (plain ty.now) (plain other.now) }
 {
