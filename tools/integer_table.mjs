@@ -1,5 +1,5 @@
 // Prints, for each numeric opcode on integers, a hash of what this engine answers at each pair of edge values.
-// The table in crates/store_rows/src/integers.rt is its output: node tools/integer_table.mjs
+// The table in crates/core_rows/src/integers.rt is its output: node tools/integer_table.mjs
 const edges = [0n, 1n, 2n, 7n, 31n, 32n, 63n, 64n, 0x7Fn, 0x80n, 0xFFn, 0x8000n, 0x12345678n, 0x7FFFFFFFn, 0x80000000n, 0xFFFFFFFFn,
   0x100000000n, 0x123456789ABCDEF0n, 0x7FFFFFFFFFFFFFFFn, 0x8000000000000000n, 0xFFFFFFFFFFFFFFFFn];
 const I32 = 0x7F, I64 = 0x7E;
@@ -30,5 +30,5 @@ for (const row of table) {
     }
     hash = BigInt.asUintN(64, (hash ^ answer) * 0x100000001B3n);
   }
-  console.log(`    (0x${row.op.toString(16).toUpperCase()}, 0x${hash.toString(16).toUpperCase()}),`);
+  console.log(`${row.op.toString(16)} => Some(${hash})`);
 }

@@ -1,0 +1,353 @@
+//! Rows: each call on a store with ample memory, and calls at the edges.
+
+ghost use Rattle.std.specs.Prelude.{◌≤◌, ◌<◌, length};
+
+use crate::rows::{hold, same, shown};
+use core_store::{
+    CoreRef, CoreRefs, CoreSpaces, CoreValue, Locals, Shared, Store, StoreFunc, add_elements,
+    add_function, add_global, add_instance, add_memory, add_segment, add_table, copy, drop_element,
+    drop_segment, fill, function, functions, global_get, global_set, grow, init, instances, load,
+    size, spaces, store_at, table_copy, table_fill, table_get, table_grow, table_init, table_set,
+    table_size,
+};
+use std::alloc::Global;
+use std::test::Fail;
+use virt_base::{CoreType, CoreTypes, Items};
+use wasm_ast::{CoreFunc, Indexes, LocalRun};
+
+/// A store, and how many memories, tables and segments were added to it.
+#[derive(Drop)]
+struct Scene {
+    store: Store,
+    memories: u32,
+    tables: u32,
+    segments: u32,
+    elements: u32,
+    ghost memories_there: { memories ≤ length store.memories },
+    ghost tables_there: { tables ≤ length store.tables },
+    ghost segments_there: { segments ≤ length store.segments },
+    ghost elements_there: { elements ≤ length store.elements },
+}
+
+/// The numbers of words.
+fn numbers_of(alloc: Global, words: &str) -> Result<Vec<u32>, Fail> {
+    let mut all = Vec::new(alloc);
+    for word in words.split_whitespace() {
+        match word.parse::<u32>() {
+            Ok(number) => all.push(number)?,
+            Err(_) => return Err(Fail::from("no number")),
+        }
+    }
+    Ok(all)
+}
+
+/// A function of the embedder, of this number, which takes and gives nothing.
+fn outside(alloc: Global, number: u32) -> Result<StoreFunc, Fail> {
+    let ty = CoreFunc {
+        params: CoreTypes::empty(alloc),
+        results: CoreTypes::empty(alloc),
+    };
+    let ty = Shared::new(alloc, ty)?;
+    Ok(StoreFunc::Outside { ty, number })
+}
+
+impl Scene {
+    fn new(alloc: Global) -> Scene {
+        Scene {
+            store: Store::new(alloc),
+            memories: 0,
+            tables: 0,
+            segments: 0,
+            elements: 0,
+        }
+    }
+
+    /// Adds what begins with this letter: a memory or a table of so many pages or null references, four bytes, so many null
+    /// references, or the embedder's function of this number.
+    fn add(&mut self, alloc: Global, kind: u8, number: u32) -> Result<String, Fail> {
+        let at = match kind {
+            b'm' => {
+                let at = add_memory(alloc, &mut self.store, number, None)?;
+                self.memories = at + 1;
+                at
+            }
+            b't' => {
+                let at = add_table(alloc, &mut self.store, number, None)?;
+                self.tables = at + 1;
+                at
+            }
+            b's' => {
+                let at = add_segment(alloc, &mut self.store, b"abcd")?;
+                self.segments = at + 1;
+                at
+            }
+            b'e' => {
+                let nulls = CoreRefs::new(vec![in alloc; CoreRef::Null; number as usize]?);
+                let at = add_elements(alloc, &mut self.store, nulls)?;
+                self.elements = at + 1;
+                at
+            }
+            _ => add_function(alloc, &mut self.store, outside(alloc, number)?)?,
+        };
+        shown(alloc, &at)
+    }
+
+    /// Calls on memories, by their first letter: the memory, and further numbers.
+    fn call_memory(
+        &mut self,
+        alloc: Global,
+        call: u8,
+        memory: u32,
+        numbers: &[u32],
+    ) -> Result<String, Fail> {
+        if memory >= self.memories {
+            return Err(Fail::from("no such memory"));
+        }
+        let has_segment = self.segments > 0;
+        let store = &mut self.store;
+        match (call, numbers) {
+            (b'f', [at, len]) => shown(
+                alloc,
+                &fill(store, memory, u64::from(*at), 7, u64::from(*len)),
+            ),
+            (b'l', [at, 1]) => shown(alloc, &load(store, memory, u64::from(*at), 1)),
+            (b'l', [at, 2]) => shown(alloc, &load(store, memory, u64::from(*at), 2)),
+            (b'l', [at, 8]) => shown(alloc, &load(store, memory, u64::from(*at), 8)),
+            (b'p', [at, value]) => shown(
+                alloc,
+                &store_at(store, memory, u64::from(*at), 1, u64::from(*value)),
+            ),
+            (b'c', [to, from, len]) => shown(
+                alloc,
+                &copy(
+                    store,
+                    memory,
+                    u64::from(*to),
+                    u64::from(*from),
+                    u64::from(*len),
+                ),
+            ),
+            (b'i', [to, from, len]) if has_segment => shown(
+                alloc,
+                &init(
+                    store,
+                    memory,
+                    u64::from(*to),
+                    0,
+                    u64::from(*from),
+                    u64::from(*len),
+                ),
+            ),
+            (b'd', []) if has_segment => shown(alloc, &drop_segment(store, 0)),
+            (b'g', [by]) => shown(alloc, &grow(alloc, store, memory, *by)),
+            (b's', []) => shown(alloc, &size(store, memory)),
+            (b'm', []) => shown(alloc, &store.made(memory)),
+            _ => Err(Fail::from("no call on memories")),
+        }
+    }
+
+    /// Calls on tables, by their first letter: the table, and further numbers.
+    fn call_table(
+        &mut self,
+        alloc: Global,
+        call: u8,
+        table: u32,
+        numbers: &[u32],
+    ) -> Result<String, Fail> {
+        if table >= self.tables {
+            return Err(Fail::from("no such table"));
+        }
+        let has_elements = self.elements > 0;
+        let store = &mut self.store;
+        let has_function = functions(store) > 0;
+        match (call, numbers) {
+            (b'f', [at, len]) if has_function => shown(
+                alloc,
+                &table_fill(store, table, *at, CoreRef::Func(0), *len),
+            ),
+            (b'g', [at]) => shown(alloc, &table_get(store, table, *at)),
+            (b's', [at]) if has_function => {
+                shown(alloc, &table_set(store, table, *at, CoreRef::Func(0)))
+            }
+            (b'n', [at]) => shown(alloc, &table_set(store, table, *at, CoreRef::Null)),
+            (b'c', [to, from, len]) => shown(
+                alloc,
+                &table_copy(store, table, *to, table, *from, *len),
+            ),
+            (b'i', [to, from, len]) if has_elements => shown(
+                alloc,
+                &table_init(store, table, *to, 0, *from, *len),
+            ),
+            (b'd', []) if has_elements => shown(alloc, &drop_element(store, 0)),
+            (b'e', [by]) => shown(alloc, &table_grow(alloc, store, table, *by, CoreRef::Null)),
+            (b'l', []) => shown(alloc, &table_size(store, table)),
+            _ => Err(Fail::from("no call on tables")),
+        }
+    }
+
+    fn call(&mut self, alloc: Global, words: &str) -> Result<String, Fail> {
+        let Some((name, numbers)) = words.split_once(' ') else {
+            return Err(Fail::from("a call without numbers"));
+        };
+        let numbers = numbers_of(alloc, numbers)?;
+        let [at, rest @ ..] = numbers.as_slice() else {
+            return Err(Fail::from("a call without numbers"));
+        };
+        match name.as_bytes() {
+            [b'a', b'd', b'd', b'_', kind, ..] => self.add(alloc, *kind, *at),
+            [b't', b'_', call, ..] => self.call_table(alloc, *call, *at, rest),
+            [call, ..] => self.call_memory(alloc, *call, *at, rest),
+            [] => Err(Fail::from("no call")),
+        }
+    }
+}
+
+/// Calls on a store: what is added, and what is done to the memory at a place, or behind `t_` to the table. Each begins with a letter
+/// of its own: `put` is `store_at`, `null` sets to null, `extend` grows and `length` is the size.
+const MEMORIES: &str = "\
+# fills at the end of a memory
+add_memory 1 => 0
+fill 0 65535 2 => Err(Trap)
+load 0 65535 1 => Ok(0)
+fill 0 65536 0 => Ok(())
+fill 0 65537 0 => Err(Trap)
+# pages of two memories
+add_memory 4096 => 1
+add_memory 1 => 2
+put 1 0 5 => Ok(())
+put 1 268435455 6 => Ok(())
+made 1 => 2
+made 2 => 0
+# a copy of zeros makes its pages
+add_memory 4 => 3
+copy 3 65535 0 65537 => Ok(())
+made 3 => 2
+load 3 65535 8 => Ok(0)
+# a data segment is dropped
+add_segment 0 => 0
+init 0 10 1 2 => Ok(())
+load 0 10 2 => Ok(25442)
+drop 0 => ()
+init 0 10 0 1 => Err(Trap)
+init 0 65536 0 0 => Ok(())
+# a memory grows up to 4,096 pages
+grow 0 0 => Ok(1)
+grow 0 4095 => Ok(1)
+grow 0 1 => Ok(-1)
+size 0 => 4096";
+
+const TABLES: &str = "\
+# references in a table
+add_function 7 => 0
+add_table 3 => 0
+t_fill 0 2 2 => Err(Trap)
+t_get 0 2 => Ok(Null)
+t_set 0 0 => Ok(())
+t_null 0 3 => Err(Trap)
+t_copy 0 1 0 2 => Ok(())
+t_get 0 1 => Ok(Func(0))
+t_get 0 2 => Ok(Null)
+t_get 0 3 => Err(Trap)
+# an element segment is dropped
+add_table 2 => 1
+add_elements 2 => 0
+t_init 1 0 0 2 => Ok(())
+t_drop 1 => ()
+t_init 1 0 0 1 => Err(Trap)
+# a table grows up to its most
+add_table 0 => 2
+t_extend 2 1048576 => Ok(0)
+t_extend 2 1 => Ok(-1)
+t_length 2 => 1048576";
+
+#[test]
+fn calls_on_a_store(rt: HostRuntime) -> Result<(), Fail> {
+    let mut scene = Scene::new(rt.alloc());
+    hold(
+        &rt,
+        rt.alloc(),
+        MEMORIES,
+        |alloc, words| scene.call(alloc, words),
+    )?;
+    hold(
+        &rt,
+        rt.alloc(),
+        TABLES,
+        |alloc, words| scene.call(alloc, words),
+    )
+}
+
+#[test]
+fn globals_and_instances(rt: HostRuntime) -> Result<(), Fail> {
+    let alloc = rt.alloc();
+    let none = CoreSpaces {
+        types: Items::empty(alloc),
+        functions: Indexes::empty(alloc),
+        tables: Indexes::empty(alloc),
+        memories: Indexes::empty(alloc),
+        globals: Indexes::empty(alloc),
+        segments: Indexes::empty(alloc),
+        elements: Indexes::empty(alloc),
+    };
+    let outside = outside(alloc, 7)?;
+    let mut store = Store::new(alloc);
+    let before = instances(&store);
+    let added = (
+        add_instance(alloc, &mut store, none)?,
+        add_function(alloc, &mut store, outside)?,
+        add_global(alloc, &mut store, CoreValue::I64(5))?,
+    );
+    global_set(&mut store, 0, CoreValue::I64(6));
+    let found = (
+        (global_get(&store, 0), functions(&store), instances(&store)),
+        spaces(&store, 0).get().functions.len(),
+        matches!(function(&store, 0), StoreFunc::Outside { ty: _, number: 7 }),
+    );
+    same(
+        &rt,
+        alloc,
+        &(before, added, found),
+        "(0, (0, 0, 0), ((I64(6), 1, 1), 0, true))",
+    )
+}
+
+/// Calls up to the most that may be in progress, locals in runs, and a value of two owners.
+#[test]
+fn calls_and_their_locals(rt: HostRuntime) -> Result<(), Fail> {
+    let alloc = rt.alloc();
+    let runs = [
+        LocalRun {
+            count: 50_000,
+            ty: CoreType::I32,
+        },
+        LocalRun {
+            count: 0,
+            ty: CoreType::I64,
+        },
+        LocalRun {
+            count: 3,
+            ty: CoreType::Funcref,
+        },
+    ];
+    let locals = Locals::new(alloc, &runs)?;
+    let first = Shared::new(alloc, Indexes::empty(alloc))?;
+    let second = first.share()?;
+    drop(first);
+    let mut store = Store::new(alloc);
+    store.set_nesting(65535);
+    let entered = (store.enter(), store.enter());
+    store.leave();
+    let found = (
+        entered,
+        store.nesting(),
+        locals.len(),
+        locals.is_empty(),
+        second.get().len(),
+    );
+    same(
+        &rt,
+        alloc,
+        &found,
+        "((Ok(()), Err(TooDeep)), 65535, 50003, false, 0)",
+    )
+}
