@@ -1,17 +1,19 @@
+use crate::rows::{number_in, parts, printed, same};
 use outside::{
-    Contents, Entry, EntryKind, FileFail, Files, MemFiles, MemSink, Named, Places, PutFailed, Sink,
-    WriteFailed,
+    Contents, Entries, Entry, EntryKind, FileFail, Files, MemFiles, MemSink, Named, Places, Sink,
 };
-use std::alloc::{AllocError, Global};
-use std::process::Abort;
+use std::alloc::Global;
 use std::test::Fail;
-use virt_base::{Items, Text};
+use virt_base::{Items, Text, copy_bytes};
 
-fn entry(a: Global, name: &str, kind: EntryKind) -> Result<Entry, Fail> {
-    Ok(Entry {
-        name: Text::from_str(a, name)?,
-        kind,
-    })
+/// A file `x` and a folder `xy`.
+fn entries(a: Global) -> Result<Entries, Fail> {
+    let mut entries = Items::empty(a);
+    for (name, kind) in [("x", EntryKind::File), ("xy", EntryKind::Folder)] {
+        let name = Text::from_str(a, name)?;
+        entries.push(Entry { name, kind })?;
+    }
+    Ok(entries)
 }
 
 /// The file `a` with two bytes, and the folder `d` with a file and a folder.
@@ -19,184 +21,151 @@ fn contents(a: Global) -> Result<Contents, Fail> {
     let mut files = Items::empty(a);
     files.push(Named {
         name: Text::from_str(a, "a")?,
-        value: Items::new(Vec::from_slice(a, b"12")?),
+        value: copy_bytes(a, b"12")?,
     })?;
-    let mut entries = Items::empty(a);
-    entries.push(entry(a, "x", EntryKind::File)?)?;
-    entries.push(entry(a, "xy", EntryKind::Folder)?)?;
     let mut folders = Items::empty(a);
     folders.push(Named {
         name: Text::from_str(a, "d")?,
-        value: entries,
+        value: entries(a)?,
     })?;
     Ok(Contents { files, folders })
 }
 
-fn places(a: Global, numbers: &[u64]) -> Result<Places, AllocError> {
+fn places(a: Global, numbers: &[u64]) -> Result<Places, Fail> {
     Ok(Items::new(Vec::from_slice(a, numbers)?))
 }
 
-fn files_with(a: Global, numbers: &[u64]) -> Result<MemFiles, Fail> {
+fn files_with(a: Global, failing: &[u64]) -> Result<MemFiles, Fail> {
     let contents = contents(a)?;
     if !contents.is_in_order() {
         return Err(Fail::new("not in order"));
     }
-    Ok(MemFiles::new(a, contents, places(a, numbers)?)?)
-}
-
-#[derive(Debug, Clone, Copy)]
-enum Call {
-    Read(u64),
-    List,
-    Create,
-    Append(usize),
-    Reserve(usize),
-}
-
-#[derive(Debug, Clone, Copy, PartialEq, Eq)]
-enum Answer {
-    Done,
-    /// So many bytes, or entries.
-    Got(usize),
-    Refused(FileFail),
-    Failed,
-}
-
-fn written(done: Result<(), WriteFailed>) -> Answer {
-    match done {
-        Ok(()) => Answer::Done,
-        Err(WriteFailed) => Answer::Failed,
-    }
+    Ok(MemFiles::new(a, contents, places(a, failing)?)?)
 }
 
 const SEVENS: [u8; 30] = [7; 30];
 
-fn answer_of(a: Global, files: &mut MemFiles, name: &Text, call: Call) -> Answer {
-    match call {
-        Call::Read(limit) => match files.read(a, name, limit) {
-            Ok(bytes) => Answer::Got(bytes.len()),
-            Err(fault) => Answer::Refused(fault),
-        },
-        Call::List => match files.list(a, name) {
-            Ok(entries) => Answer::Got(entries.len()),
-            Err(fault) => Answer::Refused(fault),
-        },
-        Call::Create => written(files.create(name)),
-        Call::Append(len) => written(files.append(name, &SEVENS[..len.min(30)])),
-        Call::Reserve(bytes) => match files.reserve(a, name, bytes) {
-            Ok(()) => Answer::Done,
-            Err(_) => Answer::Failed,
-        },
+/// A call that only writes, or makes room.
+fn done(is_done: bool) -> Result<usize, FileFail> {
+    if is_done {
+        Ok(0)
+    } else {
+        Err(FileFail::Failed)
     }
 }
 
-/// Each row: a name, a call, its answer, how long the name's file is then, and how many calls failed so far.
-type Row = (&'static str, Call, Answer, Option<usize>, u64);
+/// How many bytes or entries a call gives.
+fn called(
+    a: Global,
+    files: &mut MemFiles,
+    name: &Text,
+    call: &str,
+    number: usize,
+) -> Result<usize, FileFail> {
+    match call {
+        "read" => files.read(a, name, number as u64).map(|bytes| bytes.len()),
+        "list" => files.list(a, name).map(|entries| entries.len()),
+        "create" => done(files.create(name).is_ok()),
+        "append" => done(files.append(name, &SEVENS[..number.min(30)]).is_ok()),
+        _ => done(files.reserve(a, name, number).is_ok()),
+    }
+}
 
-fn runs(rt: &impl Abort, a: Global, listed: &[u64], rows: &[Row]) -> Result<(), Fail> {
-    let mut files = files_with(a, listed)?;
-    for (name, call, want, len, faults) in rows {
-        let name = Text::from_str(a, *name)?;
-        let got = answer_of(a, &mut files, &name, *call);
-        assert_eq!(rt; got, *want, "at {call:?}");
-        let file = files.file(&name);
-        assert_eq!(rt; file.map(|bytes| bytes.len()), *len, "after {call:?}");
-        assert_eq!(rt; files.faults(), *faults, "after {call:?}");
+/// What a call answers, how long the name's file is then, and how many calls failed so far.
+fn answer(a: Global, files: &mut MemFiles, asked: &str) -> Result<String, Fail> {
+    let (name, rest) = parts(asked, " ")?;
+    let (call, number) = parts(rest, " ")?;
+    let name = Text::from_str(a, name)?;
+    let number = usize::try_from(number_in(number)?)?;
+    let answer = called(a, files, &name, call, number);
+    let len = files.file(&name).map(|bytes| bytes.len());
+    printed(a, &(answer, len, files.faults()))
+}
+
+/// Each row: a name, a call and its number, and behind ` => ` its answer.
+fn runs(a: Global, failing: &[u64], rows: &str) -> Result<(), Fail> {
+    let mut files = files_with(a, failing)?;
+    for row in rows.lines() {
+        let (asked, wanted) = parts(row, " => ")?;
+        same(row, answer(a, &mut files, asked)?.as_str(), wanted)?;
     }
     Ok(())
 }
 
+const KEPT: &str = "\
+a read 2 => (Ok(2), Some(2), 0)
+a read 1 => (Err(TooLong(2)), Some(2), 0)
+d list 0 => (Ok(2), None, 0)
+o read 9 => (Err(Missing), None, 1)
+a list 0 => (Err(Missing), Some(2), 2)
+o create 0 => (Err(Failed), None, 3)
+o append 1 => (Err(Failed), None, 4)
+a append 1 => (Err(Failed), Some(2), 5)
+o reserve 50 => (Ok(0), None, 5)
+o append 1 => (Err(Failed), None, 6)
+o create 0 => (Ok(0), Some(0), 6)
+o append 30 => (Ok(0), Some(30), 6)
+o append 30 => (Err(Failed), Some(50), 7)
+o read 50 => (Ok(50), Some(50), 7)
+a create 0 => (Ok(0), Some(0), 7)
+a append 2 => (Ok(0), Some(2), 7)";
+
+/// With the calls 0, 2, 4, 6 and 8 to fail.
+const FAILING: &str = "\
+a reserve 9 => (Ok(0), Some(2), 0)
+a read 1 => (Err(Failed), Some(2), 1)
+a read 2 => (Ok(2), Some(2), 1)
+d list 0 => (Err(Failed), None, 2)
+d list 0 => (Ok(2), None, 2)
+a create 0 => (Err(Failed), Some(2), 3)
+a create 0 => (Ok(0), Some(0), 3)
+a append 1 => (Err(Failed), Some(0), 4)
+a append 1 => (Ok(0), Some(1), 4)
+o read 1 => (Err(Missing), None, 5)";
+
 #[test]
 fn keeps_files(rt: HostRuntime) -> Result<(), Fail> {
-    let missing = Answer::Refused(FileFail::Missing);
-    runs(
-        &rt,
-        rt.alloc(),
-        &[],
-        &[
-            ("a", Call::Read(2), Answer::Got(2), Some(2), 0),
-            (
-                "a",
-                Call::Read(1),
-                Answer::Refused(FileFail::TooLong(2)),
-                Some(2),
-                0,
-            ),
-            ("d", Call::List, Answer::Got(2), None, 0),
-            ("o", Call::Read(9), missing, None, 1),
-            ("a", Call::List, missing, Some(2), 2),
-            ("o", Call::Create, Answer::Failed, None, 3),
-            ("o", Call::Append(1), Answer::Failed, None, 4),
-            ("a", Call::Append(1), Answer::Failed, Some(2), 5),
-            ("o", Call::Reserve(50), Answer::Done, None, 5),
-            ("o", Call::Append(1), Answer::Failed, None, 6),
-            ("o", Call::Create, Answer::Done, Some(0), 6),
-            ("o", Call::Append(30), Answer::Done, Some(30), 6),
-            ("o", Call::Append(30), Answer::Failed, Some(50), 7),
-            ("o", Call::Read(50), Answer::Got(50), Some(50), 7),
-            ("a", Call::Create, Answer::Done, Some(0), 7),
-            ("a", Call::Append(2), Answer::Done, Some(2), 7),
-        ],
-    )
+    runs(rt.alloc(), &[], KEPT)
 }
 
 #[test]
 fn fails_where_listed(rt: HostRuntime) -> Result<(), Fail> {
-    let failed = Answer::Refused(FileFail::Failed);
-    runs(
-        &rt,
-        rt.alloc(),
-        &[0, 2, 4, 6, 8],
-        &[
-            ("a", Call::Reserve(9), Answer::Done, Some(2), 0),
-            ("a", Call::Read(1), failed, Some(2), 1),
-            ("a", Call::Read(2), Answer::Got(2), Some(2), 1),
-            ("d", Call::List, failed, None, 2),
-            ("d", Call::List, Answer::Got(2), None, 2),
-            ("a", Call::Create, Answer::Failed, Some(2), 3),
-            ("a", Call::Create, Answer::Done, Some(0), 3),
-            ("a", Call::Append(1), Answer::Failed, Some(0), 4),
-            ("a", Call::Append(1), Answer::Done, Some(1), 4),
-            (
-                "o",
-                Call::Read(1),
-                Answer::Refused(FileFail::Missing),
-                None,
-                5,
-            ),
-        ],
-    )
+    runs(rt.alloc(), &[0, 2, 4, 6, 8], FAILING)
 }
 
 #[test]
 fn gives_what_it_holds(rt: HostRuntime) -> Result<(), Fail> {
     let a = rt.alloc();
     let mut files = files_with(a, &[])?;
-    assert_eq!(rt;
-        files.read(a, &Text::from_str(a, "a")?, 2)?.as_slice(),
-        b"12".as_slice()
-    );
+    let bytes = files.read(a, &Text::from_str(a, "a")?, 2)?;
     let entries = files.list(a, &Text::from_str(a, "d")?)?;
-    assert_eq!(rt; entries.len(), 2);
-    let want = [("x", EntryKind::File), ("xy", EntryKind::Folder)];
-    for (entry, row) in entries.as_slice().iter().zip(&want) {
-        assert_eq!(rt; entry.name.as_str(), row.0);
-        assert_eq!(rt; entry.kind, row.1);
-    }
-    Ok(())
+    let found = format!(in a; "{bytes:?} {:?}", entries.as_slice())?;
+    let wanted =
+        "[49, 50] [Entry { name: Text { chars: \"x\" }, kind: File }, Entry { name: Text { chars: \"xy\" }, kind: Folder }]";
+    same("what is held", found.as_str(), wanted)
 }
 
+/// Each row: what is put, and behind ` => ` how it goes, what the sink holds then, and how many calls failed so far.
+const PUTS: &str = "\
+1 => Ok(()) [49] 0
+2 => Err(PutFailed) [49] 1
+345 => Err(PutFailed) [49, 51, 52] 2
+ => Ok(()) [49, 51, 52] 2";
+
+fn put(a: Global, sink: &mut MemSink, text: &str) -> Result<String, Fail> {
+    let done = sink.put(text.as_bytes());
+    Ok(format!(in a; "{done:?} {:?} {}", sink.bytes(), sink.faults())?)
+}
+
+/// The call 1 is to fail, and there is room for three bytes.
 #[test]
 fn keeps_what_is_put(rt: HostRuntime) -> Result<(), Fail> {
     let a = rt.alloc();
     let mut sink = MemSink::new(a, places(a, &[1])?);
     sink.reserve(a, 3)?;
-    sink.put(b"1")?;
-    assert_eq!(rt; sink.put(b"2"), Err(PutFailed));
-    assert_eq!(rt; sink.bytes(), b"1".as_slice());
-    assert_eq!(rt; sink.put(b"345"), Err(PutFailed));
-    assert_eq!(rt; sink.bytes(), b"134".as_slice());
-    sink.put(b"")?;
-    assert_eq!(rt; sink.faults(), 2);
+    for row in PUTS.lines() {
+        let (text, wanted) = parts(row, " => ")?;
+        same(row, put(a, &mut sink, text)?.as_str(), wanted)?;
+    }
     Ok(())
 }

@@ -6,9 +6,9 @@ mod files_and_sinks;
 #[cfg(test)]
 mod formats;
 #[cfg(test)]
-mod instructions;
-#[cfg(test)]
 mod numbers;
+#[cfg(test)]
+mod rows;
 #[cfg(test)]
 mod steps;
 #[cfg(test)]

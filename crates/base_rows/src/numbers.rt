@@ -1,127 +1,99 @@
+use crate::rows::{hold, number_in, parts, printed};
+use std::alloc::Global;
 use std::test::Fail;
-use virt_base::{Cursor, LebFault, read_s32, read_s33, read_s64, read_u32, write_s64, write_u32};
+use virt_base::{Cursor, read_s32, read_s33, read_s64, read_u32, write_s64, write_u32};
 
-/// WebAssembly Core 2.0, section 5.2.2, and the values of its test suite's `binary-leb128`.
-#[test]
-fn reads_unsigned(rt: HostRuntime) {
-    let rows: [(&[u8], Result<u32, LebFault>); 12] = [
-        (b"\x00", Ok(0)),
-        (b"\x03", Ok(3)),
-        (b"\x83\x00", Ok(3)),
-        (b"\x87\x80\x80\x80\x00", Ok(7)),
-        (b"\xE5\x8E\x26", Ok(624485)),
-        (b"\xFF\xFF\xFF\xFF\x0F", Ok(4294967295)),
-        (b"\x87\x80\x80\x80\x80\x00", Err(LebFault::TooLong)),
-        (b"\xFF\xFF\xFF\xFF\x1F", Err(LebFault::TooLong)),
-        (b"\x82\x80\x80\x80\x70", Err(LebFault::TooLong)),
-        (b"\x87\x80", Err(LebFault::Short)),
-        (b"\x80\x80\x80\x80", Err(LebFault::Short)),
-        (b"", Err(LebFault::Short)),
-    ];
-    for (bytes, want) in rows {
-        let mut c = Cursor { bytes, at: 0 };
-        let got = read_u32(&mut c);
-        assert_eq!(rt; got, want, "at {bytes:?}");
-        let at = if want.is_ok() { bytes.len() } else { 0 };
-        assert_eq!(rt; c.at, at, "behind {bytes:?}");
+/// Numbers in bytes, and behind each what is read and the place behind it: WebAssembly Core 2.0, section 5.2.2, and the values
+/// of its test suite's `binary-leb128`.
+const READS: &str = "\
+leb u32 00 => (Ok(0), 1)
+leb u32 03 => (Ok(3), 1)
+leb u32 8300 => (Ok(3), 2)
+leb u32 8780808000 => (Ok(7), 5)
+leb u32 e58e26 => (Ok(624485), 3)
+leb u32 ffffffff0f => (Ok(4294967295), 5)
+leb u32 878080808000 => (Err(TooLong), 0)
+leb u32 ffffffff1f => (Err(TooLong), 0)
+leb u32 8280808070 => (Err(TooLong), 0)
+leb u32 8780 => (Err(Short), 0)
+leb u32 80808080 => (Err(Short), 0)
+leb u32  => (Err(Short), 0)
+leb s32 7e => (Ok(-2), 1)
+leb s32 fe7f => (Ok(-2), 2)
+leb s32 feff7f => (Ok(-2), 3)
+leb s32 ffffffff7f => (Ok(-1), 5)
+leb s32 8080808078 => (Ok(-2147483648), 5)
+leb s32 ffffffff07 => (Ok(2147483647), 5)
+leb s32 8080808070 => (Err(TooLong), 0)
+leb s32 ffffffff0f => (Err(TooLong), 0)
+leb s32 808080808000 => (Err(TooLong), 0)
+leb s32 fe => (Err(Short), 0)
+leb s33 40 => (Ok(-64), 1)
+leb s33 ffffffff0f => (Ok(4294967295), 5)
+leb s33 8080808070 => (Ok(-4294967296), 5)
+leb s33 ffffffff1f => (Err(TooLong), 0)
+leb s33 8080808060 => (Err(TooLong), 0)
+leb s64 807f => (Ok(-128), 2)
+leb s64 ffffffffffffffffff7f => (Ok(-1), 10)
+leb s64 8080808080808080807f => (Ok(-9223372036854775808), 10)
+leb s64 8080808080808080807e => (Err(TooLong), 0)
+leb s64 ffffffffffffffffff01 => (Err(TooLong), 0)
+leb s64 8080808080808080808000 => (Err(TooLong), 0)";
+
+/// What is written behind the byte 2a: the examples of DWARF 4, section 7.6, which the standard's LEB128 comes from, and the
+/// ends of the ranges.
+const WRITES: &str = "\
+write u32 2 => 2a02
+write u32 127 => 2a7f
+write u32 128 => 2a8001
+write u32 129 => 2a8101
+write u32 12857 => 2ab964
+write u32 4294967295 => 2affffffff0f
+write s64 2 => 2a02
+write s64 -2 => 2a7e
+write s64 127 => 2aff00
+write s64 -127 => 2a817f
+write s64 128 => 2a8001
+write s64 -128 => 2a807f
+write s64 129 => 2a8101
+write s64 -129 => 2aff7e
+write s64 9223372036854775807 => 2affffffffffffffffff00
+write s64 -9223372036854775808 => 2a8080808080808080807f";
+
+pub fn read(alloc: Global, given: &str) -> Result<String, Fail> {
+    let (form, digits) = parts(given, " ")?;
+    let bytes = hex::decode(alloc, digits.as_bytes())?;
+    let mut c = Cursor {
+        bytes: bytes.as_slice(),
+        at: 0,
+    };
+    let number = match form {
+        "u32" => read_u32(&mut c).map(i64::from),
+        "s32" => read_s32(&mut c).map(i64::from),
+        "s33" => read_s33(&mut c),
+        _ => read_s64(&mut c),
+    };
+    printed(alloc, &(number, c.at))
+}
+
+pub fn written(alloc: Global, given: &str) -> Result<String, Fail> {
+    let (form, number) = parts(given, " ")?;
+    let number = number_in(number)?;
+    let mut out = Vec::new(alloc);
+    out.push(0x2A)?;
+    match form {
+        "u32" => write_u32(alloc, &mut out, u32::try_from(number)?)?,
+        _ => write_s64(alloc, &mut out, number)?,
     }
+    Ok(hex::encode(alloc, out.as_slice())?)
 }
 
 #[test]
-fn reads_signed(rt: HostRuntime) {
-    let rows: [(&[u8], Result<i32, LebFault>); 10] = [
-        (b"\x7E", Ok(-2)),
-        (b"\xFE\x7F", Ok(-2)),
-        (b"\xFE\xFF\x7F", Ok(-2)),
-        (b"\xFF\xFF\xFF\xFF\x7F", Ok(-1)),
-        (b"\x80\x80\x80\x80\x78", Ok(-2147483648)),
-        (b"\xFF\xFF\xFF\xFF\x07", Ok(2147483647)),
-        (b"\x80\x80\x80\x80\x70", Err(LebFault::TooLong)),
-        (b"\xFF\xFF\xFF\xFF\x0F", Err(LebFault::TooLong)),
-        (b"\x80\x80\x80\x80\x80\x00", Err(LebFault::TooLong)),
-        (b"\xFE", Err(LebFault::Short)),
-    ];
-    for (bytes, want) in rows {
-        let got = read_s32(&mut Cursor { bytes, at: 0 });
-        assert_eq!(rt; got, want, "at {bytes:?}");
-    }
-    let longer: [(&[u8], Result<i64, LebFault>); 5] = [
-        (b"\x40", Ok(-64)),
-        (b"\xFF\xFF\xFF\xFF\x0F", Ok(4294967295)),
-        (b"\x80\x80\x80\x80\x70", Ok(-4294967296)),
-        (b"\xFF\xFF\xFF\xFF\x1F", Err(LebFault::TooLong)),
-        (b"\x80\x80\x80\x80\x60", Err(LebFault::TooLong)),
-    ];
-    for (bytes, want) in longer {
-        let got = read_s33(&mut Cursor { bytes, at: 0 });
-        assert_eq!(rt; got, want, "at {bytes:?}");
-    }
-    let longest: [(&[u8], Result<i64, LebFault>); 6] = [
-        (b"\x80\x7F", Ok(-128)),
-        (b"\xFF\xFF\xFF\xFF\xFF\xFF\xFF\xFF\xFF\x7F", Ok(-1)),
-        (
-            b"\x80\x80\x80\x80\x80\x80\x80\x80\x80\x7F",
-            Ok(-9223372036854775808),
-        ),
-        (
-            b"\x80\x80\x80\x80\x80\x80\x80\x80\x80\x7E",
-            Err(LebFault::TooLong),
-        ),
-        (
-            b"\xFF\xFF\xFF\xFF\xFF\xFF\xFF\xFF\xFF\x01",
-            Err(LebFault::TooLong),
-        ),
-        (
-            b"\x80\x80\x80\x80\x80\x80\x80\x80\x80\x80\x00",
-            Err(LebFault::TooLong),
-        ),
-    ];
-    for (bytes, want) in longest {
-        let got = read_s64(&mut Cursor { bytes, at: 0 });
-        assert_eq!(rt; got, want, "at {bytes:?}");
-    }
+fn reads_numbers(rt: HostRuntime) -> Result<(), Fail> {
+    hold(rt.alloc(), READS)
 }
 
-/// The examples of DWARF 4, section 7.6, which the standard's LEB128 comes from, and the ends of the ranges.
 #[test]
 fn writes_numbers(rt: HostRuntime) -> Result<(), Fail> {
-    let a = rt.alloc();
-    let unsigned: [(u32, &[u8]); 6] = [
-        (2, b"\x02"),
-        (127, b"\x7F"),
-        (128, b"\x80\x01"),
-        (129, b"\x81\x01"),
-        (12857, b"\xB9\x64"),
-        (4294967295, b"\xFF\xFF\xFF\xFF\x0F"),
-    ];
-    for (value, want) in unsigned {
-        let mut out = Vec::from_slice(a, b"\x2A")?;
-        write_u32(a, &mut out, value)?;
-        assert_eq!(rt; &out[1..], want, "of {value}");
-        assert_eq!(rt; out[0], 42, "before {value}");
-    }
-    let signed: [(i64, &[u8]); 10] = [
-        (2, b"\x02"),
-        (-2, b"\x7E"),
-        (127, b"\xFF\x00"),
-        (-127, b"\x81\x7F"),
-        (128, b"\x80\x01"),
-        (-128, b"\x80\x7F"),
-        (129, b"\x81\x01"),
-        (-129, b"\xFF\x7E"),
-        (
-            9223372036854775807,
-            b"\xFF\xFF\xFF\xFF\xFF\xFF\xFF\xFF\xFF\x00",
-        ),
-        (
-            -9223372036854775808,
-            b"\x80\x80\x80\x80\x80\x80\x80\x80\x80\x7F",
-        ),
-    ];
-    for (value, want) in signed {
-        let mut out = Vec::new(a);
-        write_s64(a, &mut out, value)?;
-        assert_eq!(rt; out.as_slice(), want, "of {value}");
-    }
-    Ok(())
+    hold(rt.alloc(), WRITES)
 }

@@ -1,39 +1,59 @@
+use crate::rows::{hold, printed, same};
+use std::alloc::Global;
+use std::mem::size_of;
 use std::test::Fail;
-use virt_base::{Cursor, Text, TextFault, copy_bytes, next_byte};
+use virt_base::{Cursor, Text, copy_bytes, next_byte};
+use wasm_ast::{Instr, Op};
 
-/// The Unicode Standard, table 3-7: overlong forms, surrogates, what is above U+10FFFF, and cut forms.
+/// The Unicode Standard, table 3-7: overlong forms, surrogates, what is above U+10FFFF, cut forms, and a text.
+const ROWS: &str = "\
+text ff => Err(NotUtf8)
+text c080 => Err(NotUtf8)
+text eda080 => Err(NotUtf8)
+text f4908080 => Err(NotUtf8)
+text e282 => Err(NotUtf8)
+text 6180 => Err(NotUtf8)
+text 68c3a921 => Ok(Text { chars: \"hé!\" })";
+
+pub fn made(alloc: Global, digits: &str) -> Result<String, Fail> {
+    let bytes = hex::decode(alloc, digits.as_bytes())?;
+    printed(alloc, &Text::new(alloc, bytes.as_slice()))
+}
+
 #[test]
 fn makes_text(rt: HostRuntime) -> Result<(), Fail> {
-    let a = rt.alloc();
-    let bad: [&[u8]; 6] = [
-        b"\xFF",
-        b"\xC0\x80",
-        b"\xED\xA0\x80",
-        b"\xF4\x90\x80\x80",
-        b"\xE2\x82",
-        b"a\x80",
-    ];
-    for bytes in bad {
-        let refused = matches!(Text::new(a, bytes), Err(TextFault::NotUtf8));
-        assert!(rt; refused, "at {bytes:?}");
-    }
-    let text = Text::new(a, b"h\xC3\xA9!")?;
-    assert_eq!(rt; text.as_str(), "hé!");
-    assert!(rt; text.is_same(&text.copy(a)?));
-    assert!(rt; !text.is_same(&Text::from_str(a, "he!")?));
-    Ok(())
+    hold(rt.alloc(), ROWS)
+}
+
+#[test]
+fn compares_texts(rt: HostRuntime) -> Result<(), Fail> {
+    let alloc = rt.alloc();
+    let text = Text::from_str(alloc, "hé!")?;
+    let copy = text.copy(alloc)?;
+    let other = Text::from_str(alloc, "he!")?;
+    let found = printed(alloc, &(text.is_same(&copy), text.is_same(&other)))?;
+    same("a copy and another text", found.as_str(), "(true, false)")
 }
 
 #[test]
 fn keeps_lists(rt: HostRuntime) -> Result<(), Fail> {
-    let a = rt.alloc();
-    let mut copy = copy_bytes(a, b"12")?;
-    assert!(rt; !copy.is_empty());
+    let alloc = rt.alloc();
+    let mut copy = copy_bytes(alloc, b"12")?;
+    let was_empty = copy.is_empty();
     copy.push(51)?;
-    assert_eq!(rt; copy.len(), 3);
-    assert_eq!(rt; copy.into_vec().as_slice(), b"123".as_slice());
+    let len = copy.len();
     let mut c = Cursor { bytes: b"7", at: 0 };
-    assert_eq!(rt; next_byte(&mut c), Some(55));
-    assert_eq!(rt; next_byte(&mut c), None);
-    Ok(())
+    let (byte, end) = (next_byte(&mut c), next_byte(&mut c));
+    let found = printed(alloc, &(was_empty, len, copy.into_vec(), byte, end))?;
+    same(
+        "a list and a cursor",
+        found.as_str(),
+        "(false, 3, [49, 50, 51], Some(55), None)",
+    )
+}
+
+#[test]
+fn an_instruction_is_small(rt: HostRuntime) -> Result<(), Fail> {
+    let sizes = printed(rt.alloc(), &(size_of::<Op>(), size_of::<Instr>()))?;
+    same("sizes", sizes.as_str(), "(12, 16)")
 }

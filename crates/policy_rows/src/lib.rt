@@ -1,19 +1,21 @@
-//! Policies by rows: what a text says, or its first fault.
+//! Policies, the trees that they mount, and the words of a command line, by rows: what a text says, or its first fault.
 #![tactic(auto)]
 
 #[cfg(test)]
-mod contents;
+mod holding;
 #[cfg(test)]
-mod long;
+mod outside_files;
 #[cfg(test)]
-mod outcome;
-#[cfg(test)]
-mod reading;
+mod policies;
 #[cfg(test)]
 mod rows;
 #[cfg(test)]
+mod shown;
+#[cfg(test)]
 mod sizes;
 #[cfg(test)]
-mod tests;
-#[cfg(test)]
 mod texts;
+#[cfg(test)]
+mod trees;
+#[cfg(test)]
+mod words;

@@ -1,55 +1,43 @@
+use crate::holding::{hold, parts};
+use crate::shown::shown;
 use path_names::{holds_byte, is_path};
 use policy_text::{Paths, hex_bytes, network_of};
+use std::alloc::Global;
 use std::test::Fail;
 
-#[test]
-fn digits(rt: HostRuntime) -> Result<(), Fail> {
-    let bytes = hex_bytes(rt.alloc(), b"0aF9")?;
-    assert!(rt; bytes.is_some_and(|b| b.as_slice() == [10, 249].as_slice()));
-    assert!(rt; hex_bytes(rt.alloc(), b"0")?.is_none());
-    assert!(rt; hex_bytes(rt.alloc(), b"0g")?.is_none());
-    Ok(())
-}
+/// Digits, paths, bytes and networks. A leaf clashes with its own path, and with what lies in it.
+const ROWS: &str = "\
+hex 0aF9 => Some([10, 249])
+hex 0 => None
+hex 0g => None
+path a/b.c => true
+path a//b => false
+path a/.. => false
+equals a=b => true
+equals ab => false
+network 10.0.0.0/8 => Some(six: false, numbers: [10, 0, 0, 0], length: 8)
+network 10.0.0.0/33 => None
+leaf a => true
+leaf a-b => true
+leaf a/b => false
+folder a => false
+folder c/d => true
+folder c/d => true
+leaf c/d => false
+leaf c => false";
 
-#[test]
-fn paths_and_bytes(rt: HostRuntime) {
-    assert!(rt; is_path("a/b.c"));
-    assert!(rt; !is_path("a//b"));
-    assert!(rt; !is_path("a/.."));
-    assert!(rt; holds_byte(b"a=b", b'='));
-    assert!(rt; !holds_byte(b"ab", b'='));
-}
-
-#[test]
-fn networks(rt: HostRuntime) -> Result<(), Fail> {
-    match network_of(rt.alloc(), b"10.0.0.0/8")? {
-        Some(network) => {
-            assert!(rt; !network.six);
-            assert_eq!(rt; network.numbers.as_slice(), [10, 0, 0, 0].as_slice());
-            assert_eq!(rt; network.length, 8);
-        }
-        None => assert!(rt; false),
+pub fn read(alloc: Global, paths: &mut Paths, asked: &str) -> Result<String, Fail> {
+    let (what, text) = parts(asked, ' ')?;
+    match what {
+        "hex" => shown(alloc, &hex_bytes(alloc, text.as_bytes())?),
+        "path" => shown(alloc, &is_path(text)),
+        "equals" => shown(alloc, &holds_byte(text.as_bytes(), b'=')),
+        "network" => shown(alloc, &network_of(alloc, text.as_bytes())?),
+        _ => shown(alloc, &paths.add(alloc, text, what == "leaf")?),
     }
-    assert!(rt; network_of(rt.alloc(), b"10.0.0.0/33")?.is_none());
-    Ok(())
 }
 
-/// A leaf clashes with its own path, and with what lies in it.
 #[test]
-fn clashes(rt: HostRuntime) -> Result<(), Fail> {
-    let alloc = rt.alloc();
-    let mut paths = Paths::new(alloc);
-    for (path, leaf, added) in [
-        ("a", true, true),
-        ("a-b", true, true),
-        ("a/b", true, false),
-        ("a", false, false),
-        ("c/d", false, true),
-        ("c/d", false, true),
-        ("c/d", true, false),
-        ("c", true, false),
-    ] {
-        assert_eq!(rt; paths.add(alloc, path, leaf)?, added, "{path}");
-    }
-    Ok(())
+fn texts(rt: HostRuntime) -> Result<(), Fail> {
+    hold(rt.alloc(), "text", ROWS)
 }
