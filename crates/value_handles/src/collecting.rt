@@ -151,14 +151,7 @@ fn collect_list(value: &Value, item: &WitType, found: &mut ValueHandles) -> Resu
                 Ok(())
             }
         }
-        Value::Bool(_)
-        | Value::Int(_)
-        | Value::Char(_)
-        | Value::Str(_)
-        | Value::Record(_)
-        | Value::Variant(_, _)
-        | Value::Flags(_)
-        | Value::Handle(_) => Ok(()),
+        _ => Ok(()),
     }
 }
 
@@ -168,14 +161,7 @@ fn collect_record(value: &Value, fields: &[Field], found: &mut ValueHandles) -> 
 {
     match value {
         Value::Record(values) => collect_fields(values, fields, found),
-        Value::Bool(_)
-        | Value::Int(_)
-        | Value::Char(_)
-        | Value::Str(_)
-        | Value::List(_)
-        | Value::Variant(_, _)
-        | Value::Flags(_)
-        | Value::Handle(_) => Ok(()),
+        _ => Ok(()),
     }
 }
 
@@ -185,14 +171,7 @@ fn collect_tuple(value: &Value, types: &[WitType], found: &mut ValueHandles) -> 
 {
     match value {
         Value::Record(values) => collect_parts(values, types, found),
-        Value::Bool(_)
-        | Value::Int(_)
-        | Value::Char(_)
-        | Value::Str(_)
-        | Value::List(_)
-        | Value::Variant(_, _)
-        | Value::Flags(_)
-        | Value::Handle(_) => Ok(()),
+        _ => Ok(()),
     }
 }
 
@@ -202,14 +181,7 @@ fn collect_variant(value: &Value, cases: &[Case], found: &mut ValueHandles) -> R
 {
     match value {
         Value::Variant(number, payload) => { collect_case(*number as usize, payload, cases, found) }
-        Value::Bool(_)
-        | Value::Int(_)
-        | Value::Char(_)
-        | Value::Str(_)
-        | Value::List(_)
-        | Value::Record(_)
-        | Value::Flags(_)
-        | Value::Handle(_) => Ok(()),
+        _ => Ok(()),
     }
 }
 
@@ -225,14 +197,7 @@ fn collect_option(value: &Value, some: &WitType, found: &mut ValueHandles) -> Re
                 Ok(())
             }
         }
-        Value::Bool(_)
-        | Value::Int(_)
-        | Value::Char(_)
-        | Value::Str(_)
-        | Value::List(_)
-        | Value::Record(_)
-        | Value::Flags(_)
-        | Value::Handle(_) => Ok(()),
+        _ => Ok(()),
     }
 }
 
@@ -255,17 +220,11 @@ fn collect_result(
                 Ok(())
             }
         }
-        Value::Bool(_)
-        | Value::Int(_)
-        | Value::Char(_)
-        | Value::Str(_)
-        | Value::List(_)
-        | Value::Record(_)
-        | Value::Flags(_)
-        | Value::Handle(_) => Ok(()),
+        _ => Ok(()),
     }
 }
 
+#[tactic(auto, using(crate::proofs::Views::views, crate::proofs::Only::only_handle))]
 fn collect_own(resource: u32, value: &Value, found: &mut ValueHandles) -> Result<(), NoMemory>
     ensures { OnOk result (shown found.new.items ≡ shown found.old.items ++ handles (OwnType resource) (plain_value value.now)) }
 {
@@ -277,17 +236,11 @@ fn collect_own(resource: u32, value: &Value, found: &mut ValueHandles) -> Result
             })?;
             Ok(())
         }
-        Value::Bool(_)
-        | Value::Int(_)
-        | Value::Char(_)
-        | Value::Str(_)
-        | Value::List(_)
-        | Value::Record(_)
-        | Value::Variant(_, _)
-        | Value::Flags(_) => Ok(()),
+        _ => Ok(()),
     }
 }
 
+#[tactic(auto, using(crate::proofs::Views::views, crate::proofs::Only::only_handle))]
 fn collect_borrow(resource: u32, value: &Value, found: &mut ValueHandles) -> Result<(), NoMemory>
     ensures { OnOk result (shown found.new.items ≡ shown found.old.items ++ handles (BorrowType resource) (plain_value value.now)) }
 {
@@ -299,14 +252,7 @@ fn collect_borrow(resource: u32, value: &Value, found: &mut ValueHandles) -> Res
             })?;
             Ok(())
         }
-        Value::Bool(_)
-        | Value::Int(_)
-        | Value::Char(_)
-        | Value::Str(_)
-        | Value::List(_)
-        | Value::Record(_)
-        | Value::Variant(_, _)
-        | Value::Flags(_) => Ok(()),
+        _ => Ok(()),
     }
 }
 
@@ -328,9 +274,6 @@ pub fn collect_handles(
         WitType::Result(ok, err) => collect_result(value, ok, err, found),
         WitType::Own(resource) => collect_own(*resource, value, found),
         WitType::Borrow(resource) => collect_borrow(*resource, value, found),
-        WitType::Bool | WitType::S8 | WitType::U8 | WitType::S16 | WitType::U16 => Ok(()),
-        WitType::S32 | WitType::U32 | WitType::S64 | WitType::U64 => Ok(()),
-        WitType::Char | WitType::Str | WitType::Flags(_) => Ok(()),
-        WitType::Enum(_) => Ok(()),
+        _ => Ok(()),
     }
 }

@@ -66,8 +66,6 @@ pub fn has_handles(ty: &WitType) -> bool
         WitType::Variant(cases) => have_cases(&cases.items),
         WitType::Option(some) => has_handles(some),
         WitType::Result(ok, err) => has_payload(ok) || has_payload(err),
-        WitType::Bool | WitType::S8 | WitType::U8 | WitType::S16 | WitType::U16 => false,
-        WitType::S32 | WitType::U32 | WitType::S64 | WitType::U64 => false,
-        WitType::Char | WitType::Str | WitType::Flags(_) | WitType::Enum(_) => false,
+        _ => false,
     }
 }

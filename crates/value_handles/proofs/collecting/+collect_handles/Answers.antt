@@ -1,12 +1,12 @@
-use Rattle.std.proofs.Common.{◌≡◌, ◌++◌, subst, sym, ap, ◌∙◌, List, append-nil, drop}
+use Rattle.std.proofs.Common.{◌≡◌, ◌++◌, subst, sym, ◌∙◌, List, append-nil, drop}
 use Rattle.std.specs.Prelude.{OnOk}
-use Rattle.wit_types.specs.Plain.{AsEnum, plain, fields_of, types_of}
-use Rattle.wit_types.specs.PlainValue.{plain_value, values_of, payload_of}
+use Rattle.wit_types.specs.Plain.{plain, fields_of, types_of}
+use Rattle.wit_types.specs.PlainValue.{payload_of}
 use Rattle.wit_types.proofs.ValueLemmas.{plain_value-List, plain_values-Bytes}
-use Rattle.wit_types.proofs.PlainLemmas.{plain-Enum}
-use Rattle.abi_layout.specs.Handles.{Handle, handles, item_handles}
+use Rattle.abi_layout.specs.Handles.{Handle, handles}
 use Rattle.value_handles.specs.Shown.{shown}
-use Rattle.value_handles.proofs.Laws.{case_at, no_value_left, ended, no_handles, bytes_items, no_label_handles, none_in_items}
+use Rattle.value_handles.proofs.Laws.{case_at, no_value_left, ended, no_handles, bytes_items, none_in_items}
+use Rattle.value_handles.proofs.Only.{only-List, only-Record, only-Variant, without_handles}
 use Rattle.value_handles.proofs.collecting.+collect_handles.Goals as goal
 
 pub collect_case-returns : goal.collect_case-returns
@@ -25,8 +25,26 @@ pub collect_list-returns-else-has_handles : goal.collect_list-returns-else-has_h
 collect_list-returns-else-has_handles t c =
     rw (c.in-List.is, plain_value-List, none_in_items (λ v. handles (plain c.args.item.now) v) (λ v. no_handles (plain c.args.item.now) v (sym c.has_handles.ensures ∙ c.if-has_handles.false))) (sym (append-nil _))
 
-pub collect_handles-returns-in-Enum : goal.collect_handles-returns-in-Enum
-collect_handles-returns-in-Enum t c = rw (c.in-Enum.is, plain-Enum, no_label_handles AsEnum _ (plain_value c.args.value.now)) (sym (append-nil _))
+pub collect_list-returns-in_default : goal.collect_list-returns-in_default
+collect_list-returns-in_default t c = only-List _ _ _ c.in_default.not-List
+
+pub collect_record-returns-in_default : goal.collect_record-returns-in_default
+collect_record-returns-in_default t c = only-Record _ _ _ c.in_default.not-Record
+
+pub collect_tuple-returns-in_default : goal.collect_tuple-returns-in_default
+collect_tuple-returns-in_default t c = only-Record _ _ _ c.in_default.not-Record
+
+pub collect_variant-returns-in_default : goal.collect_variant-returns-in_default
+collect_variant-returns-in_default t c = only-Variant _ _ _ c.in_default.not-Variant
+
+pub collect_option-returns-in_default : goal.collect_option-returns-in_default
+collect_option-returns-in_default t c = only-Variant _ _ _ c.in_default.not-Variant
+
+pub collect_result-returns-in_default : goal.collect_result-returns-in_default
+collect_result-returns-in_default t c = only-Variant _ _ _ c.in_default.not-Variant
+
+pub collect_handles-returns-in_default : goal.collect_handles-returns-in_default
+collect_handles-returns-in_default t c = without_handles _ _ _ c.in_default.not-Record c.in_default.not-Tuple c.in_default.not-Variant c.in_default.not-List c.in_default.not-Option c.in_default.not-Result c.in_default.not-Own c.in_default.not-Borrow
 
 pub collect_items-returns-in-Bytes : goal.collect_items-returns-in-Bytes
 collect_items-returns-in-Bytes t c = rw (c.in-Bytes.is, plain_values-Bytes, bytes_items (plain c.args.item.now) _) (sym (append-nil _))
