@@ -32,50 +32,50 @@ pub fn instrs_of(alloc: Global, opcodes: &str) -> Result<Instrs, Fail> {
     Ok(all)
 }
 
-/// Blocks without an end, a second `else`, and an `else` without an `if`.
-const NO_CODE: &str = "\
-0201 => None
-03040b => None
-0405050b0b => None
-0501 => None";
+/// Bodies by their opcodes, and whether their code is empty, how long it is and what it holds.
+const CODE: &str = "\
+010b => (false, 2, [Plain(Nop), End])
+# blocks without an end, a second `else`, and an `else` without an `if`
+0201 => no code
+03040b => no code
+0405050b0b => no code
+0501 => no code";
 
 fn code_of(alloc: Global, opcodes: &str) -> Result<Option<Code>, Fail> {
     Ok(Code::new(alloc, instrs_of(alloc, opcodes)?)?)
 }
 
 fn code_in_words(alloc: Global, opcodes: &str) -> Result<String, Fail> {
-    shown(alloc, &code_of(alloc, opcodes)?)
+    match code_of(alloc, opcodes)? {
+        Some(code) => shown(alloc, &(code.is_empty(), code.len(), code.instrs())),
+        None => Ok(String::from_str(alloc, "no code")?),
+    }
 }
 
-/// A body of blocks in one another (WebAssembly Core 2.0, section 5.4.1), and where they lead: behind their ends, and an
-/// `if` to its else part, or to its end where it has none.
+/// A body of blocks in one another (WebAssembly Core 2.0, section 5.4.1): how long it is, and where its blocks lead, behind their
+/// ends, and an `if` to its else part, or to its end where it has none.
+const NESTED: &str = "\
+0203040105010b0b04010b0b0b => ((13, 13), (12, 8, 7), (Jump { other: 5, behind: 7 }, Jump { other: 10, behind: 11 }))";
+
+fn jumps_in_words(alloc: Global, opcodes: &str) -> Result<String, Fail> {
+    let Some(code) = code_of(alloc, opcodes)? else {
+        return Err(Fail::from("no code"));
+    };
+    let jumps = code.jumps();
+    match jumps {
+        [outer, repeated, first, _, middle, _, _, _, last, ..] => {
+            let lengths = (code.len(), jumps.len());
+            let ends = (outer.behind, repeated.behind, middle.behind);
+            shown(alloc, &(lengths, ends, (first, last)))
+        }
+        _ => Err(Fail::from("too few jumps")),
+    }
+}
+
 #[test]
 fn where_blocks_lead(rt: HostRuntime) -> Result<(), Fail> {
-    let alloc = rt.alloc();
-    hold(&rt, alloc, NO_CODE, code_in_words)?;
-    let (Some(nested), Some(nop)) = (
-        code_of(alloc, "0203040105010b0b04010b0b0b")?,
-        code_of(alloc, "010b")?,
-    ) else {
-        return Err(Fail::from("a body without code"));
-    };
-    let [outer, repeated, first, _, second, _, _, _, third, ..] = nested.jumps() else {
-        return Err(Fail::from("too few jumps"));
-    };
-    let found = (
-        (nested.len(), nested.jumps().len()),
-        (outer.behind, repeated.behind, second.behind),
-        (first, third),
-        (nop.is_empty(), nop.len(), nop.instrs()),
-    );
-    same(
-        &rt,
-        alloc,
-        &found,
-        "((13, 13), (12, 8, 7), \
-         (Jump { other: 5, behind: 7 }, Jump { other: 10, behind: 11 }), \
-         (false, 2, [Plain(Nop), End]))",
-    )
+    hold(&rt, rt.alloc(), CODE, code_in_words)?;
+    hold(&rt, rt.alloc(), NESTED, jumps_in_words)
 }
 
 #[test]

@@ -4,12 +4,11 @@
 use crate::pieces::module_of;
 use crate::rows::{hold, shown};
 use crate::running::{embedders, instance};
-use core_instance::{Extern, imports_match, spelled_modules_have_counts};
-use core_store::{Shared, Store, StoreFunc, add_function, add_table};
+use core_instance::{Extern, Externs, imports_match, spelled_modules_have_counts};
+use core_store::Store;
 use std::alloc::Global;
 use std::test::Fail;
 use virt_base::Items;
-use wasm_ast::CoreFunc;
 
 /// The instance in a new store of a module without imports.
 fn made(alloc: Global, words: &str) -> Result<String, Fail> {
@@ -41,7 +40,7 @@ start 05030100010b080100418180040b00 => Err(Trap)
 start 010401600000030201000404017000020910030041000b02000003000100010001000a040102000b => Ok(CoreInstance { number: 0, exports: Items { items: [] }, start: None })";
 
 /// What is given to a module that takes a function from an i64 to an i32, and a table: each item by the letter of its kind and
-/// its place in a store with a function of this type, one of another, and a table.
+/// its place in a store with a function of this type, one of another type, and a table.
 const IMPORTS: &str = "\
 f0 t0 => true
 f1 t0 => false
@@ -66,20 +65,18 @@ fn extern_of(word: &str) -> Result<Extern, Fail> {
     }
 }
 
-fn are_imports(alloc: Global, words: &str) -> Result<String, Fail> {
-    let mut store = embedders(alloc)?;
-    let none = CoreFunc {
-        params: Items::empty(alloc),
-        results: Items::empty(alloc),
-    };
-    let ty = Shared::new(alloc, none)?;
-    add_function(alloc, &mut store, StoreFunc::Outside { ty, number: 8 })?;
-    add_table(alloc, &mut store, 1, None)?;
-    let mut given = Items::empty(alloc);
+fn externs_of(alloc: Global, words: &str) -> Result<Externs, Fail> {
+    let mut all = Items::empty(alloc);
     for word in words.split_whitespace() {
-        given.push(extern_of(word)?)?;
+        all.push(extern_of(word)?)?;
     }
+    Ok(all)
+}
+
+fn are_imports(alloc: Global, words: &str) -> Result<String, Fail> {
+    let given = externs_of(alloc, words)?;
     let module = module_of(alloc, "linked")?;
+    let store = embedders(alloc)?;
     shown(alloc, &imports_match(&store, &module, &given))
 }
 

@@ -42,3 +42,12 @@ pub fn hold<F: FnMut(Global, &str) -> Result<String, Fail>>(
     }
     Ok(())
 }
+
+/// The numbers of words.
+pub fn numbers_of(alloc: Global, words: &str) -> Result<Vec<u64>, Fail> {
+    let mut all = Vec::new(alloc);
+    for word in words.split_whitespace() {
+        all.push(word.parse::<u64>()?)?;
+    }
+    Ok(all)
+}

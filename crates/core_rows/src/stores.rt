@@ -2,7 +2,7 @@
 
 ghost use Rattle.std.specs.Prelude.{◌≤◌, ◌<◌, length};
 
-use crate::rows::{hold, same, shown};
+use crate::rows::{hold, numbers_of, same, shown};
 use core_store::{
     CoreRef, CoreRefs, CoreSpaces, CoreValue, Locals, Shared, Store, StoreFunc, add_elements,
     add_function, add_global, add_instance, add_memory, add_segment, add_table, copy, drop_element,
@@ -15,30 +15,20 @@ use std::test::Fail;
 use virt_base::{CoreType, CoreTypes, Items};
 use wasm_ast::{CoreFunc, Indexes, LocalRun};
 
-/// A store, and how many memories, tables and segments were added to it.
+/// A store, and how much was added to it.
 #[derive(Drop)]
 struct Scene {
     store: Store,
     memories: u32,
     tables: u32,
+    globals: u32,
     segments: u32,
     elements: u32,
     ghost memories_there: { memories ≤ length store.memories },
     ghost tables_there: { tables ≤ length store.tables },
+    ghost globals_there: { globals ≤ length store.globals },
     ghost segments_there: { segments ≤ length store.segments },
     ghost elements_there: { elements ≤ length store.elements },
-}
-
-/// The numbers of words.
-fn numbers_of(alloc: Global, words: &str) -> Result<Vec<u32>, Fail> {
-    let mut all = Vec::new(alloc);
-    for word in words.split_whitespace() {
-        match word.parse::<u32>() {
-            Ok(number) => all.push(number)?,
-            Err(_) => return Err(Fail::from("no number")),
-        }
-    }
-    Ok(all)
 }
 
 /// A function of the embedder, of this number, which takes and gives nothing.
@@ -51,29 +41,53 @@ fn outside(alloc: Global, number: u32) -> Result<StoreFunc, Fail> {
     Ok(StoreFunc::Outside { ty, number })
 }
 
+/// The index spaces of an instance without items.
+fn no_spaces(alloc: Global) -> CoreSpaces {
+    CoreSpaces {
+        types: Items::empty(alloc),
+        functions: Indexes::empty(alloc),
+        tables: Indexes::empty(alloc),
+        memories: Indexes::empty(alloc),
+        globals: Indexes::empty(alloc),
+        segments: Indexes::empty(alloc),
+        elements: Indexes::empty(alloc),
+    }
+}
+
+/// The number, or the greatest where it is greater.
+fn small(number: u64) -> u32 {
+    u32::try_from(number).unwrap_or(u32::MAX)
+}
+
 impl Scene {
     fn new(alloc: Global) -> Scene {
         Scene {
             store: Store::new(alloc),
             memories: 0,
             tables: 0,
+            globals: 0,
             segments: 0,
             elements: 0,
         }
     }
 
-    /// Adds what begins with this letter: a memory or a table of so many pages or null references, four bytes, so many null
-    /// references, or the embedder's function of this number.
-    fn add(&mut self, alloc: Global, kind: u8, number: u32) -> Result<String, Fail> {
+    /// Adds what begins with this letter: a memory or a table of so many pages or null references, a global with this i64, four
+    /// bytes, so many null references, an instance, or the embedder's function of this number.
+    fn add(&mut self, alloc: Global, kind: u8, number: u64) -> Result<String, Fail> {
         let at = match kind {
             b'm' => {
-                let at = add_memory(alloc, &mut self.store, number, None)?;
+                let at = add_memory(alloc, &mut self.store, small(number), None)?;
                 self.memories = at + 1;
                 at
             }
             b't' => {
-                let at = add_table(alloc, &mut self.store, number, None)?;
+                let at = add_table(alloc, &mut self.store, small(number), None)?;
                 self.tables = at + 1;
+                at
+            }
+            b'g' => {
+                let at = add_global(alloc, &mut self.store, CoreValue::I64(number))?;
+                self.globals = at + 1;
                 at
             }
             b's' => {
@@ -82,12 +96,13 @@ impl Scene {
                 at
             }
             b'e' => {
-                let nulls = CoreRefs::new(vec![in alloc; CoreRef::Null; number as usize]?);
+                let nulls = CoreRefs::new(vec![in alloc; CoreRef::Null; small(number) as usize]?);
                 let at = add_elements(alloc, &mut self.store, nulls)?;
                 self.elements = at + 1;
                 at
             }
-            _ => add_function(alloc, &mut self.store, outside(alloc, number)?)?,
+            b'i' => add_instance(alloc, &mut self.store, no_spaces(alloc))?,
+            _ => add_function(alloc, &mut self.store, outside(alloc, small(number))?)?,
         };
         shown(alloc, &at)
     }
@@ -98,48 +113,22 @@ impl Scene {
         alloc: Global,
         call: u8,
         memory: u32,
-        numbers: &[u32],
+        numbers: &[u64],
     ) -> Result<String, Fail> {
-        if memory >= self.memories {
-            return Err(Fail::from("no such memory"));
+        if memory >= self.memories || self.segments == 0 {
+            return Err(Fail::from("no such memory, or no segment"));
         }
-        let has_segment = self.segments > 0;
         let store = &mut self.store;
         match (call, numbers) {
-            (b'f', [at, len]) => shown(
-                alloc,
-                &fill(store, memory, u64::from(*at), 7, u64::from(*len)),
-            ),
-            (b'l', [at, 1]) => shown(alloc, &load(store, memory, u64::from(*at), 1)),
-            (b'l', [at, 2]) => shown(alloc, &load(store, memory, u64::from(*at), 2)),
-            (b'l', [at, 8]) => shown(alloc, &load(store, memory, u64::from(*at), 8)),
-            (b'p', [at, value]) => shown(
-                alloc,
-                &store_at(store, memory, u64::from(*at), 1, u64::from(*value)),
-            ),
-            (b'c', [to, from, len]) => shown(
-                alloc,
-                &copy(
-                    store,
-                    memory,
-                    u64::from(*to),
-                    u64::from(*from),
-                    u64::from(*len),
-                ),
-            ),
-            (b'i', [to, from, len]) if has_segment => shown(
-                alloc,
-                &init(
-                    store,
-                    memory,
-                    u64::from(*to),
-                    0,
-                    u64::from(*from),
-                    u64::from(*len),
-                ),
-            ),
-            (b'd', []) if has_segment => shown(alloc, &drop_segment(store, 0)),
-            (b'g', [by]) => shown(alloc, &grow(alloc, store, memory, *by)),
+            (b'f', [at, len]) => shown(alloc, &fill(store, memory, *at, 7, *len)),
+            (b'l', [at, 1]) => shown(alloc, &load(store, memory, *at, 1)),
+            (b'l', [at, 2]) => shown(alloc, &load(store, memory, *at, 2)),
+            (b'l', [at, 8]) => shown(alloc, &load(store, memory, *at, 8)),
+            (b'p', [at, value]) => shown(alloc, &store_at(store, memory, *at, 1, *value)),
+            (b'c', [to, from, len]) => shown(alloc, &copy(store, memory, *to, *from, *len)),
+            (b'i', [to, from, len]) => shown(alloc, &init(store, memory, *to, 0, *from, *len)),
+            (b'd', []) => shown(alloc, &drop_segment(store, 0)),
+            (b'g', [by]) => shown(alloc, &grow(alloc, store, memory, small(*by))),
             (b's', []) => shown(alloc, &size(store, memory)),
             (b'm', []) => shown(alloc, &store.made(memory)),
             _ => Err(Fail::from("no call on memories")),
@@ -152,37 +141,66 @@ impl Scene {
         alloc: Global,
         call: u8,
         table: u32,
-        numbers: &[u32],
+        numbers: &[u64],
     ) -> Result<String, Fail> {
-        if table >= self.tables {
-            return Err(Fail::from("no such table"));
-        }
-        let has_elements = self.elements > 0;
         let store = &mut self.store;
-        let has_function = functions(store) > 0;
+        if table >= self.tables || self.elements == 0 || functions(store) == 0 {
+            return Err(Fail::from("no such table, or no segment or function"));
+        }
+        let own = CoreRef::Func(0);
         match (call, numbers) {
-            (b'f', [at, len]) if has_function => shown(
+            (b'f', [at, len]) => shown(
                 alloc,
-                &table_fill(store, table, *at, CoreRef::Func(0), *len),
+                &table_fill(store, table, small(*at), own, small(*len)),
             ),
-            (b'g', [at]) => shown(alloc, &table_get(store, table, *at)),
-            (b's', [at]) if has_function => {
-                shown(alloc, &table_set(store, table, *at, CoreRef::Func(0)))
-            }
-            (b'n', [at]) => shown(alloc, &table_set(store, table, *at, CoreRef::Null)),
+            (b'g', [at]) => shown(alloc, &table_get(store, table, small(*at))),
+            (b's', [at]) => shown(alloc, &table_set(store, table, small(*at), own)),
+            (b'n', [at]) => shown(alloc, &table_set(store, table, small(*at), CoreRef::Null)),
             (b'c', [to, from, len]) => shown(
                 alloc,
-                &table_copy(store, table, *to, table, *from, *len),
+                &table_copy(store, table, small(*to), table, small(*from), small(*len)),
             ),
-            (b'i', [to, from, len]) if has_elements => shown(
+            (b'i', [to, from, len]) => shown(
                 alloc,
-                &table_init(store, table, *to, 0, *from, *len),
+                &table_init(store, table, small(*to), 0, small(*from), small(*len)),
             ),
-            (b'd', []) if has_elements => shown(alloc, &drop_element(store, 0)),
-            (b'e', [by]) => shown(alloc, &table_grow(alloc, store, table, *by, CoreRef::Null)),
+            (b'd', []) => shown(alloc, &drop_element(store, 0)),
+            (b'e', [by]) => shown(
+                alloc,
+                &table_grow(alloc, store, table, small(*by), CoreRef::Null),
+            ),
             (b'l', []) => shown(alloc, &table_size(store, table)),
             _ => Err(Fail::from("no call on tables")),
         }
+    }
+
+    /// The global at a place, once it is set where a number is given.
+    fn call_global(&mut self, alloc: Global, at: u32, numbers: &[u64]) -> Result<String, Fail> {
+        let store = &mut self.store;
+        if at >= self.globals {
+            return Err(Fail::from("no such global"));
+        }
+        if let ([value], CoreValue::I64(_)) = (numbers, global_get(store, at)) {
+            global_set(store, at, CoreValue::I64(*value));
+        }
+        shown(alloc, &global_get(store, at))
+    }
+
+    /// How many functions and instances there are, the number of the embedder's function at a place, and how many functions the
+    /// instance at a place has.
+    fn count(&self, alloc: Global, at: u32) -> Result<String, Fail> {
+        let store = &self.store;
+        let mut number = None;
+        if at < functions(store)
+            && let StoreFunc::Outside { number: found, .. } = function(store, at)
+        {
+            number = Some(*found);
+        }
+        let mut named = None;
+        if at < instances(store) {
+            named = Some(spaces(store, at).get().functions.len());
+        }
+        shown(alloc, &(functions(store), number, instances(store), named))
     }
 
     fn call(&mut self, alloc: Global, words: &str) -> Result<String, Fail> {
@@ -193,18 +211,24 @@ impl Scene {
         let [at, rest @ ..] = numbers.as_slice() else {
             return Err(Fail::from("a call without numbers"));
         };
+        let place = small(*at);
         match name.as_bytes() {
             [b'a', b'd', b'd', b'_', kind, ..] => self.add(alloc, *kind, *at),
-            [b't', b'_', call, ..] => self.call_table(alloc, *call, *at, rest),
-            [call, ..] => self.call_memory(alloc, *call, *at, rest),
+            [b't', b'a', b'b', b'l', b'e', b'_', call, ..] => {
+                self.call_table(alloc, *call, place, rest)
+            }
+            b"global" => self.call_global(alloc, place, rest),
+            b"count" => self.count(alloc, place),
+            [call, ..] => self.call_memory(alloc, *call, place, rest),
             [] => Err(Fail::from("no call")),
         }
     }
 }
 
-/// Calls on a store: what is added, and what is done to the memory at a place, or behind `t_` to the table. Each begins with a letter
-/// of its own: `put` is `store_at`, `null` sets to null, `extend` grows and `length` is the size.
-const MEMORIES: &str = "\
+/// Calls on a store: what is added, and what is done to the memory at a place, or behind `table_` to the table, each by a word with
+/// a letter of its own: `put` is `store_at`, `null` sets to null, `extend` grows and `length` is the size.
+const CALLS: &str = "\
+add_segment 0 => 0
 # fills at the end of a memory
 add_memory 1 => 0
 fill 0 65535 2 => Err(Trap)
@@ -224,7 +248,6 @@ copy 3 65535 0 65537 => Ok(())
 made 3 => 2
 load 3 65535 8 => Ok(0)
 # a data segment is dropped
-add_segment 0 => 0
 init 0 10 1 2 => Ok(())
 load 0 10 2 => Ok(25442)
 drop 0 => ()
@@ -234,31 +257,35 @@ init 0 65536 0 0 => Ok(())
 grow 0 0 => Ok(1)
 grow 0 4095 => Ok(1)
 grow 0 1 => Ok(-1)
-size 0 => 4096";
-
-const TABLES: &str = "\
-# references in a table
+size 0 => 4096
 add_function 7 => 0
+add_elements 2 => 0
+# references in a table
 add_table 3 => 0
-t_fill 0 2 2 => Err(Trap)
-t_get 0 2 => Ok(Null)
-t_set 0 0 => Ok(())
-t_null 0 3 => Err(Trap)
-t_copy 0 1 0 2 => Ok(())
-t_get 0 1 => Ok(Func(0))
-t_get 0 2 => Ok(Null)
-t_get 0 3 => Err(Trap)
+table_fill 0 2 2 => Err(Trap)
+table_get 0 2 => Ok(Null)
+table_set 0 0 => Ok(())
+table_null 0 3 => Err(Trap)
+table_copy 0 1 0 2 => Ok(())
+table_get 0 1 => Ok(Func(0))
+table_get 0 2 => Ok(Null)
+table_get 0 3 => Err(Trap)
 # an element segment is dropped
 add_table 2 => 1
-add_elements 2 => 0
-t_init 1 0 0 2 => Ok(())
-t_drop 1 => ()
-t_init 1 0 0 1 => Err(Trap)
+table_init 1 0 0 2 => Ok(())
+table_drop 1 => ()
+table_init 1 0 0 1 => Err(Trap)
 # a table grows up to its most
 add_table 0 => 2
-t_extend 2 1048576 => Ok(0)
-t_extend 2 1 => Ok(-1)
-t_length 2 => 1048576";
+table_extend 2 1048576 => Ok(0)
+table_extend 2 1 => Ok(-1)
+table_length 2 => 1048576
+# globals, functions and instances
+count 0 => (1, Some(7), 0, None)
+add_global 5 => 0
+global 0 6 => I64(6)
+add_instance 0 => 0
+count 0 => (1, Some(7), 1, Some(0))";
 
 #[test]
 fn calls_on_a_store(rt: HostRuntime) -> Result<(), Fail> {
@@ -266,48 +293,8 @@ fn calls_on_a_store(rt: HostRuntime) -> Result<(), Fail> {
     hold(
         &rt,
         rt.alloc(),
-        MEMORIES,
+        CALLS,
         |alloc, words| scene.call(alloc, words),
-    )?;
-    hold(
-        &rt,
-        rt.alloc(),
-        TABLES,
-        |alloc, words| scene.call(alloc, words),
-    )
-}
-
-#[test]
-fn globals_and_instances(rt: HostRuntime) -> Result<(), Fail> {
-    let alloc = rt.alloc();
-    let none = CoreSpaces {
-        types: Items::empty(alloc),
-        functions: Indexes::empty(alloc),
-        tables: Indexes::empty(alloc),
-        memories: Indexes::empty(alloc),
-        globals: Indexes::empty(alloc),
-        segments: Indexes::empty(alloc),
-        elements: Indexes::empty(alloc),
-    };
-    let outside = outside(alloc, 7)?;
-    let mut store = Store::new(alloc);
-    let before = instances(&store);
-    let added = (
-        add_instance(alloc, &mut store, none)?,
-        add_function(alloc, &mut store, outside)?,
-        add_global(alloc, &mut store, CoreValue::I64(5))?,
-    );
-    global_set(&mut store, 0, CoreValue::I64(6));
-    let found = (
-        (global_get(&store, 0), functions(&store), instances(&store)),
-        spaces(&store, 0).get().functions.len(),
-        matches!(function(&store, 0), StoreFunc::Outside { ty: _, number: 7 }),
-    );
-    same(
-        &rt,
-        alloc,
-        &(before, added, found),
-        "(0, (0, 0, 0), ((I64(6), 1, 1), 0, true))",
     )
 }
 

@@ -14,7 +14,7 @@ pub fn judged(alloc: Global, interface: &Interface, script: &str) -> Result<Stri
     let json = written_out(alloc, script)?;
     match read_script(alloc, json.as_bytes(), &exports_of(alloc, interface)?) {
         Ok(_) => Ok(String::from_str(alloc, "fine")?),
-        Err(fault) => fault_in_words(alloc, fault),
+        Err(fault) => fault_in_words(alloc, &fault),
     }
 }
 

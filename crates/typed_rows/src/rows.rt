@@ -1,7 +1,8 @@
 //! Rows, and the loop that reads them.
 //!
-//! A heading, `# LABEL: REMARK;ITEMS`, spells types and functions for the rows under it, in the notation of `wasi_table`. A row is
-//! `INPUT => OUTCOME`.
+//! A heading, `# LABEL: REMARK;ITEMS`, spells types and functions for the rows under it, in the notation of `wasi_table`. The label is
+//! the name of their interface, and where it is a number, that of the parts of `labels`, `cases` and `numbers`. A row is
+//! `INPUT => OUTCOME`; the function of each kind says what stands in its input.
 
 use crate::answers::answered;
 use crate::faults::judged;
@@ -27,6 +28,7 @@ pub enum Kind {
     Answered,
 }
 
+/// What was found of a row is what is wanted.
 pub fn same(rt: &impl Abort, found: &str, wanted: &str, of: &str) -> Result<(), Fail> {
     assert_eq!(rt; found, wanted, "{of}");
     Ok(())

@@ -45,7 +45,7 @@ pub fn args_in(calls: Calls) -> Result<Values, Fail> {
 }
 
 /// The path of a fault behind `at|`.
-pub fn fault_in_words(alloc: Global, fault: ScriptFault) -> Result<String, Fail> {
+pub fn fault_in_words(alloc: Global, fault: &ScriptFault) -> Result<String, Fail> {
     match fault {
         ScriptFault::BadScript(path) => {
             let mut text = String::from_str(alloc, "at|")?;

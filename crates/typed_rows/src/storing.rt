@@ -35,8 +35,9 @@ fn value_in(alloc: Global, interface: &Interface, json: &str) -> Result<Value, F
     }
 }
 
-/// `VALUE | ones FROM COUNT | TARGET | ANSWERS`: what is asked for and how it ends when a value is stored over 64 bytes ff, or
-/// `zeros`, with these answers, and then so many bytes. The value's type for storing is that of the first function.
+/// `VALUE | FILL FROM COUNT | TARGET | ANSWERS`: the steps of storing a value, with these answers to what is asked for, and then bytes
+/// of the memory, which began with 64 bytes ff where the fill is `ones`. The target is a place, `flat` or `spill`. The value is read
+/// by the last function's parameter, and stored by the first one's: where these differ, it is kept in another form.
 pub fn stored(alloc: Global, interface: &Interface, input: &str) -> Result<String, Fail> {
     let (json, rest) = halves(input, " | ");
     let (memory, rest) = halves(rest, " | ");

@@ -18,7 +18,7 @@ fn push_times(all: &mut String, piece: &str, count: u32) -> Result<(), Fail> {
     Ok(())
 }
 
-/// A text in which a piece between two back quotes, as "5*ab", stands for so many times what is behind its star.
+/// A text in which a piece between two back quotes, as `5*ab`, stands for so many times what is behind its star.
 pub fn written_out(alloc: Global, text: &str) -> Result<String, Fail> {
     let mut all = String::new(alloc);
     for piece in text.split('`') {

@@ -14,7 +14,7 @@ pub fn printed(alloc: Global, interface: &Interface, args: &str) -> Result<Strin
             let call = call_of(alloc, interface, args_in(script.calls)?)?;
             line(alloc, &Observation::Called(call), None)
         }
-        Err(fault) => fault_in_words(alloc, fault),
+        Err(fault) => fault_in_words(alloc, &fault),
     }
 }
 
