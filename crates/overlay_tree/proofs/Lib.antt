@@ -3,3 +3,4 @@ pub mod PieceLemmas
 pub mod ResizeLemmas
 pub mod ReplaceLemmas
 pub mod MapLemmas
+pub mod ByteLemmas

@@ -1,4 +1,4 @@
-ghost use Rattle.std.specs.Prelude.{◌≡◌, ◌+◌, ◌*◌, ◌≤◌, ◌<◌, ◌^◌, ◌++◌, List, ℕ, Some, None, IsSome, IfOk, IfSome, OnOk, OnErr, length, drop, option_map, replicate, true, []};
+ghost use Rattle.std.specs.Prelude.{◌≡◌, ◌+◌, ◌*◌, ◌≤◌, ◌<◌, ◌^◌, ◌++◌, All, List, ℕ, Some, None, IsSome, IfOk, IfSome, OnOk, OnErr, length, drop, option_map, replicate, true, []};
 ghost use Rattle.std.specs.List.{splice};
 ghost use Rattle.tree_table.specs.Scratches.{ScratchMap, blocks_of, empty_scratch, file_at, name_at, content_at, find_file, free_number, read_at, with_content, has_room, created, removed, renamed, resized, overwritten, sized, written};
 ghost use Rattle.tree_table.specs.Trees.{IsShort};
@@ -27,6 +27,13 @@ pub struct Scratch {
     blocks: u32,
     slots: Vec<Slot>,
     bytes: Vec<u8>,
+}
+
+fn are_bytes(bytes: &[u8])
+    ensures small { All (λ b. b < 256) bytes.now }
+    ensures count { length bytes.now < 2 ^ 64 }
+{
+    let _bytes = bytes;
 }
 
 impl Model for Scratch {
@@ -235,6 +242,16 @@ impl Scratch {
         self.resize(number, size as usize);
         self.clear(number, at as usize, len as usize);
         Ok(())
+    }
+
+    /// What files hold are bytes, as many as 64 bits can count, and so are the files: lists do not tell that themselves. It
+    /// does nothing when it runs.
+    pub fn contents_are_bytes(&self)
+        ensures small { (number : ℕ) → All (λ b. b < 256) (content_at self.now number) }
+        ensures count { (number : ℕ) → length (content_at self.now number) < 2 ^ 64 }
+        ensures files { length self.now.files < 2 ^ 64 }
+    {
+        are_bytes(self.bytes.as_slice());
     }
 
     /// Copies the bytes of a file from a place on to the front of `out`, as many as there are and fit, and says how many.

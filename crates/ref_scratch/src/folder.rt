@@ -1,4 +1,4 @@
-ghost use Rattle.std.specs.Prelude.{◌≡◌, ◌+◌, ◌<◌, ◌^◌, Some, None, [], IsSome, IsUtf8, IfOk, IfSome, OnOk, OnErr, is_some, length, replicate, unwrap_or};
+ghost use Rattle.std.specs.Prelude.{◌≡◌, ◌+◌, ◌<◌, ◌^◌, ℕ, All, Some, None, [], IsSome, IsUtf8, IfOk, IfSome, OnOk, OnErr, is_some, length, replicate, unwrap_or};
 ghost use Rattle.tree_table.specs.Scratches.{empty_scratch, file_at, name_at, content_at, find_file, free_number, read_at, created, removed, renamed, sized, written, with_content};
 ghost use Rattle.tree_table.specs.Trees.{IsShort};
 
@@ -80,6 +80,16 @@ impl Folder {
         ensures { result ≡ length (content_at self.now number) }
     {
         self.scratch.size(number)
+    }
+
+    /// What files hold are bytes, as many as 64 bits can count, and so are the files: lists do not tell that themselves. It
+    /// does nothing when it runs.
+    pub fn contents_are_bytes(&self)
+        ensures small { (number : ℕ) → All (λ b. b < 256) (content_at self.now number) }
+        ensures count { (number : ℕ) → length (content_at self.now number) < 2 ^ 64 }
+        ensures files { length self.now.files < 2 ^ 64 }
+    {
+        self.scratch.contents_are_bytes();
     }
 
     /// The bytes of a file from a place on, so many at most.

@@ -10,3 +10,4 @@ pub mod LinkLemmas
 pub mod BuildLemmas
 pub mod SlotLemmas
 pub mod StoredLemmas
+pub mod ByteLemmas

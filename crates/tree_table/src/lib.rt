@@ -17,5 +17,5 @@ pub use names::NameRead;
 pub use nodes::Nodes;
 pub use ordered::Entries;
 pub use slot::NodeKind;
-pub use table::{Table, child, content, kind, name, place, root, target};
+pub use table::{Table, child, content, contents_are_bytes, kind, name, place, root, target};
 pub use walking::{WalkFault, walk, walk_by};

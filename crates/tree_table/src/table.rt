@@ -1,4 +1,4 @@
-ghost use Rattle.std.specs.Prelude.{◌≡◌, ◌≢◌, ℕ, ◌+◌, ◌-◌, ◌<◌, ◌≤◌, [], ◌++◌, List, Some, None, OnOk, IfOk, IfSome, IfNone, IsUtf8, length, nat_lt, if◌then◌else◌};
+ghost use Rattle.std.specs.Prelude.{◌≡◌, ◌≢◌, ℕ, ◌+◌, ◌-◌, ◌<◌, ◌≤◌, ◌^◌, [], ◌++◌, All, List, Some, None, OnOk, IfOk, IfSome, IfNone, IsUtf8, length, nat_lt, if◌then◌else◌};
 ghost use Rattle.tree_table.specs.declared.entries.Node.{Node};
 ghost use Rattle.tree_table.specs.Tables.{count_of, tree_count, tree_of, place_of, path_of, node_of, map_of, longest_of, last_name, content_of, HasChildren, Holds};
 ghost use Rattle.tree_table.specs.Slots.{kind_of, row_of, IsWithin};
@@ -156,6 +156,22 @@ pub fn content(table: &Table, node: u32) -> &[u8]
 {
     let slot = &table.slots[node as usize];
     within(table.bytes.as_slice(), slot.content)
+}
+
+fn are_bytes(bytes: &[u8])
+    ensures small { All (λ b. b < 256) bytes.now }
+    ensures count { length bytes.now < 2 ^ 64 }
+{
+    let _bytes = bytes;
+}
+
+/// What files and links hold are bytes, as many as 64 bits can count: a list of numbers does not tell that itself. It does
+/// nothing when it runs.
+pub fn contents_are_bytes(table: &Table)
+    ensures small { (node : ℕ) → All (λ b. b < 256) (content_of (node_of table.now node)) }
+    ensures count { (node : ℕ) → length (content_of (node_of table.now node)) < 2 ^ 64 }
+{
+    are_bytes(table.bytes.as_slice());
 }
 
 /// A link's target; none exactly where the node is no link.
