@@ -23,10 +23,10 @@ use Rattle.comp_types.specs.Types.{func_in, instance_in, resource_in}
 use Rattle.comp_types.specs.GivenResources.{renamed}
 use Rattle.comp_types.specs.Added.{named_items, and_named, and_some_type, kind_item, and_index, brought, described}
 use Rattle.comp_types.specs.Rules.{lengths_of, item_stands, desc_stands, IsKind, IsStated}
-use Rattle.comp_worlds.specs.Groups.{Target}
+use Rattle.comp_worlds.specs.Groups.{Target, type_of}
 use Rattle.comp_link.specs.Plans.{Named, named_by, resource_or_type, named_args}
 use Rattle.comp_link.specs.Linking.{Given, Givens, GivenFunc, GivenInstance, GivenResource, GivenType, Making, given_at, and_some_given, givens_of, and_item as and_made, and_core_item, with_lowered}
-use Rattle.comp_exports.specs.Exports.{IsOf, AreExportsOf}
+use Rattle.comp_exports.specs.Exports.{passing, IsOf, AreExportsOf}
 use Rattle.comp_exports.proofs.Shapes.{some_same, Has, is_of_same, has_each, has_with}
 
 -- ---- two lists, item by item
@@ -63,7 +63,7 @@ get_there xs i h = get_within xs i (ltb-true i (length xs) h)
 -- ---- what a component has as it is made
 
 abbrev pub IsFunc : Option Target → PlainFunc → Type 0
-IsFunc o ty = (t : Target) × (o ≡ Some t)
+IsFunc o ty = (t : Target) × (o ≡ Some t) × (passing (type_of t) ≡ passing ty)
 
 -- it is given these imports, and has what the index spaces say
 pub record Fitting (imports : Entries) (these : Givens) (fs : List (Option Target)) (is : List Givens) (shown : Givens) (tys : List PlainFunc) (entries : List Entries) (out : Entries) : Type 0 where
@@ -108,7 +108,7 @@ stated_fits s g item (descs.Instance i) stands fits h = instance_fits g (subst (
 module _ (imports : Entries) where
   -- one item more
   pub item_fits : (m : Making) (s : Space) (g : Given) (item : Item) → Fits imports m s → IsOf g item → Fits imports (and_made m (Some g)) (and_item s item)
-  item_fits m s (GivenFunc t) (FuncItem ty) h fits = record { given = h.given; functions = both_and IsFunc m.functions s.functions (Some t) ty h.functions (t, refl); instances = h.instances; exports = h.exports }
+  item_fits m s (GivenFunc t) (FuncItem ty) h fits = record { given = h.given; functions = both_and IsFunc m.functions s.functions (Some t) ty h.functions (t, refl, fits); instances = h.instances; exports = h.exports }
   item_fits m s (GivenInstance items) (InstanceItem entries) h fits = record { given = h.given; functions = h.functions; instances = both_and Has m.instances s.instances items entries h.instances fits; exports = h.exports }
   item_fits m s (GivenResource r) (KindItem kind) h fits = h
   item_fits m s GivenType (KindItem kind) h fits = h
@@ -145,7 +145,7 @@ module _ (imports : Entries) where
       go (Some ty) e is' =
           let x = both_get IsFunc m.functions s.functions i ty h.functions e in
           let there : slice_get m.functions i ≡ Some (Some x.2.0) = x.1 ∙ ap Some x.2.1 in
-          (GivenFunc x.2.0, ap (option_and_then (option_map GivenFunc)) there, subst (IsOf (GivenFunc x.2.0)) (some_same (FuncItem ty) item is') tt)
+          (GivenFunc x.2.0, ap (option_and_then (option_map GivenFunc)) there, subst (IsOf (GivenFunc x.2.0)) (some_same (FuncItem ty) item is') x.2.2)
   given_there m s sorts.Instance i item h is = go (slice_get s.instances i) refl is
     where
       go : (o : Option Entries) → slice_get s.instances i ≡ o → option_map InstanceItem o ≡ Some item → Stands m (named_by s sorts.Instance i) item

@@ -1,3 +1,4 @@
+pub mod Passing
 pub mod Shapes
 pub mod Kept
 pub mod Items

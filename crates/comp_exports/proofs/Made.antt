@@ -34,7 +34,7 @@ use Rattle.comp_grammar.specs.Trees.{Part, Tree, CoreModule, Nested, CoreInstanc
 use Rattle.comp_types.specs.Declarations.{Declaration, Declarations, ATypeDef, AnInstanceType, ATypeAlias, ATypeExport, Done, Then as ThenDeclared, grouped}
 use Rattle.comp_types.specs.Definitions.{Definition, ACoreInstance, AnInstance, AnAlias, AType, ACanon, AnImport, AnExport, definitions, types_in}
 use Rattle.comp_types.specs.Spaces.{Space, TypeEntry, NestedComponent, item_at, kind_at}
-use Rattle.comp_types.specs.Types.{resource_in}
+use Rattle.comp_types.specs.Types.{func_in, resource_in}
 use Rattle.comp_types.specs.GivenResources.{given_by, numbered}
 use Rattle.comp_types.specs.CoreMatching.{core_look_up}
 use Rattle.comp_types.specs.Added.{and_again, and_index, and_export_index, and_instantiated, and_some_item, and_some_core_item, and_some_type, and_some_module, and_some_component, and_some_entry, and_outer, and_instance, described, exported, named_items, after, after_all, after_part, after_tree, entered, nested_of, root}
@@ -45,6 +45,7 @@ use Rattle.comp_link.specs.Plans.{Plan, End, Then, OfModule, OfComponent, MakesR
 use Rattle.comp_link.specs.Linking.{Given, Givens, find, Whole, Making, begun, and_stage, core_find, and_given, givens_of, and_item as and_made, item_in, and_export, link_item, link, outside, all_outside, all_known, behind_known}
 use Rattle.comp_exports.specs.Sections.{IsDefined, AreDefined, DefinesIn, DefinesTypes}
 use Rattle.comp_exports.specs.Exports.{Either, IsOf, Finds, AreExportsOf, ExportsAreLinked}
+use Rattle.comp_exports.proofs.Passing.{passing_with}
 use Rattle.comp_exports.proofs.Shapes.{some_same, Has, found, has_given, has_with, has_exports, exports_and}
 use Rattle.comp_exports.proofs.Kept.{Within, found_new, with_outer_type, with_outer_module, with_instance, with_index, with_alias, with_core_alias, with_canon, with_export, with_declaration, all_within, tree_within, then_within}
 use Rattle.comp_exports.proofs.Items.{Both, both_and, both_get, both_none, get_there, IsFunc, Fits, item_fits, core_fits, lowered_fits, item_there, given_there, named_fit, index_fits, stated_fits}
@@ -137,7 +138,7 @@ module _ (imports : Entries) where
   declared_fits around (ATypeExport name desc) m s v defined h = absurd defined
 
   canon_fits : (around : List Space) (c : Canon) (m : Making) (s : Space) → Fits imports m s → Fits imports (link (of_canon s c) m) (after around s (ACanon c))
-  canon_fits around (canons.Lift func options ty) m s h = record { given = h.given; functions = both_and IsFunc m.functions s.functions _ _ h.functions (_, refl); instances = h.instances; exports = h.exports }
+  canon_fits around (canons.Lift func options ty) m s h = record { given = h.given; functions = both_and IsFunc m.functions s.functions _ _ h.functions (_, refl, passing_with (partner_in m.resources) (func_in (kind_at s ty))); instances = h.instances; exports = h.exports }
   canon_fits around (canons.Lower func options) m s h = lowered_fits imports m s _ options (option_and_then (λ o. o) (slice_get m.functions func)) h
   canon_fits around (canons.ResourceNew ty) m s h = go (resource_in (kind_at s ty))
     where
@@ -395,7 +396,7 @@ at_outside false interface n i rest name item here later is = later is
 
 mutual
   outside_is : (interface name : Name) (item : Item) → IsOf (outside interface name item) item
-  outside_is interface name (FuncItem ty) = tt
+  outside_is interface name (FuncItem ty) = refl
   outside_is interface name (InstanceItem entries) = outside_has name entries
   outside_is interface name (KindItem (ResourceKind r)) = refl
   outside_is interface name (KindItem (ValueKind ty)) = refl

@@ -1,4 +1,4 @@
--- What is of an item's sort is of the sort of each item that is equal, asked for in its place, or the same with other resources.
+-- What is of an item's sort and type is of those of each item that is equal, asked for in its place, or the same with other resources.
 use Rattle.std.proofs.Common.{◌≡◌, ℕ, cond, Bool, true, false, Some, None, refl, sym, ◌∙◌, ap, subst}
 use Rattle.wit_types.specs.Plain.{Name}
 use Rattle.comp_types.specs.Items.{Item, Kind, Entries, FuncItem, InstanceItem, KindItem, ResourceKind, ValueKind, FuncKind, InstanceKind, End, More, same_name, look_up, and_entry}
@@ -9,6 +9,7 @@ use Rattle.comp_types.proofs.ValueLaws.{name-sound}
 use Rattle.comp_types.specs.Rules.{is_resource}
 use Rattle.comp_link.specs.Linking.{Given, Givens, GivenFunc, GivenInstance, GivenResource, GivenType, Nothing, Giving, find, and_given}
 use Rattle.comp_exports.specs.Exports.{Either, IsOf, Finds, AreExportsOf}
+use Rattle.comp_exports.proofs.Passing.{passing_same, passing_with}
 
 pub some_same : {A : Type 0} → (x y : A) → Some x ≡ Some y → x ≡ y
 some_same x y e = let q : x ≡ y = cc in q
@@ -73,7 +74,7 @@ module _ (Meets : ℕ → ℕ → Type 0) where
 
   mutual
     pub is_of_same : (g : Given) (a b : Item) → IsOf g a → IsSameItem Meets a b → IsOf g b
-    is_of_same (GivenFunc t) a (FuncItem ty) h s = tt
+    is_of_same (GivenFunc t) a (FuncItem ty) h s = subst (IsOf (GivenFunc t)) s.1 h ∙ passing_same Meets s.0 ty s.2
     is_of_same (GivenFunc t) a (InstanceItem entries) h s = subst (IsOf (GivenFunc t)) s.1 h
     is_of_same (GivenFunc t) a (KindItem kind) h s = subst (IsOf (GivenFunc t)) s.1 h
     is_of_same (GivenInstance items) a (FuncItem ty) h s = subst (IsOf (GivenInstance items)) s.1 h
@@ -142,7 +143,7 @@ module _ (f : ℕ → ℕ) where
 
   mutual
     pub is_of_with : (g : Given) (item : Item) → IsOf g item → IsOf g (item_with f item)
-    is_of_with (GivenFunc t) (FuncItem ty) h = tt
+    is_of_with (GivenFunc t) (FuncItem ty) h = h ∙ sym (passing_with f ty)
     is_of_with (GivenFunc t) (InstanceItem entries) h = h
     is_of_with (GivenFunc t) (KindItem kind) h = h
     is_of_with (GivenInstance items) (FuncItem ty) h = h

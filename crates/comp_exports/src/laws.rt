@@ -1,7 +1,7 @@
 ghost use Rattle.comp_exports.specs.Exports.{ExportsAreLinked, SpelledDefine};
 
-/// What a valid component's instance exports is what the component's type exports: name by name, in order, a function where the type
-/// has a function, an instance with at least the items of its type, and a resource where the type has one.
+/// What a valid component's instance exports is what the component's type exports: name by name, in order, a function of the type that
+/// is exported, an instance with at least the items of its type, and a resource where the type has one.
 pub fn linked_exports_are_those_of_the_type()
     ensures { ExportsAreLinked }
 {}

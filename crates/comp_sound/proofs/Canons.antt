@@ -22,10 +22,11 @@ use Rattle.comp_types.specs.Rules.{if_there, all_differ, lengths_of, option_stan
 use Rattle.comp_types.specs.Validity.{AllHold}
 use Rattle.comp_worlds.specs.Groups.{Options}
 use Rattle.comp_link.specs.Linking.{Making, place_at, memory_in, realloc_in, post_in, options_in, lifting_of}
+use Rattle.comp_exports.specs.Exports.{passing}
 use Rattle.comp_exports.proofs.Items.{get_there}
 use Rattle.comp_sound.specs.Fits.{HasCode, HasCodeIfAny, HasMemoryIfAny, OptionsFit, LiftingFits, LoweringFits}
 use Rattle.comp_sound.proofs.Core.{CoreFits, places_in, core_of, memory_below, item_at_index, code_at_index}
-use Rattle.comp_sound.proofs.Flat.{lifted_with, post_with, memory_with, lift_realloc_with}
+use Rattle.comp_sound.proofs.Flat.{lifted_with, post_with, memory_with, lift_realloc_with, lowered_alike, memory_alike, lower_realloc_alike}
 use Rattle.comp_sound.proofs.Imports.{func_same}
 
 if_needed : (needed : Bool) (test : CanonOption → Bool) (os : List CanonOption) → is_there_if_needed needed test os ≡ true → needed ≡ true → list_any test os ≡ true
@@ -141,9 +142,10 @@ module _ (m : Making) (s : Space) (h : CoreFits (places_in m) (core_of s)) where
 
   -- ---- lowered functions
 
-  pub lowering_fits : (ty : PlainFunc) (os : List CanonOption) → list_all (option_stands (lengths_of s)) os ≡ true → lower_options (core_func_at s) ty os ≡ true → LoweringFits m.shadow (lowered_type ty) (options_in m os)
-  lowering_fits ty os stand sound = record {
-    func = ty;
-    code = refl;
-    options = options_fit (needs_memory ty) (lower_needs_realloc ty) None os stand (sound_parts (needs_memory ty) (lower_needs_realloc ty) None os sound);
+  -- a lowered function has the type of what it calls
+  pub lowering_fits : (ty called : PlainFunc) (os : List CanonOption) → passing ty ≡ passing called → list_all (option_stands (lengths_of s)) os ≡ true → lower_options (core_func_at s) ty os ≡ true → LoweringFits m.shadow (lowered_type ty) called (options_in m os)
+  lowering_fits ty called os same stand sound = record {
+    code = lowered_alike ty called same;
+    options = same_needs (needs_memory ty) (lower_needs_realloc ty) (needs_memory called) (lower_needs_realloc called) (options_in m os) (memory_alike ty called same) (lower_realloc_alike ty called same)
+        (options_fit (needs_memory ty) (lower_needs_realloc ty) None os stand (sound_parts (needs_memory ty) (lower_needs_realloc ty) None os sound));
   }

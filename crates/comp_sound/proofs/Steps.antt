@@ -51,7 +51,7 @@ use Rattle.comp_types.specs.Added.{exports_in, and_core_instance, and_some_core_
 use Rattle.comp_types.specs.Rules.{if_there, lengths_of, item_stands, desc_stands, option_stands, core_import_given, core_import_met, has_item, has_core_item, is_of_sort, is_of_core_sort, exports_sort, is_resource, is_destructor, lower_options, MeetsComponent}
 use Rattle.comp_types.specs.Validity.{IsValidDefinition, AllHold}
 use Rattle.comp_types.specs.Substitution.{partner_in}
-use Rattle.comp_worlds.specs.Groups.{Target, Begins, LoweredFunc, ResourceNew, ResourceDrop, ResourceRep, Func as Canonical}
+use Rattle.comp_worlds.specs.Groups.{Target, type_of, Begins, LoweredFunc, ResourceNew, ResourceDrop, ResourceRep, Func as Canonical}
 use Rattle.comp_link.specs.Plans.{Plan, End, OfModule, OfComponent, Lowers, MakesResource, DropsResource, ReadsResource, Imports, Exports, Scope, if_some, just, named_by, named_args, of_core_instance, own_numbers, of_instance, of_alias, of_type, of_canon, planned_by}
 use Rattle.comp_link.specs.Linking.{Givens, find, Whole, Making, begun, and_stage, place_at, core_find, externs_for, with_canon, with_lowered, given_at, givens_of, item_in, options_in, link, and_core_item as and_made_core}
 use Rattle.comp_exports.proofs.Shapes.{Has, found, has_given, has_exports}
@@ -172,7 +172,7 @@ module _ (scope : Scope) (m : Making) (s : Space) (h : CoreFits (places_in m) (c
       let sound : lower_options (core_func_at s) ty.0 os ≡ true = subst (λ o. if_there (λ z. lower_options (core_func_at s) z os) o ≡ true) ty.1 ((v 17).options refl) in
       subst (λ o. Step (just (Lowers func os (lowered_at o))) m (core_of (and_core_item s (core_items.Func (lowered_at o))))) (sym ty.1)
       (record {
-        sound = ((called, there, lowering_fits m s h ty.0 os stand.1 sound), tt);
+        sound = ((called, there, lowering_fits m s h ty.0 (type_of called) os (sym x.2.2) stand.1 sound), tt);
         core = subst (λ o. CoreFits (places_in (with_lowered m (lowered_type ty.0) os (option_and_then (λ z. z) o))) (core_of (and_core_item s (core_items.Func (lowered_type ty.0))))) (sym there)
             (canon_more (lowered_type ty.0) (LoweredFunc called (options_in m os)));
       })

@@ -41,11 +41,10 @@ pub record LiftingFits (s : State) (l : Lifting) : Type 0 where
   pub options : OptionsFit s (needs_memory l.ty) (lift_needs_realloc l.ty) l.options
   pub post : HasCodeIfAny s l.post (post_return_type l.ty)
 
--- a core function of this type that is lowered from one of the type that the index spaces have for it
-pub record LoweringFits (s : State) (ty : CoreFunc) (o : Options) : Type 0 where
-  pub func : PlainFunc
-  pub code : ty ≡ lowered_type func
-  pub options : OptionsFit s (needs_memory func) (lower_needs_realloc func) o
+-- a core function of this type that is lowered from a function of that one, which is the type of what is called
+pub record LoweringFits (s : State) (ty : CoreFunc) (called : PlainFunc) (o : Options) : Type 0 where
+  pub code : ty ≡ lowered_type called
+  pub options : OptionsFit s (needs_memory called) (lower_needs_realloc called) o
 
 -- a module can be instantiated with these imports, and its start function takes and gives nothing
 pub record ModuleFits (s : State) (m : Module) (imports : List Extern) : Type 0 where

@@ -6,7 +6,7 @@ use Rattle.comp_types.specs.Items.{Entries}
 use Rattle.comp_grammar.specs.Trees.{Tree}
 use Rattle.comp_types.specs.Added.{takes_one, after_tree, root}
 use Rattle.comp_types.specs.Validity.{IsValidComponent}
-use Rattle.comp_worlds.specs.Groups.{Target, Begins}
+use Rattle.comp_worlds.specs.Groups.{Target, type_of, Begins}
 use Rattle.comp_link.specs.Plans.{NamedArg, Plan, Planned, End, Then, OfModule, OfCoreItems, CoreItemOf, OfComponent, OfItems, ItemOf, NewResource, Lifts, Lowers, MakesResource, DropsResource, ReadsResource, Imports, Exports, plan_of}
 use Rattle.comp_link.specs.Linking.{find, Making, begun, and_stage, core_find, place_at, externs_for, given_at, givens_of, item_in, options_in, lifting_of, link_item, all_known, behind_known, all_outside}
 use Rattle.comp_plans.specs.declared.linked.Linked.{Linked}
@@ -34,7 +34,7 @@ abbrev mutual
   IsSoundItem (ItemOf sort instance name) m = IsThere (item_in (slice_get m.instances instance) name)
   IsSoundItem (NewResource resource destructor) m = HasCodeIfAny m.shadow (option_map (place_at m.core_functions) destructor) takes_one
   IsSoundItem (Lifts func os ty) m = LiftingFits m.shadow (lifting_of m func os ty)
-  IsSoundItem (Lowers func os ty) m = (called : Target) × (slice_get m.functions func ≡ Some (Some called)) × LoweringFits m.shadow ty (options_in m os)
+  IsSoundItem (Lowers func os ty) m = (called : Target) × (slice_get m.functions func ≡ Some (Some called)) × LoweringFits m.shadow ty (type_of called) (options_in m os)
   IsSoundItem (MakesResource resource) m = Unit {0}
   IsSoundItem (DropsResource resource) m = Unit {0}
   IsSoundItem (ReadsResource resource) m = Unit {0}

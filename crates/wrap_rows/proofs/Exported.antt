@@ -1,8 +1,8 @@
 -- What the component exports, by computation.
-use Rattle.std.proofs.Common.{◌≡◌, cond, Bool, true, false, Option, Some, None, refl, sym, subst}
+use Rattle.std.proofs.Common.{◌≡◌, cond, [], Bool, true, false, Option, Some, None, refl, sym, ap, subst}
 use Rattle.std.specs.Prelude.{codes}
 use Rattle.std.proofs.lemmas.Bool.{false≢true}
-use Rattle.wit_types.specs.Plain.{BoolType}
+use Rattle.wit_types.specs.Plain.{PlainFunc, BoolType, OwnType, BorrowType, End as NoParts, More as Part}
 use Rattle.comp_types.specs.Items.{Item, Entries, InstanceItem, KindItem, ValueKind, End, More, same_name, look_up}
 use Rattle.comp_types.specs.Added.{type_of}
 use Rattle.comp_link.specs.Linking.{GivenType, Nothing, Giving, find, instance_in, linked}
@@ -17,7 +17,7 @@ entries_of o = End
 
 -- the function f of the instance
 instance_has : Has (instance_in (find (codes "i") (linked constant).exports)) (entries_of (look_up (codes "i") (type_of constant).exports))
-instance_has = has_exports (instance_in (find (codes "i") (linked constant).exports)) (entries_of (look_up (codes "i") (type_of constant).exports)) (refl, tt, tt)
+instance_has = has_exports (instance_in (find (codes "i") (linked constant).exports)) (entries_of (look_up (codes "i") (type_of constant).exports)) (refl, refl, tt)
 
 first_has : Has (Giving (codes "g") GivenType (Giving (codes "f") GivenType Nothing)) (More (codes "g") (KindItem (ValueKind BoolType)) End)
 first_has name item is = at_test (same_name (codes "g") name) is
@@ -28,8 +28,10 @@ first_has name item is = at_test (same_name (codes "g") name) is
 
 pub exports_examples : ExportsExamples
 exports_examples = record {
-  item_by_item = (refl, tt, (refl, refl, (refl, instance_has, (refl, refl, tt))));
+  item_by_item = (refl, refl, (refl, refl, (refl, instance_has, (refl, refl, tt))));
   of_the_instance = first_has;
+  of_the_type = refl;
+  of_another_type = λ h. absurd (let q : Part [] (OwnType 0) NoParts ≡ Part [] (BorrowType 0) NoParts = ap (λ (ty : PlainFunc). ty.params) h in cc);
   no_instance = λ h. h;
   no_resource = λ h. false≢true (sym h);
   one_more = λ h. h;

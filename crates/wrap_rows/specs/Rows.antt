@@ -3,11 +3,12 @@ use Rattle.std.specs.Prelude.{ℕ, suc, ◌≡◌, List, [], ◌∷◌, pos, cod
 use Rattle.wit_types.specs.PlainValue.{IntValue, End as NoValues}
 use Rattle.host_port.specs.Calls.{PlainObservation, Called, Dropped, Returned, Spent, Trapped, Gives}
 use Rattle.host_port.specs.Hosts.{HostStep}
-use Rattle.wit_types.specs.Plain.{BoolType}
-use Rattle.comp_types.specs.Items.{InstanceItem, KindItem, ResourceKind, ValueKind, End, More}
+use Rattle.wit_types.specs.Plain.{Name, Plain, PlainFunc, BoolType, OwnType, BorrowType, End as NoParts, More as Part}
+use Rattle.comp_types.specs.Items.{FuncItem, InstanceItem, KindItem, ResourceKind, ValueKind, End, More}
 use Rattle.comp_grammar.specs.Trees.{Tree}
 use Rattle.comp_types.specs.Added.{type_of}
-use Rattle.comp_link.specs.Linking.{GivenInstance, GivenType, Nothing, Giving, linked}
+use Rattle.comp_link.specs.Linking.{GivenFunc, GivenInstance, GivenType, Nothing, Giving, linked}
+use Rattle.comp_worlds.specs.Groups.{Target, Theirs}
 use Rattle.comp_worlds.specs.Observed.{Call}
 use Rattle.comp_link.specs.Components.{component_obs}
 use Rattle.comp_wraps.specs.Wrapping.{Wraps}
@@ -63,10 +64,20 @@ pub record SilentExamples : Type 0 where
   pub wrapped_no_function : runs silent_wrapped (f ∷ []) 3 ≡ Trapped ∷ []
   pub empty_sections : runs silent_handed (f ∷ []) 3 ≡ Trapped ∷ []
 
+-- a function of one parameter, and where a call of an import of its type leads
+abbrev pub taking : Name → Plain → PlainFunc
+taking name ty = record { params = Part name ty NoParts; answer = None }
+
+abbrev pub imported : Plain → Target
+imported ty = Theirs (record { interface = []; function = codes "f"; ty = taking (codes "x") ty })
+
 -- a function where the type has one, an instance with the items of its type, a resource and another type
 pub record ExportsExamples : Type 0 where
   pub item_by_item : AreExportsOf (type_of constant).exports (linked constant).exports
   pub of_the_instance : IsOf (GivenInstance (Giving (codes "g") GivenType (Giving (codes "f") GivenType Nothing))) (InstanceItem (More (codes "g") (KindItem (ValueKind BoolType)) End))
+  -- whatever the name of its parameter and the number of its resource are
+  pub of_the_type : IsOf (GivenFunc (imported (OwnType 3))) (FuncItem (taking (codes "y") (OwnType 5)))
+  pub of_another_type : IsOf (GivenFunc (imported (OwnType 3))) (FuncItem (taking (codes "x") (BorrowType 3))) → ⊥
   pub no_instance : IsOf GivenType (InstanceItem End) → ⊥
   pub no_resource : IsOf GivenType (KindItem (ResourceKind 0)) → ⊥
   pub one_more : AreExportsOf End (Giving (codes "f") GivenType Nothing) → ⊥
