@@ -1,6 +1,7 @@
 #![tactic(auto, using(crate::proofs::Plans::plans, crate::proofs::Faults::faults))]
 
-ghost use Rattle.std.specs.Prelude.{◌≡◌, IfOk, Some, None, false, true};
+ghost use Rattle.std.specs.Prelude.{◌≡◌, IfOk, OnOk, Some, None, false, true};
+ghost use Rattle.std.specs.List.{All};
 ghost use Rattle.wit_types.specs.Plain.{plain};
 ghost use Rattle.wit_types.specs.HasType.{HasType};
 ghost use Rattle.abi_load.specs.Lifted.{words};
@@ -10,7 +11,7 @@ ghost use Rattle.comp_worlds.specs.Hosts.{passed_by};
 ghost use Rattle.comp_worlds.specs.Locals.{lifts, adds_handles};
 ghost use Rattle.comp_worlds.specs.Passing.{blank, handles_of, most_params, most_results};
 ghost use Rattle.instance_handles.specs.Owning.{plain_for};
-ghost use Rattle.instance_handles.specs.Loans.{indexes_of, AreLent};
+ghost use Rattle.instance_handles.specs.Loans.{indexes_of, IsLentAs, AreLent};
 ghost use Rattle.instance_state.specs.Shown.{config_of};
 ghost use Rattle.instance_values.specs.Passed.{options_of, needs_memory, IsInStore, params_plan, result_plan};
 ghost use Rattle.call_frames.specs.Stores.{Lifts, Stores, without_loans};
@@ -44,6 +45,7 @@ pub fn lift_in(
     ensures lifts { Lifts (needs_memory passed.now.most (plain passed.now.ty) ≡ true → IsInStore options.memory instance.old.code.store) (plain passed.now.ty) (lifts passed.now.most (plain passed.now.ty) (options_of options) (words flat.now) (config_of instance.old)) (config_of instance.new) (indexes_of loans.old.items) (indexes_of loans.new.items) result }
     ensures typed { IfOk result (λ value. HasType value passed.now.ty) }
     ensures code { instance.new.code ≡ instance.old.code }
+    ensures lent { OnOk result (All (IsLentAs instance.old.handles) loans.old.items → All (IsLentAs instance.new.handles) loans.new.items) }
 {
     if !has_memory_for(&instance.code, options, passed) {
         return Err(Stop::Trapped);

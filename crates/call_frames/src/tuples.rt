@@ -1,9 +1,9 @@
-#![tactic(auto, using(wit_types::proofs::ValueLemmas::values))]
+#![tactic(auto, using(wit_types::proofs::ValueLemmas::values, crate::proofs::Firsts::firsts))]
 
-ghost use Rattle.std.specs.Prelude.{◌≡◌, IfOk};
-ghost use Rattle.wit_types.specs.PlainValue.{plain_value, plain_values};
+ghost use Rattle.std.specs.Prelude.{◌≡◌, IfOk, pos};
+ghost use Rattle.wit_types.specs.PlainValue.{plain_value, plain_values, values_of as row_of, byte_values, IntValue};
 ghost use Rattle.host_port.specs.Calls.{plain_option};
-ghost use Rattle.comp_worlds.specs.Passing.{in_tuple as tuple_of, values_in as values_of};
+ghost use Rattle.comp_worlds.specs.Passing.{in_tuple as tuple_of, values_in as values_of, first_in as first_of, out_of_tuple as value_of};
 
 use std::alloc::Global;
 use virt_base::NoMemory;
@@ -32,18 +32,41 @@ pub fn in_tuple(alloc: Global, value: Option<Value>) -> Result<Value, NoMemory>
     Ok(Value::Record(Values::Each(values)))
 }
 
-fn first_in(values: Values) -> Option<Value> {
+fn first_of_row(mut values: Vec<Value>) -> Option<Value>
+    ensures { plain_option result ≡ first_of (row_of values.items) }
+{
+    if values.is_empty() {
+        return None;
+    }
+    Some(values.swap_remove(0))
+}
+
+/// A byte as an integer.
+fn byte_value(byte: u8) -> Value
+    ensures { plain_value result ≡ IntValue (pos byte) }
+{
+    Value::Int(i128::from(byte))
+}
+
+fn first_of_bytes(bytes: &[u8]) -> Option<Value>
+    ensures { plain_option result ≡ first_of (byte_values bytes.now) }
+{
+    Some(byte_value(*bytes.first()?))
+}
+
+fn first_in(values: Values) -> Option<Value>
+    ensures { plain_option result ≡ first_of (plain_values values) }
+{
     match values {
-        Values::Each(values) => values.into_iter().next(),
-        Values::Bytes(bytes) => match bytes.as_slice().first() {
-            None => None,
-            Some(byte) => Some(Value::Int(*byte as i128)),
-        },
+        Values::Each(values) => first_of_row(values),
+        Values::Bytes(bytes) => first_of_bytes(bytes.as_slice()),
     }
 }
 
 /// The first value of a tuple, if it has one.
-pub fn out_of_tuple(value: Value) -> Option<Value> {
+pub fn out_of_tuple(value: Value) -> Option<Value>
+    ensures { plain_option result ≡ value_of (plain_value value) }
+{
     match value {
         Value::Record(values) => first_in(values),
         Value::Bool(_) | Value::Int(_) | Value::Char(_) => None,
