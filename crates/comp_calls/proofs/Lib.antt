@@ -1,11 +1,6 @@
 pub mod Working
-pub mod Instances
-pub mod Following
-pub mod Resuming
-pub mod Leaving
-pub mod FlatCounts
-pub mod Planned
-pub mod Awaits
-pub mod Insides
-pub mod Serves
-pub mod Asking
+pub mod Lifting
+pub mod Begun
+pub mod Hosts
+pub mod Visiting
+pub mod Popped

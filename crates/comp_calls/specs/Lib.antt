@@ -1,6 +1,3 @@
 pub mod Work
 pub mod Resources
-pub mod Fits
-pub mod Waiting
-pub mod Leads
-pub mod Functions
+pub mod Moments

@@ -1,10 +1,20 @@
 #![tactic(auto, using(crate::proofs::Working::works))]
 
-ghost use Rattle.std.specs.Prelude.{◌≡◌, ◌≤◌, ◌<◌, ◌+◌, OnOk};
-ghost use Rattle.wit_types.specs.PlainValue.{plain_value};
+ghost use Rattle.std.specs.Prelude.{◌≡◌, ◌≤◌, ◌<◌, ◌+◌, OnOk, option_map};
+ghost use Rattle.std.specs.Option.{option_and_then};
+ghost use Rattle.wit_types.specs.PlainValue.{plain_value, plain_values};
+ghost use Rattle.host_port.specs.Calls.{plain_option};
 ghost use Rattle.host_port.specs.Hosts.{answer_of, reacts};
 ghost use Rattle.call_frames.specs.Asking.{called, Asks, WithMemory};
+ghost use Rattle.comp_worlds.specs.Groups.{LoweredFunc};
+ghost use Rattle.comp_worlds.specs.Passing.{out_of_tuple as value_of};
+ghost use Rattle.instance_values.specs.Passed.{options_of};
+ghost use Rattle.instance_values.specs.Targets.{target_of};
+ghost use Rattle.call_laws.specs.Shown.{depth_of};
 ghost use Rattle.comp_calls.specs.Work.{work};
+ghost use Rattle.comp_calls.specs.Moments.{at};
+ghost use Rattle.call_moments.specs.Canonical.{AsksHost, Performs, AnswersCode};
+ghost use Rattle.call_moments.specs.Outside.{RunsCall};
 
 use crate::world::World;
 use call_frames::{
@@ -15,6 +25,13 @@ use host_port::{Answer, Host};
 use instance_values::{CallOptions, Canon, Import, Target};
 use std::alloc::Global;
 use wit_types::{Value, Values};
+
+/// The value of a tuple, where one came.
+fn answer_in(tuple: Option<Value>) -> Option<Value>
+    ensures { plain_option result ≡ option_and_then value_of (option_map plain_value tuple) }
+{
+    out_of_tuple(tuple?)
+}
 
 impl<H: Host> World<H> {
     /// Core code of an instance asks for a canonical call, where so many calls are in progress.
@@ -27,6 +44,7 @@ impl<H: Host> World<H> {
         args: CoreValues,
     ) -> Result<Flow, Stop>
         ensures less { OnOk result (work self.new.budget self.new.frames.items < work self.old.budget self.old.frames.items) }
+        ensures leads { AnswersCode H.step (at H.kept self.old) number asked calls args result (at H.kept self.new) }
     {
         let depth = self.begin_call(calls)?;
         match self.group.canon(number, asked)? {
@@ -53,6 +71,7 @@ impl<H: Host> World<H> {
         args: &CoreValues,
     ) -> Result<Flow, Stop>
         ensures less { OnOk result (work self.new.budget self.new.frames.items ≤ work self.old.budget self.old.frames.items) }
+        ensures leads { Performs H.step (at H.kept self.old) number (depth_of depth) (LoweredFunc (target_of target) (options_of options)) args.now result (at H.kept self.new) }
     {
         let Some(instance) = self.instances.get_mut(number as usize) else {
             return Err(Stop::Trapped);
@@ -100,6 +119,7 @@ impl<H: Host> World<H> {
     fn ask_host(&mut self, alloc: Global, import: &Import, args: Value) -> Result<Value, Stop>
         ensures answer { Asks (answer_of H.step (H.kept self.old.host) (called import.now (plain_value args))) result }
         ensures next { WithMemory result (H.kept self.new.host ≡ reacts H.step (H.kept self.old.host) (called import.now (plain_value args))) }
+        ensures asks { AsksHost H.step (at H.kept self.old) import.now (plain_value args) result (at H.kept self.new) }
         ensures work { OnOk result (work self.new.budget self.new.frames.items ≡ work self.old.budget self.old.frames.items) }
     {
         let call = host_call(alloc, import, args)?;
@@ -117,7 +137,9 @@ impl<H: Host> World<H> {
         alloc: Global,
         target: Target,
         args: Values,
-    ) -> Result<Option<Value>, Stop> {
+    ) -> Result<Option<Value>, Stop>
+        ensures comes { RunsCall H.step (at H.kept self.old) (target_of target) (plain_values args) result (at H.kept self.new) }
+    {
         let args = Value::Record(args);
         match target {
             Target::Theirs(import) => {
@@ -127,8 +149,8 @@ impl<H: Host> World<H> {
             Target::Mine { instance, lifting } => {
                 let depth = Depth::none();
                 match self.call_lifted(alloc, instance, lifting, Caller::Outside, depth, args)? {
-                    Flow::Done(value) => Ok(value.and_then(out_of_tuple)),
-                    Flow::Goes => Ok(self.go_on(alloc)?.and_then(out_of_tuple)),
+                    Flow::Done(value) => Ok(answer_in(value)),
+                    Flow::Goes => Ok(answer_in(self.go_on(alloc)?)),
                 }
             }
         }

@@ -2,8 +2,9 @@
 
 ghost use Rattle.std.specs.Prelude.{◌≡◌, ◌≤◌, ◌<◌, ◌+◌, OnOk};
 ghost use Rattle.comp_calls.specs.Work.{work, weight_behind};
-ghost use Rattle.comp_calls.specs.Leads.{at};
-ghost use Rattle.comp_calls.specs.Functions.{AsksFor, IsStored};
+ghost use Rattle.comp_calls.specs.Moments.{at};
+ghost use Rattle.wit_types.specs.PlainValue.{plain_value};
+ghost use Rattle.call_moments.specs.Functions.{AsksFor, IsStored, ParamsLead, ResultLeads, Stores, IsGranted};
 
 use crate::world::World;
 use abi_store::StoreStep;
@@ -25,6 +26,7 @@ impl<H: Host> World<H> {
         value: Value,
     ) -> Result<Flow, Stop>
         ensures less { OnOk result (work self.new.budget self.new.frames.items ≤ work self.old.budget self.old.frames.items + 1) }
+        ensures leads { ParamsLead H.step (at H.kept self.old) service (plain_value value) result (at H.kept self.new) }
     {
         let number = service.instance;
         let Some(instance) = self.instances.get_mut(number as usize) else {
@@ -63,6 +65,7 @@ impl<H: Host> World<H> {
         value: Value,
     ) -> Result<Flow, Stop>
         ensures less { OnOk result (work self.new.budget self.new.frames.items ≤ work self.old.budget self.old.frames.items) }
+        ensures leads { ResultLeads H.step (at H.kept self.old) number call due depth (plain_value value) result (at H.kept self.new) }
     {
         let Some(instance) = self.instances.get_mut(number as usize) else {
             return Err(Stop::Trapped);
@@ -92,6 +95,7 @@ impl<H: Host> World<H> {
     /// Storing goes on, with the answer to the last request.
     fn store(&mut self, alloc: Global, storing: Storing, answer: Option<u32>) -> Result<Flow, Stop>
         ensures less { OnOk result (work self.new.budget self.new.frames.items ≤ work self.old.budget self.old.frames.items + weight_behind storing.then) }
+        ensures leads { Stores H.step (at H.kept self.old) storing answer result (at H.kept self.new) }
     {
         let Storing {
             instance: number,
@@ -174,6 +178,7 @@ impl<H: Host> World<H> {
         results: &CoreValues,
     ) -> Result<Flow, Stop>
         ensures less { OnOk result (work self.new.budget self.new.frames.items ≤ work self.old.budget self.old.frames.items + 1) }
+        ensures leads { IsGranted H.step (at H.kept self.old) storing results.now result (at H.kept self.new) }
     {
         let place = only_word(results).ok_or(Stop::Trapped)?;
         self.store(alloc, storing, Some(place))

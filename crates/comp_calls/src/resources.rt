@@ -2,9 +2,12 @@
 
 ghost use Rattle.std.specs.Prelude.{◌≡◌, ◌≤◌, ◌<◌, ◌+◌, nat_eq, OnOk};
 ghost use Rattle.indexmap.specs.IndexMap.{get};
+ghost use Rattle.comp_worlds.specs.Groups.{Nesting, ResourceNew, ResourceRep, ResourceDrop};
+ghost use Rattle.call_laws.specs.Shown.{depth_of};
 ghost use Rattle.comp_calls.specs.Work.{work};
-ghost use Rattle.comp_calls.specs.Leads.{at};
-ghost use Rattle.comp_calls.specs.Functions.{HasDestroyed};
+ghost use Rattle.comp_calls.specs.Moments.{at};
+ghost use Rattle.call_moments.specs.Functions.{HasDestroyed};
+ghost use Rattle.call_moments.specs.Canonical.{Performs, DropsAtHost, Destroys};
 ghost use Rattle.comp_calls.specs.Resources.{IsDropped, destroying};
 
 use crate::world::World;
@@ -25,6 +28,7 @@ impl<H: Host> World<H> {
         args: &CoreValues,
     ) -> Result<Flow, Stop>
         ensures work { OnOk result (work self.new.budget self.new.frames.items ≡ work self.old.budget self.old.frames.items) }
+        ensures leads { (e : Nesting) → Performs H.step (at H.kept self.old) number e (ResourceNew resource) args.now result (at H.kept self.new) }
     {
         let owns = self.group.owners.owns(number, resource);
         let rep = only_word(args).ok_or(Stop::Trapped)?;
@@ -44,6 +48,7 @@ impl<H: Host> World<H> {
         args: &CoreValues,
     ) -> Result<Flow, Stop>
         ensures work { OnOk result (work self.new.budget self.new.frames.items ≡ work self.old.budget self.old.frames.items) }
+        ensures leads { (e : Nesting) → Performs H.step (at H.kept self.old) number e (ResourceRep resource) args.now result (at H.kept self.new) }
     {
         let owns = self.group.owners.owns(number, resource);
         let index = only_word(args).ok_or(Stop::Trapped)?;
@@ -64,6 +69,7 @@ impl<H: Host> World<H> {
         args: &CoreValues,
     ) -> Result<Flow, Stop>
         ensures less { OnOk result (work self.new.budget self.new.frames.items ≤ work self.old.budget self.old.frames.items) }
+        ensures leads { Performs H.step (at H.kept self.old) number (depth_of depth) (ResourceDrop resource) args.now result (at H.kept self.new) }
     {
         let index = only_word(args).ok_or(Stop::Trapped)?;
         let Some(instance) = self.instances.get_mut(number as usize) else {
@@ -79,6 +85,7 @@ impl<H: Host> World<H> {
     }
 
     fn drop_at_host(&mut self, alloc: Global, resource: u32, rep: u32) -> Result<Flow, Stop>
+        ensures leads { DropsAtHost H.step (at H.kept self.old) resource rep result (at H.kept self.new) }
         ensures dropped { OnOk result (IsDropped H.step (H.kept self.old.host) (get nat_eq self.old.group.imported resource) rep (H.kept self.new.host)) }
         ensures work { OnOk result (work self.new.budget self.new.frames.items ≡ work self.old.budget self.old.frames.items) }
     {
@@ -98,6 +105,7 @@ impl<H: Host> World<H> {
         owner: Owner,
         rep: u32,
     ) -> Result<Flow, Stop>
+        ensures leads { Destroys H.step (at H.kept self.old) number depth owner rep result (at H.kept self.new) }
         ensures runs { OnOk result (self.new.frames.items ≡ destroying owner.destructor number owner.instance self.old.frames.items) }
         ensures less { OnOk result (work self.new.budget self.new.frames.items ≤ work self.old.budget self.old.frames.items) }
     {

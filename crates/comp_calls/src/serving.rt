@@ -1,9 +1,12 @@
 #![tactic(auto, using(crate::proofs::Working::works))]
 
 ghost use Rattle.std.specs.Prelude.{◌≡◌, ◌≤◌, ◌<◌, ◌+◌, OnOk};
+ghost use Rattle.wit_types.specs.PlainValue.{plain_value};
+ghost use Rattle.instance_values.specs.Targets.{lifting_of};
 ghost use Rattle.comp_calls.specs.Work.{work};
-ghost use Rattle.comp_calls.specs.Leads.{at};
-ghost use Rattle.comp_calls.specs.Functions.{GoesBack, HasReturned, IsLeft, PostReturns, Serving};
+ghost use Rattle.comp_calls.specs.Moments.{at};
+ghost use Rattle.call_moments.specs.Functions.{GoesBack, HasReturned, IsLeft, PostReturns, Serving, HasServed, CallsLifted};
+ghost use Rattle.call_moments.specs.Canonical.{LiftsResult};
 
 use crate::world::World;
 use call_frames::{Back, Caller, Depth, Due, Flow, Purpose, Served, Service, Stop, lift_in};
@@ -26,6 +29,7 @@ impl<H: Host> World<H> {
         value: Value,
     ) -> Result<Flow, Stop>
         ensures less { OnOk result (work self.new.budget self.new.frames.items < work self.old.budget self.old.frames.items) }
+        ensures leads { CallsLifted H.step (at H.kept self.old) number (lifting_of lifting.value) caller depth (plain_value value) result (at H.kept self.new) }
     {
         let depth = self.begin_call(depth.calls)?;
         self.enter(number)?;
@@ -61,6 +65,7 @@ impl<H: Host> World<H> {
         results: CoreValues,
     ) -> Result<Flow, Stop>
         ensures less { OnOk result (work self.new.budget self.new.frames.items ≤ work self.old.budget self.old.frames.items) }
+        ensures leads { HasServed H.step (at H.kept self.old) service results result (at H.kept self.new) }
     {
         let Service {
             instance: number,
@@ -93,6 +98,7 @@ impl<H: Host> World<H> {
         results: &CoreValues,
     ) -> Result<Value, Stop>
         ensures work { OnOk result (work self.new.budget self.new.frames.items ≡ work self.old.budget self.old.frames.items) }
+        ensures lifts { LiftsResult H.step (at H.kept self.old) number (lifting_of lifting.now) results.now result (at H.kept self.new) }
     {
         let Some(instance) = self.instances.get_mut(number as usize) else {
             return Err(Stop::Trapped);

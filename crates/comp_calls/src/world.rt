@@ -4,8 +4,10 @@ ghost use Rattle.std.specs.Prelude.{◌≡◌, ◌≤◌, ◌<◌, ◌+◌, ◌+
 ghost use Rattle.call_frames.specs.Steps.{TakesStep, BeginsCall};
 ghost use Rattle.comp_worlds.specs.Locals.{enter as opens_call, exit as closes_call};
 ghost use Rattle.comp_calls.specs.Work.{work, weight};
-ghost use Rattle.comp_calls.specs.Leads.{at};
-ghost use Rattle.comp_calls.specs.Functions.{IsInnermost, Does, Resumes, CodeBegins};
+ghost use Rattle.comp_calls.specs.Moments.{at};
+ghost use Rattle.call_moments.specs.Functions.{IsInnermost, Does, Resumes, CodeBegins};
+ghost use Rattle.call_moments.specs.Canonical.{EndsCode, GoesToPause, GoesToEnd};
+ghost use Rattle.call_moments.specs.Outside.{RunsStart};
 
 use call_frames::{Depth, Flow, Frame, Group, Purpose, Stop};
 use core_interp::Pause;
@@ -33,7 +35,9 @@ impl<H: Host> World<H> {
     /// Nothing is made yet.
     pub fn new(alloc: Global, host: H, budget: u64) -> World<H>
         ensures budget { result.budget ≡ budget }
+        ensures host { result.host ≡ host }
         ensures none { result.instances.items ≡ [] }
+        ensures frames { result.frames.items ≡ [] }
     {
         World {
             host,
@@ -64,13 +68,15 @@ impl<H: Host> World<H> {
     }
 
     /// A start function runs in its instance, to its end.
-    pub fn start(&mut self, alloc: Global, number: u32, function: u32) -> Result<(), Stop> {
-        let none = Items::empty(alloc);
+    pub fn start(&mut self, alloc: Global, number: u32, function: u32) -> Result<(), Stop>
+        ensures comes { RunsStart H.step (at H.kept self.old) number function result (at H.kept self.new) }
+    {
+        let no_args = Items::empty(alloc);
         self.begin_code(
             alloc,
             number,
             function,
-            &none,
+            &no_args,
             Depth::none(),
             Purpose::Starts,
         )?;
@@ -119,7 +125,9 @@ impl<H: Host> World<H> {
     }
 
     /// Core code goes on until all that was begun from outside is done.
-    pub(crate) fn go_on(&mut self, alloc: Global) -> Result<Option<Value>, Stop> {
+    pub(crate) fn go_on(&mut self, alloc: Global) -> Result<Option<Value>, Stop>
+        ensures ends { GoesToEnd H.step (at H.kept self.old) result (at H.kept self.new) }
+    {
         'pauses: loop {
             if let Flow::Done(value) = self.go_to_pause(alloc)? {
                 return Ok(value);
@@ -139,6 +147,7 @@ impl<H: Host> World<H> {
 
     fn go_to_pause(&mut self, alloc: Global) -> Result<Flow, Stop>
         ensures less { OnOk result (work self.new.budget self.new.frames.items < work self.old.budget self.old.frames.items) }
+        ensures leads { GoesToPause H.step (at H.kept self.old) result (at H.kept self.new) }
     {
         let number = self.innermost()?;
         let Some(instance) = self.instances.get_mut(number as usize) else {
@@ -158,6 +167,7 @@ impl<H: Host> World<H> {
 
     fn end_code(&mut self, alloc: Global, results: CoreValues) -> Result<Flow, Stop>
         ensures less { OnOk result (work self.new.budget self.new.frames.items < work self.old.budget self.old.frames.items) }
+        ensures leads { EndsCode H.step (at H.kept self.old) results result (at H.kept self.new) }
     {
         let Some(frame) = self.frames.pop() else {
             return Err(Stop::Trapped);

@@ -1,13 +1,14 @@
-use Rattle.std.proofs.Common.{◌≡◌, length, Some, Ok, Err, refl}
-use Rattle.std.specs.Prelude.{Result, IsErrAnd, slice_get}
+use Rattle.std.proofs.Common.{◌≡◌, length, Some, refl}
+use Rattle.std.specs.Prelude.{slice_get}
 use Rattle.std.proofs.lemmas.Option.{slice_get_read}
 use Rattle.comp_worlds.specs.Acts.{◌>>◌}
 use Rattle.call_frames.specs.Stops.{stop_of_store}
 use Rattle.call_laws.specs.Shown.{depth_of, purpose_of}
-use Rattle.comp_calls.specs.Leads.{at, so_far}
-use Rattle.comp_calls.specs.Functions.{run, behind}
-use Rattle.comp_calls.proofs.Following.{with_instance}
-use Rattle.comp_calls.proofs.Resuming.{begin_leads, begin_fails, fails_on}
+use Rattle.call_moments.specs.Leads.{so_far}
+use Rattle.comp_calls.specs.Moments.{at}
+use Rattle.call_moments.specs.Functions.{run, behind}
+use Rattle.call_moments.proofs.Following.{with_instance}
+use Rattle.call_moments.proofs.Resuming.{begin_leads, begin_fails, fails_on}
 use Rattle.comp_calls.proofs.world.World.begin_code.Goals as goal
 
 pub returns-in_err-begin-clause-leads : goal.returns-in_err-begin-clause-leads

@@ -1,8 +1,8 @@
 use Rattle.std.proofs.Common.{ap, sym, subst}
 use Rattle.comp_worlds.specs.Locals.{exit}
-use Rattle.comp_calls.specs.Leads.{at}
-use Rattle.comp_calls.specs.Functions.{IsChanged}
-use Rattle.comp_calls.proofs.Leaving.{exit_goes, own_leads, other_leads}
+use Rattle.comp_calls.specs.Moments.{at}
+use Rattle.call_moments.specs.Functions.{IsChanged}
+use Rattle.call_moments.proofs.Leaving.{exit_goes, own_leads, other_leads}
 use Rattle.comp_calls.proofs.world.World.destroyed.Goals as goal
 use Rattle.comp_calls.proofs.world.World.destroyed.Goals.{in-Own, in-Other+in_ok-exit-in-Other}
 

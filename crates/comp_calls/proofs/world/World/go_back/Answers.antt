@@ -1,5 +1,5 @@
-use Rattle.comp_calls.specs.Leads.{at}
-use Rattle.comp_calls.proofs.Leaving.{outside_leads}
+use Rattle.comp_calls.specs.Moments.{at}
+use Rattle.call_moments.proofs.Leaving.{outside_leads}
 use Rattle.comp_calls.proofs.world.World.go_back.Goals as goal
 
 pub returns-in-Outside-clause-leads : goal.returns-in-Outside-clause-leads

@@ -1,6 +1,6 @@
 use Rattle.std.proofs.Common.{ap, sym, ◌∙◌}
-use Rattle.comp_calls.specs.Leads.{at}
-use Rattle.comp_calls.proofs.Serves.{host_leads, quiet_leads, post_leads_on, left_there}
+use Rattle.comp_calls.specs.Moments.{at}
+use Rattle.call_moments.proofs.Serves.{host_leads, quiet_leads, post_leads_on, left_there}
 use Rattle.comp_calls.proofs.world.World.leave.Goals as goal
 
 pub returns-in_err-exit-in-None-clause-leads : goal.returns-in_err-exit-in-None-clause-leads

@@ -2,9 +2,9 @@ use Rattle.std.proofs.Common.{◌≡◌, ◌≤◌, ap, length, Some, Ok, refl, 
 use Rattle.std.specs.Prelude.{slice_get}
 use Rattle.std.proofs.lemmas.Option.{slice_get_read}
 use Rattle.call_frames.specs.declared.frames.Flow.TheVariants as flows
-use Rattle.comp_calls.specs.Leads.{at}
-use Rattle.comp_calls.proofs.Following.{with_instance}
-use Rattle.comp_calls.proofs.Serves.{ends_as, post_leads, post_fails, post_there}
+use Rattle.comp_calls.specs.Moments.{at}
+use Rattle.call_moments.proofs.Following.{with_instance}
+use Rattle.call_moments.proofs.Serves.{ends_as, post_leads, post_fails, post_there}
 use Rattle.comp_calls.proofs.world.World.post_return.Goals as goal
 
 pub returns-in_err-depth-clause-leads : goal.returns-in_err-depth-clause-leads

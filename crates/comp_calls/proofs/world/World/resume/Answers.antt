@@ -1,16 +1,16 @@
-use Rattle.std.proofs.Common.{◌≡◌, length, Some, refl}
+use Rattle.std.proofs.Common.{◌≡◌, [], length, Some, refl}
 use Rattle.std.specs.Prelude.{slice_get}
 use Rattle.std.proofs.lemmas.Option.{slice_get_read}
-use Rattle.comp_calls.specs.Leads.{at}
-use Rattle.comp_calls.proofs.Insides.{has_frames, has_instance, gets_results}
-use Rattle.comp_calls.proofs.Resuming.{resume_leads}
+use Rattle.comp_calls.specs.Moments.{at}
+use Rattle.call_moments.proofs.Insides.{has_frames, has_instance, gets_results}
+use Rattle.call_moments.proofs.Resuming.{resume_leads}
 use Rattle.comp_calls.proofs.world.World.resume.Goals as goal
 
 pub returns-in_err-number-clause-leads : goal.returns-in_err-number-clause-leads
-returns-in_err-number-clause-leads g c = λ G waiting w. absurd (has_frames g.H.Host.step G (at g.H.Host.kept c.args.self.now) waiting (length c.args.results.now) w c.in_err-number.field-0.0 c.in_err-number.ensures)
+returns-in_err-number-clause-leads g c = λ G waiting w. absurd (has_frames g.H.Host.step G (at g.H.Host.kept c.args.self.now) waiting (length c.args.results.now) [] w c.in_err-number.field-0.0 c.in_err-number.ensures)
 
 pub returns-in_default-clause-leads : goal.returns-in_default-clause-leads
-returns-in_default-clause-leads g c = λ G waiting w. absurd (has_instance g.H.Host.step G (at g.H.Host.kept c.args.self.now) waiting (length c.args.results.now) w c.in_ok-number.number c.in_ok-number.ensures c.in_default.ensures.item.3)
+returns-in_default-clause-leads g c = λ G waiting w. absurd (has_instance g.H.Host.step G (at g.H.Host.kept c.args.self.now) waiting (length c.args.results.now) [] w c.in_ok-number.number c.in_ok-number.ensures c.in_default.ensures.item.3)
 
 pub returns-in_err-resume-clause-leads : goal.returns-in_err-resume-clause-leads
 returns-in_err-resume-clause-leads g c = λ G waiting w.

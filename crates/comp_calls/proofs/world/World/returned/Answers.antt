@@ -1,8 +1,8 @@
 use Rattle.std.proofs.Common.{◌≡◌, length, Some, refl}
 use Rattle.std.specs.Prelude.{slice_get}
 use Rattle.std.proofs.lemmas.Option.{slice_get_read}
-use Rattle.comp_calls.specs.Leads.{at}
-use Rattle.comp_calls.proofs.Leaving.{returned_leads}
+use Rattle.comp_calls.specs.Moments.{at}
+use Rattle.call_moments.proofs.Leaving.{returned_leads}
 use Rattle.comp_calls.proofs.world.World.returned.Goals as goal
 
 pub returns-clause-leads : goal.returns-clause-leads

@@ -1,6 +1,6 @@
 use Rattle.std.proofs.Common.{ap}
-use Rattle.comp_calls.specs.Leads.{at}
-use Rattle.comp_calls.proofs.Serves.{serve_goes, serve_ends}
+use Rattle.comp_calls.specs.Moments.{at}
+use Rattle.call_moments.proofs.Serves.{serve_goes, serve_ends}
 use Rattle.comp_calls.proofs.world.World.serve.Goals as goal
 
 pub returns-in_err-begin_code-clause-leads : goal.returns-in_err-begin_code-clause-leads

@@ -1,5 +1,5 @@
-use Rattle.comp_calls.specs.Leads.{at}
-use Rattle.comp_calls.proofs.Serves.{stored_params, stored_result}
+use Rattle.comp_calls.specs.Moments.{at}
+use Rattle.call_moments.proofs.Serves.{stored_params, stored_result}
 use Rattle.comp_calls.proofs.world.World.stored.Goals as goal
 
 pub returns-in-Params-clause-leads : goal.returns-in-Params-clause-leads

@@ -1,0 +1,31 @@
+use Rattle.std.proofs.Common.{◌≡◌, length, Some, Err, refl}
+use Rattle.std.specs.Prelude.{slice_get}
+use Rattle.std.proofs.lemmas.Option.{slice_get_read}
+use Rattle.wit_types.specs.PlainValue.{plain_value}
+use Rattle.call_frames.specs.declared.end.Stop.TheVariants as stops
+use Rattle.comp_calls.specs.Moments.{at}
+use Rattle.comp_calls.proofs.Begun.{result_stop, result_go}
+use Rattle.call_moments.proofs.Following.{with_instance}
+use Rattle.call_moments.proofs.Lowered.{result_there}
+use Rattle.comp_calls.proofs.world.World.lower_result.Goals as goal
+
+pub returns-in_default-clause-leads : goal.returns-in_default-clause-leads
+returns-in_default-clause-leads g c = result_there g.H.Host.step (at g.H.Host.kept c.args.self.now) c.args.number c.args.call c.args.due c.args.depth (plain_value c.args.value) c.in_default.ensures.item.3 (Err stops.Trapped) (at g.H.Host.kept c.args.self.now)
+
+pub returns-in_err-plan-clause-leads : goal.returns-in_err-plan-clause-leads
+returns-in_err-plan-clause-leads g c =
+    let old = at g.H.Host.kept c.args.self.now in
+    let k = c.args.number in
+    let i = c.in-Some.instance.now in
+    let found : slice_get old.instances k ≡ Some i = slice_get_read old.instances (length old.instances) k i refl c.in-Some.ensures.item.3.0 c.in-Some.ensures.value in
+    result_stop g.H.Host.step old k c.args.call c.args.due c.args.depth (plain_value c.args.value) i c.begin_result.new.caller found c.ty.result.now c.ty.ensures c.passed-passed.result.now c.passed-passed.ensures c.in_err-plan.field-0.0 c.from_residual.result (with_instance old k c.begin_result.new.caller) refl
+    c.in_err-plan.ensures.lowers c.from_residual.ensures.1
+
+pub returns-clause-leads : goal.returns-clause-leads
+returns-clause-leads g c =
+    let old = at g.H.Host.kept c.args.self.now in
+    let k = c.args.number in
+    let i = c.in-Some.instance.now in
+    let found : slice_get old.instances k ≡ Some i = slice_get_read old.instances (length old.instances) k i refl c.in-Some.ensures.item.3.0 c.in-Some.ensures.value in
+    result_go g.H.Host.step old k c.args.call c.args.due c.args.depth (plain_value c.args.value) i c.begin_result.new.caller found c.ty.result.now c.ty.ensures c.passed-passed.result.now c.passed-passed.ensures c.in_ok-plan.ensures.code c.in_ok-plan.plan c.in_ok-plan.ensures.lowers _
+    c.in_ok-plan.ensures.comes _ (at g.H.Host.kept c.store.new.self) c.store.result c.store.ensures.leads
