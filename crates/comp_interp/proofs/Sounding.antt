@@ -8,7 +8,7 @@ use Rattle.core_validate.specs.Validity.{IsValidModule}
 use Rattle.core_instance.specs.Matching.{HasCounts}
 use Rattle.comp_types.specs.GivenResources.{numbered}
 use Rattle.comp_link.specs.Plans.{NamedArg, Plan, Planned, End, Then, followed, if_some}
-use Rattle.comp_link.specs.Plans.{OfModule, OfCoreItems, CoreItemOf, OfComponent, OfItems, ItemOf, NewResource, Lifts, Lowers, MakesResource, ReadsResource, DropsResource, Imports, Exports}
+use Rattle.comp_link.specs.Plans.{OfModule, OfCoreItems, CoreItemOf, OfComponent, OfItems, ItemOf, NewResource, Lifts, Lowers, MakesResource, ReadsResource, DropsResource, Imports, Exports, plan_of}
 use Rattle.comp_link.specs.Linking.{Making, begun, and_stage, givens_of}
 use Rattle.comp_worlds.specs.Groups.{Begins}
 use Rattle.comp_plans.specs.declared.items.PlanItem.{PlanItem}
@@ -21,6 +21,8 @@ use Rattle.comp_exports.proofs.Spelled.{spelled_define}
 use Rattle.comp_sound.specs.Sound.{IsSoundItem as FitsItem, IsSoundPlan, at_first}
 use Rattle.comp_sound.proofs.Spelled.{spelled_count}
 use Rattle.comp_sound.proofs.Made.{linked_sound}
+use Rattle.comp_knows.specs.Known.{PlanNamesKnown}
+use Rattle.comp_knows.proofs.Known.{names_known}
 use Rattle.comp_interp.specs.declared.part.Part.{Part}
 use Rattle.comp_interp.specs.declared.part.Part.TheVariants.{Whole, Held}
 use Rattle.comp_interp.specs.declared.level.Level.{Level}
@@ -100,22 +102,7 @@ pub module_found : (linked : Linked) (limit : ℕ) (item : PlanItem) (number : �
     → IsValidModule k × HasCounts k
 module_found linked limit item number args k s is e = found (slice_get linked.modules number) k e (subst (IsSoundItem linked limit) is s)
 
--- ---- the whole
-
-pub whole_sound : (linked : Linked) → CanBeMade linked → IsSoundPart linked Whole
-whole_sound linked h = subst (λ cs. HasSoundModules (plan_items linked.modules (and_components linked.modules [] cs) linked.items)) (sym (take-length linked.components)) h
-
--- ---- levels
-
-pub sound_push : (linked : Linked) (levels : List Level) (l : Level) → AreSound linked levels → IsSoundPart linked l.part → AreSound linked (levels ++ l ∷ [])
-sound_push linked [] l h s = (s, tt)
-sound_push linked (k ∷ levels) l h s = (h.0, sound_push linked levels l h.1 s)
-
-pub sound_pop : (linked : Linked) (levels : List Level) (l : Level) → AreSound linked (levels ++ l ∷ []) → AreSound linked levels × IsSoundPart linked l.part
-sound_pop linked [] l h = (tt, h.0)
-sound_pop linked (k ∷ levels) l h = let r = sound_pop linked levels l h.1 in ((h.0, r.0), r.1)
-
--- ---- what linking answers
+-- ---- a plan that is sound
 
 mutual
   item_holds : (item : Planned) (m : Making) → FitsItem item m → HasSoundModule item
@@ -138,6 +125,28 @@ mutual
   plan_holds End m h = tt
   plan_holds (Then item rest) m h = (item_holds item m h.0, plan_holds rest _ h.1)
 
+-- ---- the whole
+
+pub whole_sound : (linked : Linked) → CanBeMade linked → IsSoundPart linked Whole
+whole_sound linked h =
+    subst (λ cs. HasSoundModules (plan_items linked.modules (and_components linked.modules [] cs) linked.items)) (sym (take-length linked.components)) (plan_holds (plan_in linked) (at_first linked.imports) h.sound)
+
+-- ---- levels
+
+pub sound_push : (linked : Linked) (levels : List Level) (l : Level) → AreSound linked levels → IsSoundPart linked l.part → AreSound linked (levels ++ l ∷ [])
+sound_push linked [] l h s = (s, tt)
+sound_push linked (k ∷ levels) l h s = (h.0, sound_push linked levels l h.1 s)
+
+pub sound_pop : (linked : Linked) (levels : List Level) (l : Level) → AreSound linked (levels ++ l ∷ []) → AreSound linked levels × IsSoundPart linked l.part
+sound_pop linked [] l h = (tt, h.0)
+sound_pop linked (k ∷ levels) l h = let r = sound_pop linked levels l h.1 in ((h.0, r.0), r.1)
+
+-- ---- what linking answers
+
 pub linked_can_be_made : LinkedCanBeMade
 linked_can_be_made c bytes linked spelled valid plan imports =
-    plan_holds (plan_in linked) (at_first linked.imports) (linked_sound c linked valid (spelled_define c bytes spelled) (spelled_count c bytes spelled) plan imports)
+    let define = spelled_define c bytes spelled in
+    record {
+      sound = linked_sound c linked valid define (spelled_count c bytes spelled) plan imports;
+      knows = subst (λ p. PlanNamesKnown p (at_first linked.imports)) (sym plan) (subst (λ is. PlanNamesKnown (plan_of c) (at_first is)) (sym imports) (names_known c valid define));
+    }

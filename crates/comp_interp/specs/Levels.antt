@@ -36,4 +36,5 @@ BegunIf linked limit item (Some inner) = Begun linked limit item inner
 pub record Follows (linked : Linked) (old : Level) (item : PlanItem) (new : Level) (inner : Option Level) : Type 0 where
   pub part : new.part ≡ old.part
   pub at : new.at ≡ old.at
+  pub first : new.first ≡ old.first
   pub begun : BegunIf linked (part_limit linked old.part) item inner

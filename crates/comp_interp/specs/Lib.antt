@@ -1,3 +1,13 @@
 pub mod Sound
 pub mod Parts
 pub mod Levels
+pub mod Names
+pub mod Gathered
+pub mod Others
+pub mod Completing
+pub mod Standing
+pub mod Outer
+pub mod Between
+pub mod Going
+pub mod Runs
+pub mod Outcomes

@@ -1,4 +1,5 @@
--- Which plans can be made: each module in them is valid, and has as many bodies and data segments as it counts.
+-- Which linked components can be made: each step of their plan finds what it needs in what was made before it, and names resources that
+-- were brought or defined before.
 use Rattle.std.specs.Prelude.{◌≡◌, ℕ, List, []}
 use Rattle.core_validate.specs.Validity.{IsValidModule}
 use Rattle.core_instance.specs.Matching.{HasCounts}
@@ -9,7 +10,10 @@ use Rattle.comp_types.specs.Validity.{IsValidComponent}
 use Rattle.comp_link.specs.Plans.{Plan, Planned, End, Then, OfModule, OfComponent, plan_of}
 use Rattle.comp_plans.specs.declared.linked.Linked.{Linked}
 use Rattle.comp_plans.specs.Planned.{plan_in}
+use Rattle.comp_sound.specs.Sound.{at_first, IsSound}
+use Rattle.comp_knows.specs.Known.{PlanNamesKnown}
 
+-- each module is valid, and has as many bodies and data segments as it counts
 abbrev mutual
   pub HasSoundModule : Planned → Type 0
   HasSoundModule (OfModule module' args) = IsValidModule module' × HasCounts module'
@@ -20,8 +24,9 @@ abbrev mutual
   HasSoundModules End = Unit {0}
   HasSoundModules (Then item rest) = HasSoundModule item × HasSoundModules rest
 
-abbrev pub CanBeMade : Linked → Type 0
-CanBeMade linked = HasSoundModules (plan_in linked)
+pub record CanBeMade (linked : Linked) : Type 0 where
+  pub sound : IsSound linked
+  pub knows : PlanNamesKnown (plan_in linked) (at_first linked.imports)
 
 -- the law: of a valid component that bytes spell
 abbrev pub LinkedCanBeMade : Type 0

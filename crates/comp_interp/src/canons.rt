@@ -1,3 +1,12 @@
+ghost use Rattle.std.specs.Prelude.{◌≡◌, ◌+◌, List, ℕ, Option, IfOk, IfSome, length, option_map};
+ghost use Rattle.comp_types.specs.Added.{takes_one, takes_and_gives};
+ghost use Rattle.comp_link.specs.Plans.{Lowers, NewResource};
+ghost use Rattle.comp_link.specs.Linking.{Givens, Making as GroupMaking, place_at, with_canon, link_item};
+ghost use Rattle.instance_values.specs.Targets.{func_of};
+ghost use Rattle.instance_making.specs.Shown.{Stands};
+ghost use Rattle.comp_calls.specs.Moments.{at};
+ghost use Rattle.comp_interp.specs.Gathered.{Makes};
+
 use crate::assembly::Assembly;
 use comp_calls::Stop;
 use host_port::Host;
@@ -8,11 +17,9 @@ use std::alloc::Global;
 use virt_base::{CoreType, Items, NoMemory};
 use wasm_ast::{CanonOption, CoreFunc};
 
-fn core_type(
-    alloc: Global,
-    params: &[CoreType],
-    results: &[CoreType],
-) -> Result<CoreFunc, NoMemory> {
+fn core_type(alloc: Global, params: &[CoreType], results: &[CoreType]) -> Result<CoreFunc, NoMemory>
+    ensures { IfOk result (λ ty. ty ≡ record { params = params.now; results = results.now }) }
+{
     Ok(CoreFunc {
         params: Items::new(Vec::from_slice(alloc, params)?),
         results: Items::new(Vec::from_slice(alloc, results)?),
@@ -20,10 +27,22 @@ fn core_type(
 }
 
 /// The number of the next resource; none past the numbers there are.
-fn next_resource(owners: &Owners) -> Option<u32> {
+fn next_resource(owners: &Owners) -> Option<u32>
+    ensures { IfSome result (λ number. number ≡ owners.now.first + length owners.now.items.items) }
+{
     match u32::try_from(owners.items.len()) {
         Ok(count) => owners.first.checked_add(count),
         Err(_) => None,
+    }
+}
+
+/// The place of a destructor.
+fn destructor_at(making: &Making, destructor: Option<u32>) -> Option<u32>
+    ensures { (before : List Givens) (g : GroupMaking) → Stands before making.now g → result ≡ option_map (place_at g.core_functions) destructor }
+{
+    match destructor {
+        None => None,
+        Some(index) => Some(making.core_function(index)),
     }
 }
 
@@ -35,7 +54,9 @@ impl<H: Host> Assembly<H> {
         making: &mut Making,
         ty: CoreFunc,
         canon: Canon,
-    ) -> Result<(), Stop> {
+    ) -> Result<(), Stop>
+        ensures { Makes H.step (λ g. with_canon g ty (func_of canon)) self.old.made.items (at H.kept self.old.world) making.old result self.new.made.items (at H.kept self.new.world) making.new }
+    {
         let number = making.instance as usize;
         let Some(instance) = self.world.instances.get_mut(number) else {
             return Err(Stop::Trapped);
@@ -57,12 +78,16 @@ impl<H: Host> Assembly<H> {
         func: u32,
         options: &[CanonOption],
         ty: &CoreFunc,
-    ) -> Result<(), Stop> {
-        let Some(canon) = making.lowered(func, options)? else {
-            return Ok(());
-        };
-        let ty = core_type(alloc, ty.params.as_slice(), ty.results.as_slice())?;
-        self.provide(alloc, making, ty, canon)
+    ) -> Result<(), Stop>
+        ensures { Makes H.step (λ g. link_item (Lowers func options.now ty.now) g) self.old.made.items (at H.kept self.old.world) making.old result self.new.made.items (at H.kept self.new.world) making.new }
+    {
+        match making.lowered(func, options)? {
+            None => Ok(()),
+            Some(canon) => {
+                let ty = core_type(alloc, ty.params.as_slice(), ty.results.as_slice())?;
+                self.provide(alloc, making, ty, canon)
+            }
+        }
     }
 
     /// `resource.new` or `resource.rep` becomes a core function.
@@ -71,7 +96,9 @@ impl<H: Host> Assembly<H> {
         alloc: Global,
         making: &mut Making,
         canon: Canon,
-    ) -> Result<(), Stop> {
+    ) -> Result<(), Stop>
+        ensures { Makes H.step (λ g. with_canon g takes_and_gives (func_of canon)) self.old.made.items (at H.kept self.old.world) making.old result self.new.made.items (at H.kept self.new.world) making.new }
+    {
         let ty = core_type(alloc, &[CoreType::I32], &[CoreType::I32])?;
         self.provide(alloc, making, ty, canon)
     }
@@ -82,7 +109,9 @@ impl<H: Host> Assembly<H> {
         alloc: Global,
         making: &mut Making,
         canon: Canon,
-    ) -> Result<(), Stop> {
+    ) -> Result<(), Stop>
+        ensures { Makes H.step (λ g. with_canon g takes_one (func_of canon)) self.old.made.items (at H.kept self.old.world) making.old result self.new.made.items (at H.kept self.new.world) making.new }
+    {
         let ty = core_type(alloc, &[CoreType::I32], &[])?;
         self.provide(alloc, making, ty, canon)
     }
@@ -93,15 +122,14 @@ impl<H: Host> Assembly<H> {
         making: &mut Making,
         resource: u32,
         destructor: Option<u32>,
-    ) -> Result<(), Stop> {
+    ) -> Result<(), Stop>
+        ensures { Makes H.step (λ g. link_item (NewResource resource destructor) g) self.old.made.items (at H.kept self.old.world) making.old result self.new.made.items (at H.kept self.new.world) making.new }
+    {
         let owners = &mut self.world.group.owners;
         let Some(number) = next_resource(owners) else {
             return Err(Stop::NoMemory);
         };
-        let destructor = match destructor {
-            None => None,
-            Some(index) => Some(making.core_function(index)),
-        };
+        let destructor = destructor_at(making, destructor);
         owners.items.push(Owner {
             instance: making.instance,
             destructor,

@@ -3,6 +3,10 @@ ghost use Rattle.core_validate.specs.Validity.{IsValidModule};
 ghost use Rattle.core_instance.specs.Matching.{HasCounts};
 ghost use Rattle.comp_interp.specs.Parts.{part_limit, IsSoundItem};
 ghost use Rattle.comp_interp.specs.Levels.{Follows};
+ghost use Rattle.comp_calls.specs.Moments.{at};
+ghost use Rattle.comp_interp.specs.Gathered.{Makes, IsInstantiated, ModuleComes};
+ghost use Rattle.comp_interp.specs.Going.{ItemComes};
+ghost use Rattle.comp_interp.specs.Others.{other_item};
 
 use crate::assembly::Assembly;
 use crate::level::Level;
@@ -26,6 +30,7 @@ impl<H: Host> Assembly<H> {
     ) -> Result<Option<Level>, Stop>
         requires sound { IsSoundItem linked.now (part_limit linked.now level.old.part) item.now }
         ensures follows { IfOk result (λ inner. Follows linked.now level.old item.now level.new inner) }
+        ensures comes { ItemComes H.step (part_limit linked.now level.old.part) linked.now item.now self.old.made.items (at H.kept self.old.world) level.old.making result self.new.made.items (at H.kept self.new.world) level.new.making }
     {
         match item {
             PlanItem::OfComponent {
@@ -68,6 +73,25 @@ impl<H: Host> Assembly<H> {
     ) -> Result<(), Stop>
         requires valid { IsValidModule core_module.now }
         requires counts { HasCounts core_module.now }
+        ensures { ModuleComes H.step core_module.now args.now self.old.made.items (at H.kept self.old.world) making.old result self.new.made.items (at H.kept self.new.world) making.new }
+    {
+        match self.instantiate(alloc, core_module, making, args)? {
+            None => Ok(()),
+            Some(function) => self.world.start(alloc, making.instance, function),
+        }
+    }
+
+    /// Instantiates a module: its start function, if it has one, which has not run.
+    fn instantiate(
+        &mut self,
+        alloc: Global,
+        core_module: &Module,
+        making: &mut Making,
+        args: &[CoreArg],
+    ) -> Result<Option<u32>, Stop>
+        requires valid { IsValidModule core_module.now }
+        requires counts { HasCounts core_module.now }
+        ensures { IsInstantiated H.step core_module.now args.now self.old.made.items (at H.kept self.old.world) making.old result self.new.made.items (at H.kept self.new.world) making.new }
     {
         let externs = making.externs_for(alloc, core_module, args)?;
         self.world.take_step()?;
@@ -76,10 +100,7 @@ impl<H: Host> Assembly<H> {
         };
         let made = instance.code.instantiate(alloc, core_module, &externs)?;
         making.keep_core_items(alloc, made.exports.as_slice())?;
-        match made.start {
-            None => Ok(()),
-            Some(function) => self.world.start(alloc, making.instance, function),
-        }
+        Ok(made.start)
     }
 
     /// Makes an item of a plan that is no module and no component.
@@ -88,9 +109,12 @@ impl<H: Host> Assembly<H> {
         alloc: Global,
         making: &mut Making,
         item: &PlanItem,
-    ) -> Result<(), Stop> {
+    ) -> Result<(), Stop>
+        ensures { Makes H.step (other_item item.now) self.old.made.items (at H.kept self.old.world) making.old result self.new.made.items (at H.kept self.new.world) making.new }
+    {
         match item {
-            PlanItem::OfModule { .. } | PlanItem::OfComponent { .. } => Ok(()),
+            PlanItem::OfModule { .. } => Ok(()),
+            PlanItem::OfComponent { .. } => Ok(()),
             PlanItem::NewResource {
                 resource,
                 destructor,

@@ -1,4 +1,8 @@
+ghost use Rattle.std.specs.Prelude.{◌≡◌, IfOk};
 ghost use Rattle.comp_interp.specs.Sound.{CanBeMade};
+ghost use Rattle.comp_interp.specs.Runs.{host_in, IsNew};
+ghost use Rattle.comp_interp.specs.Outcomes.{IsEndOf, Instantiates, CallsExport};
+ghost use Rattle.wit_types.specs.PlainValue.{plain_values};
 
 use crate::assembly::Assembly;
 use crate::exports::target_of;
@@ -19,7 +23,9 @@ pub struct Run<H> {
     exports: Givens,
 }
 
-fn end_of(came: Result<Option<Value>, Stop>) -> Result<RunEnd, NoMemory> {
+fn end_of(came: Result<Option<Value>, Stop>) -> Result<RunEnd, NoMemory>
+    ensures { IfOk result (λ end. IsEndOf came end) }
+{
     match came {
         Ok(value) => Ok(RunEnd::Returned(value)),
         Err(Stop::Trapped) => Ok(RunEnd::Trapped),
@@ -35,6 +41,7 @@ impl<H: Host> Run<H> {
     /// A component before its first step, with so many steps for the whole run.
     pub fn new(alloc: Global, linked: Linked, host: H, budget: u64) -> Run<H>
         requires { CanBeMade linked }
+        ensures { IsNew linked (H.kept host) budget (H.kept (host_in result)) result }
     {
         Run {
             linked: Runnable::new(linked),
@@ -44,7 +51,9 @@ impl<H: Host> Run<H> {
     }
 
     /// Makes the instances of the component.
-    pub fn instantiate(&mut self, alloc: Global) -> Result<RunEnd, NoMemory> {
+    pub fn instantiate(&mut self, alloc: Global) -> Result<RunEnd, NoMemory>
+        ensures { IfOk result (λ end. Instantiates H.step H.kept self.old end self.new) }
+    {
         match self.assembly.make(alloc, self.linked.linked()) {
             Ok(exports) => {
                 self.exports = exports;
@@ -60,7 +69,9 @@ impl<H: Host> Run<H> {
         alloc: Global,
         name: &Text,
         args: &Values,
-    ) -> Result<RunEnd, NoMemory> {
+    ) -> Result<RunEnd, NoMemory>
+        ensures { IfOk result (λ end. CallsExport H.step H.kept self.old name.now (plain_values args.now) end self.new) }
+    {
         let found = target_of(alloc, &self.assembly.made, &self.exports, name)?;
         let Some(target) = found else {
             return Ok(RunEnd::Trapped);
@@ -70,12 +81,16 @@ impl<H: Host> Run<H> {
     }
 
     /// The host as it is now.
-    pub fn host(&self) -> &H {
+    pub fn host(&self) -> &H
+        ensures { result.now ≡ host_in self.now }
+    {
         &self.assembly.world.host
     }
 
     /// Gives the host back.
-    pub fn finish(self) -> H {
+    pub fn finish(self) -> H
+        ensures { result ≡ host_in self }
+    {
         let Run { assembly, .. } = self;
         let Assembly { world, .. } = assembly;
         let World { host, .. } = world;

@@ -1,22 +1,27 @@
-ghost use Rattle.std.specs.Prelude.{◌≡◌, length};
+ghost use Rattle.std.specs.Prelude.{◌≡◌};
 ghost use Rattle.comp_interp.specs.Sound.{CanBeMade};
 
 use comp_plans::Linked;
 use std::marker::Model;
 
-/// A linked component whose modules can be instantiated. Of it contracts see the number of its modules.
+/// A linked component that can be made.
 #[derive(Drop)]
 pub struct Runnable {
     linked: Linked,
 }
 
 impl Model for Runnable {
-    ghost use Rattle.std.specs.Prelude.{ℕ, length};
+    ghost use Rattle.comp_plans.specs.declared.linked.Linked as plans;
     ghost use Rattle.comp_interp.specs.Sound.{CanBeMade};
+    ghost use Rattle.std.specs.Coded.{codes};
+    ghost use Rattle.comp_types.specs.Codes.{value_code, parts_code, func_code, entries_code};
+    ghost use Rattle.comp_plans.specs.contracts.linked.Linked as contract;
 
-    ghost Value = { ℕ };
+    ghost Value = { plans.Linked };
 
-    ghost view = { λ r. length r.linked.modules };
+    ghost coded = { Prim.hlevel (codes, value_code, parts_code, func_code, entries_code, contract.the_row.coded) };
+
+    ghost view = { λ r. r.linked };
 
     ghost invariant = { λ r. CanBeMade r.linked };
 }
@@ -24,14 +29,14 @@ impl Model for Runnable {
 impl Runnable {
     pub fn new(linked: Linked) -> Runnable
         requires { CanBeMade linked }
-        ensures { result ≡ length linked.modules }
+        ensures { result ≡ linked }
     {
         Runnable { linked }
     }
 
     /// The linked component.
     pub fn linked(&self) -> &Linked
-        ensures modules { length result.now.modules ≡ self.now }
+        ensures linked { result.now ≡ self.now }
         ensures can { CanBeMade result.now }
     {
         &self.linked
