@@ -1,0 +1,11 @@
+mod TypeLaws
+mod ValueForms
+mod CodeLaws
+mod RowForms
+mod StreamTypes
+mod NodeTypes
+mod ScratchTypes
+mod RowTypes
+mod ArgumentLaws
+mod ListedLaw
+mod StepLaw
