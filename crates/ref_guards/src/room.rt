@@ -1,13 +1,13 @@
 // Room: as many places of a kind must be free as a result has own handles of it outside lists.
 #![tactic(auto, using(wit_types::proofs::PlainLemmas::plains, crate::proofs::RoomLemmas::room_rules))]
 
-ghost use Rattle.std.specs.Prelude.{◌≡◌, ◌≤◌, ◌<◌, ◌-◌, ◌^◌, SomeIff, [], map, min, Option};
-ghost use Rattle.wit_types.specs.Plain.{Plain, plain, plain_result, payload_of, case_part, fields_of, types_of, cases_of, End, OwnType};
+ghost use Rattle.std.specs.Prelude.{◌≡◌, ◌<◌, ◌+◌, ◌^◌, ℕ, [], map, Option};
+ghost use Rattle.wit_types.specs.Plain.{Plain, plain, plain_result, payload_of, case_part, fields_of, types_of, cases_of, End};
 ghost use Rattle.policy_data.specs.declared.policy.Policy.{Policy};
 ghost use Rattle.tree_table.specs.Tables.{Forest};
-ghost use Rattle.reference_step.specs.Rules.{owns, owns_in, owns_of, kinds, has_places};
+ghost use Rattle.reference_step.specs.Rules.{owns, owns_in, same_kind, kinds, has_places};
 ghost use Rattle.ref_answers.specs.Seen.{live_in};
-ghost use Rattle.ref_guards.specs.Owned.{owned_at_most};
+ghost use Rattle.ref_guards.specs.Owned.{each_at_most, owned_at_most};
 
 use ref_live::LiveHandles;
 use std::rc::Rc;
@@ -16,95 +16,72 @@ use wit_types::{Case, Field, WitType};
 /// How many kinds of resources are listed.
 const KINDS: usize = 14;
 
-#[cycle(left_of)]
-fn left_of_payload(kind: u32, ty: &Option<Rc<WitType>>, left: u32) -> Option<u32>
-    ensures { SomeIff result (owns_in kind (case_part [] (payload_of ty.now) End) ≤ left) (left - owns_in kind (case_part [] (payload_of ty.now) End)) }
+#[cycle(note_owned)]
+fn note_payload(ty: &Option<Rc<WitType>>, owned: &mut [u32; 14])
+    ensures { (many : ℕ → ℕ) → owned.old ≡ each_at_most many → owned.new ≡ each_at_most (λ kind. many kind + owns_in kind (case_part [] (payload_of ty.now) End)) }
 {
     match ty {
-        None => Some(left),
-        Some(ty) => left_of(kind, ty, left),
+        None => {}
+        Some(ty) => note_owned(ty, owned),
     }
 }
 
-#[cycle(left_of)]
-fn left_of_fields(kind: u32, fields: &[Field], left: u32) -> Option<u32>
-    ensures { SomeIff result (owns_in kind (fields_of fields.now) ≤ left) (left - owns_in kind (fields_of fields.now)) }
+#[cycle(note_owned)]
+fn note_fields(fields: &[Field], owned: &mut [u32; 14])
+    ensures { (many : ℕ → ℕ) → owned.old ≡ each_at_most many → owned.new ≡ each_at_most (λ kind. many kind + owns_in kind (fields_of fields.now)) }
 {
-    let mut rest = left;
     for field in fields {
-        rest = left_of(kind, &field.ty, rest)?;
+        note_owned(&field.ty, owned);
     }
-    Some(rest)
 }
 
-#[cycle(left_of)]
-fn left_of_types(kind: u32, types: &[WitType], left: u32) -> Option<u32>
-    ensures { SomeIff result (owns_in kind (types_of types.now) ≤ left) (left - owns_in kind (types_of types.now)) }
+#[cycle(note_owned)]
+fn note_types(types: &[WitType], owned: &mut [u32; 14])
+    ensures { (many : ℕ → ℕ) → owned.old ≡ each_at_most many → owned.new ≡ each_at_most (λ kind. many kind + owns_in kind (types_of types.now)) }
 {
-    let mut rest = left;
     for ty in types {
-        rest = left_of(kind, ty, rest)?;
+        note_owned(ty, owned);
     }
-    Some(rest)
 }
 
-#[cycle(left_of)]
-fn left_of_cases(kind: u32, cases: &[Case], left: u32) -> Option<u32>
-    ensures { SomeIff result (owns_in kind (cases_of cases.now) ≤ left) (left - owns_in kind (cases_of cases.now)) }
+#[cycle(note_owned)]
+fn note_cases(cases: &[Case], owned: &mut [u32; 14])
+    ensures { (many : ℕ → ℕ) → owned.old ≡ each_at_most many → owned.new ≡ each_at_most (λ kind. many kind + owns_in kind (cases_of cases.now)) }
 {
-    let mut rest = left;
     for case in cases {
-        rest = left_of_payload(kind, &case.ty, rest)?;
+        note_payload(&case.ty, owned);
     }
-    Some(rest)
 }
 
-/// One less, where the kind is the same.
-fn left_of_own(kind: u32, other: u32, left: u32) -> Option<u32>
-    ensures { SomeIff result (owns kind (OwnType other) ≤ left) (left - owns kind (OwnType other)) }
+/// One more of a kind.
+fn note_own(kind: u32, owned: &mut [u32; 14])
+    ensures { (many : ℕ → ℕ) → owned.old ≡ each_at_most many → owned.new ≡ each_at_most (λ other. many other + same_kind other kind) }
 {
-    if kind == other {
-        left.checked_sub(1)
-    } else {
-        Some(left)
+    let at = kind as usize;
+    if at < KINDS {
+        owned[at] = owned[at].saturating_add(1);
     }
 }
 
-/// What is left of so many places behind the own handles of a kind in a type; none exactly where it has more.
-#[cycle(left_of)]
-fn left_of(kind: u32, ty: &WitType, left: u32) -> Option<u32>
-    ensures { SomeIff result (owns kind (plain ty.now) ≤ left) (left - owns kind (plain ty.now)) }
+/// Notes the own handles of each kind that a type has outside lists, beside those that were noted.
+#[cycle(note_owned)]
+fn note_owned(ty: &WitType, owned: &mut [u32; 14])
+    ensures { (many : ℕ → ℕ) → owned.old ≡ each_at_most many → owned.new ≡ each_at_most (λ kind. many kind + owns kind (plain ty.now)) }
 {
     match ty {
-        WitType::Bool | WitType::S8 | WitType::U8 | WitType::S16 | WitType::U16 => Some(left),
-        WitType::S32 | WitType::U32 | WitType::S64 | WitType::U64 => Some(left),
-        WitType::Char | WitType::Str | WitType::Flags(_) | WitType::Enum(_) => Some(left),
-        WitType::List(_) | WitType::Borrow(_) => Some(left),
-        WitType::Own(other) => left_of_own(kind, *other, left),
-        WitType::Record(fields) => left_of_fields(kind, &fields.items, left),
-        WitType::Tuple(types) => left_of_types(kind, &types.items, left),
-        WitType::Variant(cases) => left_of_cases(kind, &cases.items, left),
-        WitType::Option(ty) => left_of(kind, ty, left),
-        WitType::Result(ok, err) => left_of_payload(kind, err, left_of_payload(kind, ok, left)?),
-    }
-}
-
-/// How many own handles of a kind a type has outside lists, at most 4,294,967,295.
-fn owned_in(kind: u32, ty: &WitType) -> u32
-    ensures { result ≡ min (owns kind (plain ty.now)) 4294967295 }
-{
-    match left_of(kind, ty, u32::MAX) {
-        Some(left) => u32::MAX - left,
-        None => u32::MAX,
-    }
-}
-
-fn owned_of(kind: u32, ty: &Option<WitType>) -> u32
-    ensures { result ≡ owned_at_most (plain_result ty.now) kind }
-{
-    match ty {
-        None => 0,
-        Some(ty) => owned_in(kind, ty),
+        WitType::Bool | WitType::S8 | WitType::U8 | WitType::S16 | WitType::U16 => {}
+        WitType::S32 | WitType::U32 | WitType::S64 | WitType::U64 => {}
+        WitType::Char | WitType::Str | WitType::Flags(_) | WitType::Enum(_) => {}
+        WitType::List(_) | WitType::Borrow(_) => {}
+        WitType::Own(kind) => note_own(*kind, owned),
+        WitType::Record(fields) => note_fields(&fields.items, owned),
+        WitType::Tuple(types) => note_types(&types.items, owned),
+        WitType::Variant(cases) => note_cases(&cases.items, owned),
+        WitType::Option(ty) => note_owned(ty, owned),
+        WitType::Result(ok, err) => {
+            note_payload(ok, owned);
+            note_payload(err, owned);
+        }
     }
 }
 
@@ -112,22 +89,12 @@ fn owned_of(kind: u32, ty: &Option<WitType>) -> u32
 pub fn owned_kinds(ty: &Option<WitType>) -> [u32; 14]
     ensures { result ≡ map (owned_at_most (plain_result ty.now)) kinds }
 {
-    [
-        owned_of(0, ty),
-        owned_of(1, ty),
-        owned_of(2, ty),
-        owned_of(3, ty),
-        owned_of(4, ty),
-        owned_of(5, ty),
-        owned_of(6, ty),
-        owned_of(7, ty),
-        owned_of(8, ty),
-        owned_of(9, ty),
-        owned_of(10, ty),
-        owned_of(11, ty),
-        owned_of(12, ty),
-        owned_of(13, ty),
-    ]
+    let mut owned = [0; KINDS];
+    match ty {
+        None => {}
+        Some(ty) => note_owned(ty, &mut owned),
+    }
+    owned
 }
 
 /// Whether there is room for a result with so many own handles of each kind.
