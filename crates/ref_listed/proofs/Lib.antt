@@ -1,3 +1,4 @@
+mod NumberLaws
 mod NameLaws
 mod KindLaws
 mod SmallLaw

@@ -1,10 +1,11 @@
 // The names of interfaces: before `@` the interface's, and behind it the version.
 #![tactic(auto)]
 
-ghost use Rattle.std.specs.Prelude.{◌≡◌, ◌<◌, IfSome};
-ghost use Rattle.reference_step.specs.Listed.{cut, interface_numbered};
+ghost use Rattle.std.specs.Prelude.{◌≡◌, ◌<◌, IfSome, length, position};
+ghost use Rattle.std.specs.Str.{bytes_eq};
+ghost use Rattle.reference_step.specs.Listed.{cut};
 
-use wasi_listed::INTERFACES;
+use wasi_table::Interface;
 
 /// What stands before the first `@` of a name, and behind it.
 pub fn cut(name: &str) -> (&str, &str)
@@ -16,11 +17,10 @@ pub fn cut(name: &str) -> (&str, &str)
     }
 }
 
-/// The number of the interface with a name without version.
-#[tactic(auto, unfolding(wasi_versions::specs::Names::interface_named))]
-pub fn interface_numbered(name: &str) -> Option<u32>
-    ensures value { result ≡ interface_numbered name.now }
-    ensures bound { IfSome result (λ number. number < INTERFACES) }
+/// The place of the first interface with a name without version.
+pub fn place_named(interfaces: &[Interface], name: &str) -> Option<usize>
+    ensures value { result ≡ position (λ i. bytes_eq i.name name.now) interfaces.now }
+    ensures bound { IfSome result (λ place. place < length interfaces.now) }
 {
-    wasi_versions::interface_named(name.as_bytes())
+    interfaces.iter().position(|i| i.name.as_str() == name)
 }

@@ -3,11 +3,11 @@ ghost use Rattle.std.specs.List.{find};
 ghost use Rattle.std.specs.Option.{option_copied};
 ghost use Rattle.std.specs.Str.{bytes_eq};
 ghost use Rattle.wit_types.specs.Plain.{plain_func};
-ghost use Rattle.reference_step.specs.Listed.{interface_named, kind_named, listed_function};
+ghost use Rattle.reference_step.specs.Listed.{interface_named, interface_numbered, kind_named, listed_function};
 ghost use Rattle.ref_listed.specs.Versions.{IsSmall, plain_found, resource_in, version_in};
 
 use crate::described::described;
-use crate::names::{cut, interface_numbered};
+use crate::names::{cut, place_named};
 use crate::resources::{home_of, kind_named, name_of, stands_in, versioned};
 use host_port::Resource;
 use std::alloc::Global;
@@ -63,13 +63,24 @@ impl ListedTable {
         })
     }
 
+    /// The number of the interface with a name without version.
+    fn number(&self, name: &str) -> Option<u32>
+        ensures value { result ≡ interface_numbered name.now }
+        ensures bound { IfSome result (λ number. number < 27) }
+    {
+        match place_named(&self.interfaces, name) {
+            Some(place) => Some(place as u32),
+            None => None,
+        }
+    }
+
     /// The number of the interface of a name with the version under which it is listed.
     fn interface(&self, name: &str) -> Option<u32>
         ensures value { result ≡ interface_named (version_in self.now) name.now }
         ensures bound { IfSome result (λ number. number < 27) }
     {
         let (before, version) = cut(name);
-        let number = interface_numbered(before)?;
+        let number = self.number(before)?;
         if self.versions[number as usize].as_str() == version {
             Some(number)
         } else {
