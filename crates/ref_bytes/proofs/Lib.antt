@@ -1,2 +1,2 @@
 mod TypeLaws
-mod ListedLaw
+pub mod ListedLaw

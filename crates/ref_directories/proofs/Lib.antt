@@ -1,2 +1,2 @@
-mod OfferLemmas
+pub mod OfferLemmas
 mod OfferedLemmas

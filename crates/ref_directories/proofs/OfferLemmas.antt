@@ -1,20 +1,33 @@
 -- Folders that are noted one after another.
-use Rattle.std.proofs.Common.{◌≡◌, ℕ, zero, suc, ◌+◌, ◌≤◌, ◌<◌, nat_lt, true, List, [], ◌∷◌, ◌++◌, Some, length, drop, get_or, slice_get, map, Result, Ok, Err, refl, sym, ap, ◌∙◌, arith, if◌then◌else◌}
+use Rattle.std.proofs.Common.{◌≡◌, ℕ, zero, suc, ◌+◌, ◌≤◌, ◌<◌, nat_lt, Bool, true, false, Option, None, List, [], ◌∷◌, ◌++◌, Some, length, drop, get_or, slice_get, map, Result, Ok, Err, refl, sym, ap, subst, ◌∙◌, arith, if◌then◌else◌}
 use Rattle.std.specs.Prelude.{OnOk}
 use Rattle.std.proofs.lemmas.Bool.Decides.{nat_tests}
 use Rattle.std.proofs.Math.ListN.{drop_of_length-le}
 use Rattle.std.proofs.Math.Seq.{drop-cons}
 use Rattle.std.proofs.lemmas.List.{append_assoc, append-nil, map-append}
+use Rattle.std.proofs.lemmas.List.Elements.{All-cons, All-nil, All-push}
 use Rattle.wit_types.specs.declared.value.Value.{Value}
-use Rattle.wit_types.specs.PlainValue.{plain_value, values_of}
+use Rattle.wit_types.specs.PlainValue.{PlainValue, plain_value, values_of}
+use Rattle.policy_data.specs.declared.data.Pass.{Pass}
+use Rattle.policy_data.specs.declared.policy.Policy.{Policy}
+use Rattle.host_port.specs.Hosts.{HostStep}
 use Rattle.tree_table.specs.declared.entries.NamedTree.{NamedTree}
 use Rattle.tree_table.specs.Forests.{path_by, steps_up}
 use Rattle.tree_table.specs.Tables.{Forest, Holds, name_of, parent_of, path_of}
 use Rattle.tree_table.specs.Trees.{AreTrees, node_count}
+use Rattle.reference_step.specs.Access.{all_files}
 use Rattle.reference_step.specs.Handles as contents
+use Rattle.reference_step.specs.Steps as reference
 use Rattle.reference_step.specs.Values.{items}
+use Rattle.ref_live.specs.declared.content.Content.{Content}
 use Rattle.ref_live.specs.declared.content.Content.TheVariants.{Node}
 use Rattle.ref_answers.specs.Seen.{content_in}
+use Rattle.ref_directories.specs.declared.offers.Folder.{Folder}
+use Rattle.ref_directories.specs.declared.offers.Folder.TheVariants.{Theirs, Root, Scratch}
+use Rattle.ref_directories.specs.declared.offers.Offer.{Offer}
+use Rattle.ref_directories.specs.declared.offers.Offer.TheVariants.{Given, Lost}
+use Rattle.ref_directories.specs.Places.{stands_for}
+use Rattle.ref_directories.specs.Offers.{AreInside, HoldsOfFolders, folder_inside, offer_inside, shown, shown_all}
 
 pub items_listed : (vs : List Value) → items (values_of vs) ≡ map plain_value vs
 items_listed [] = refl
@@ -86,3 +99,51 @@ behind new mid old rest first is before = is ∙ ap (λ xs. xs ++ rest) before �
 
 pub nothing_more : {A : Type 0} (xs ys : List A) → ys ≡ [] → xs ≡ xs ++ ys
 nothing_more xs ys none = sym (append-nil xs) ∙ ap (λ zs. xs ++ zs) (sym none)
+
+-- ---- what folders stand for
+
+pub inside_more : (trees : ℕ) (old new : List Offer) (o : Offer) → new ≡ old ++ o ∷ [] → offer_inside trees o ≡ true → AreInside trees old → AreInside trees new
+inside_more trees old new o is here all = subst (AreInside trees) (sym is) (All-push (λ x. offer_inside trees x ≡ true) old o all here)
+
+pub root_inside : (place trees : ℕ) → place < trees → nat_lt place trees ≡ true
+root_inside place trees lt = grind (arith, nat_tests)
+
+-- what holds of each folder that may be given holds of this one
+pub folder_holds : (trees : ℕ) (P : Content → Bool) (folder : Folder) → HoldsOfFolders trees P → folder_inside trees folder ≡ true → P (stands_for folder) ≡ true
+folder_holds trees P (Theirs id) may inside = may.theirs id
+folder_holds trees P (Root place) may inside = let below : place < trees = grind (arith, nat_tests) in may.roots place below
+folder_holds trees P Scratch may inside = may.scratch
+
+-- ---- the host's folders are no roots
+
+module _ {S : Type 0} (h : HostStep S) (f : Forest) (policy : Policy) (trees : ℕ) where
+  abbrev is_no_node : reference.Offer h → Bool
+  is_no_node (reference.Given (contents.Node tree path) name) = false
+  is_no_node (reference.Given content name) = true
+  is_no_node (reference.Lost id) = true
+
+  passed : (id : ℕ) (pass : Option Pass) → is_no_node (reference.by_pass h id pass) ≡ true
+  passed id None = refl
+  passed id (Some pass) = refl
+
+  by_files : (all : Bool) (id : ℕ) (name : List ℕ) (pass : Option Pass) → is_no_node (if all then reference.Given (contents.Host id) name else reference.by_pass h id pass) ≡ true
+  by_files true id name pass = refl
+  by_files false id name pass = passed id pass
+
+  no_root : (o : Offer) → is_no_node (shown h f o) ≡ true → offer_inside trees o ≡ true
+  no_root (Given (Theirs id) name) is = refl
+  no_root (Given (Root place) name) is = cc
+  no_root (Given Scratch name) is = refl
+  no_root (Lost id) is = refl
+
+  first_is : {A : Type 0} (x y : A) (xs ys : List A) → x ∷ xs ≡ y ∷ ys → x ≡ y
+  first_is x y xs ys is = cc
+
+  rest_is : {A : Type 0} (x y : A) (xs ys : List A) → x ∷ xs ≡ y ∷ ys → xs ≡ ys
+  rest_is x y xs ys is = cc
+
+  pub theirs_inside : (offers : List Offer) (vs : List PlainValue) → shown_all h f offers ≡ map (λ v. reference.offer_of h policy v) vs → AreInside trees offers
+  theirs_inside [] vs is = All-nil (λ o. offer_inside trees o ≡ true)
+  theirs_inside (o ∷ os) [] is = cc
+  theirs_inside (o ∷ os) (v ∷ vs) is =
+      All-cons (λ x. offer_inside trees x ≡ true) o os (no_root o (ap is_no_node (first_is _ _ _ _ is) ∙ by_files (all_files policy.fs_host) _ _ _)) (theirs_inside os vs (rest_is _ _ _ _ is))

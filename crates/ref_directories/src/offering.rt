@@ -1,5 +1,5 @@
 // Offers in turn.
-ghost use Rattle.std.specs.Prelude.{◌≡◌, ◌++◌, ◌∷◌, ◌+◌, [], List, true, false, map, nat_le, IfOk, OnOk, if◌then◌else◌};
+ghost use Rattle.std.specs.Prelude.{◌≡◌, ◌++◌, ◌∷◌, ◌+◌, ℕ, [], length, List, true, false, map, nat_le, IfOk, OnOk, if◌then◌else◌};
 ghost use Rattle.wit_types.specs.PlainValue.{plain_value};
 ghost use Rattle.tree_table.specs.Tables.{Forest};
 ghost use Rattle.host_port.specs.Calls.{PlainObservation, Trap, plain_answer};
@@ -10,7 +10,8 @@ ghost use Rattle.reference_step.specs.Steps as reference;
 ghost use Rattle.ref_listed.specs.Versions.{resource_in, version_in};
 ghost use Rattle.ref_live.specs.Lives.{count_of_kind};
 ghost use Rattle.ref_directories.specs.Places.{stands_for};
-ghost use Rattle.ref_directories.specs.Offers.{folders_at, shown, shown_all};
+ghost use Rattle.ref_contents.specs.Contents.{KeepsContents};
+ghost use Rattle.ref_directories.specs.Offers.{AreInside, HoldsOfFolders, folder_inside, folders_at, offer_inside, shown, shown_all};
 ghost use Rattle.ref_directories.specs.Offered.{GoesOn};
 ghost use Rattle.ref_host_calls.specs.Reactions.{IsReaction};
 
@@ -60,6 +61,7 @@ fn give_folder<H: Host>(
     ensures handle { IfOk result (λ fits. fits ≡ true → live.new ≡ record live.old { handles = with_entry live.old.handles (record { kind = 6; content = stands_for folder }) }) }
     ensures value { IfOk result (λ fits. fits ≡ true → map plain_value values.new.items ≡ map plain_value values.old.items ++ reference.folder_value H.step (first_free live.old.handles) name.now ∷ []) }
     ensures none { IfOk result (λ fits. fits ≡ false → live.new ≡ live.old) }
+    ensures keeps { OnOk result ((trees : ℕ) → folder_inside trees folder ≡ true → KeepsContents (HoldsOfFolders trees) live.old live.new) }
 {
     if live.room(DESCRIPTOR) == 0 {
         return Ok(false);
@@ -97,6 +99,7 @@ fn offer_one<H: Host>(
         GoesOn H.step (folders_at r f folders.entry live.old (H.kept inner.old).state) seen (map plain_value values.old.items) (shown H.step f offer.entry ∷ rest) (folders_at r f folders.entry live.new (H.kept inner.new).state) (map plain_value values.new.items) rest base (H.kept inner.new).seen) }
     ensures stops { IfOk result (λ goes. goes ≡ false → (f : Forest) (r : Reference H.State) (base seen : List PlainObservation) (rest : List (reference.Offer H.step)) → (H.kept inner.old).seen ≡ base ++ seen →
         IsReaction (reference.offers H.step (folders_at r f folders.entry live.old (H.kept inner.old).state) seen (map plain_value values.old.items) (shown H.step f offer.entry ∷ rest)) Trap (folders_at r f folders.entry live.new (H.kept inner.new).state) base (H.kept inner.new).seen) }
+    ensures keeps { OnOk result (offer_inside (length folders.entry.trees.now) offer.entry ≡ true → KeepsContents (HoldsOfFolders (length folders.entry.trees.now)) live.old live.new) }
     ensures limits { OnOk result ((live.new.slots ≡ live.old.slots) × (live.new.files ≡ live.old.files)) }
 {
     match offer {
@@ -116,9 +119,11 @@ pub fn offer_all<H: Host>(
     inner: &mut H,
     offers: &[Offer<'_>],
 ) -> Result<Answer, NoMemory>
-    requires { live.old.slots ≡ folders.policy.now.slots }
+    requires slots { live.old.slots ≡ folders.policy.now.slots }
+    requires inside { AreInside (length folders.trees.now) offers.now }
     ensures reaction { IfOk result (λ a. (f : Forest) (r : Reference H.State) (base seen : List PlainObservation) → (H.kept inner.old).seen ≡ base ++ seen →
         IsReaction (reference.offers H.step (folders_at r f folders.entry live.old (H.kept inner.old).state) seen [] (shown_all H.step f offers.now)) (plain_answer a) (folders_at r f folders.entry live.new (H.kept inner.new).state) base (H.kept inner.new).seen) }
+    ensures keeps { OnOk result (KeepsContents (HoldsOfFolders (length folders.entry.trees.now)) live.old live.new) }
     ensures limits { OnOk result ((live.new.slots ≡ live.old.slots) × (live.new.files ≡ live.old.files)) }
 {
     let mut values = Vec::new(alloc);

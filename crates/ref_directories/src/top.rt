@@ -1,4 +1,4 @@
-ghost use Rattle.std.specs.Prelude.{◌≡◌, ◌++◌, [], List, IfOk, OnOk};
+ghost use Rattle.std.specs.Prelude.{◌≡◌, ◌++◌, [], length, List, IfOk, OnOk};
 ghost use Rattle.tree_table.specs.Tables.{Forest, Holds};
 ghost use Rattle.tree_table.specs.Trees.{AreTrees};
 ghost use Rattle.host_port.specs.Calls.{PlainObservation, plain_answer, plain_option};
@@ -6,8 +6,9 @@ ghost use Rattle.reference_step.specs.State.{Reference};
 ghost use Rattle.reference_step.specs.Steps.{asks, folders_gave, own_offers};
 ghost use Rattle.reference_step.specs.Steps as reference;
 ghost use Rattle.ref_host_calls.specs.Requests.{IsNoted, listed_of, call_of};
-ghost use Rattle.ref_host_calls.specs.Reactions.{IsReaction};
-ghost use Rattle.ref_directories.specs.Offers.{folders_at};
+ghost use Rattle.ref_host_calls.specs.Reactions.{HostIsTyped, IsReaction};
+ghost use Rattle.ref_contents.specs.Contents.{KeepsContents};
+ghost use Rattle.ref_directories.specs.Offers.{HoldsOfFolders, folders_at};
 
 use crate::offering::{given_count, offer_all};
 use crate::offers::Folders;
@@ -39,6 +40,7 @@ fn give_folders<H: Host>(
     requires trees { AreTrees folders.trees.now }
     ensures reaction { IfOk result (λ a. (f : Forest) (r : Reference H.State) (base seen : List PlainObservation) → Holds folders.entry.trees.now f → (H.kept inner.old).seen ≡ base ++ seen →
         IsReaction (folders_gave H.step (folders_at r f folders.entry live.old (H.kept inner.old).state) seen (listed_of request.entry) (call_of request.entry) (plain_option value)) (plain_answer a) (folders_at r f folders.entry live.new (H.kept inner.new).state) base (H.kept inner.new).seen) }
+    ensures keeps { OnOk result (KeepsContents (HoldsOfFolders (length folders.entry.trees.now)) live.old live.new) }
     ensures limits { OnOk result ((live.new.slots ≡ live.old.slots) × (live.new.files ≡ live.old.files)) }
 {
     let mut noted = Vec::new(alloc);
@@ -68,7 +70,9 @@ pub fn ask_folders<H: Host>(
     requires trees { AreTrees folders.trees.now }
     ensures reaction { IfOk result (λ a. (f : Forest) (r : Reference H.State) → Holds folders.entry.trees.now f →
         IsReaction (asks H.step (folders_at r f folders.entry live.old (H.kept inner.old).state) (listed_of request.entry) (call_of request.entry) (λ s seen v. folders_gave H.step s seen (listed_of request.entry) (call_of request.entry) v)) (plain_answer a) (folders_at r f folders.entry live.new (H.kept inner.new).state) (H.kept inner.old).seen (H.kept inner.new).seen) }
+    ensures keeps { OnOk result (KeepsContents (HoldsOfFolders (length folders.entry.trees.now)) live.old live.new) }
     ensures limits { OnOk result ((live.new.slots ≡ live.old.slots) × (live.new.files ≡ live.old.files)) }
+    ensures typed { OnOk result ((f : Forest) (r : Reference H.State) → HostIsTyped H.step (folders_at r f folders.entry live.old (H.kept inner.old).state) (listed_of request.entry) (call_of request.entry)) }
 {
     match ask(alloc, live, inner, request)? {
         Answer::Value(value) => give_folders(alloc, folders, live, inner, request, value),
@@ -89,6 +93,7 @@ pub fn own_folders<H: Host>(
     requires trees { AreTrees folders.trees.now }
     ensures reaction { IfOk result (λ a. (f : Forest) (r : Reference H.State) → Holds folders.entry.trees.now f →
         IsReaction (reference.offers H.step (folders_at r f folders.entry live.old (H.kept inner.old).state) [] [] (own_offers H.step (folders_at r f folders.entry live.old (H.kept inner.old).state).setup)) (plain_answer a) (folders_at r f folders.entry live.new (H.kept inner.new).state) (H.kept inner.old).seen (H.kept inner.new).seen) }
+    ensures keeps { OnOk result (KeepsContents (HoldsOfFolders (length folders.entry.trees.now)) live.old live.new) }
     ensures limits { OnOk result ((live.new.slots ≡ live.old.slots) × (live.new.files ≡ live.old.files)) }
 {
     let mut offers = Vec::new(alloc);

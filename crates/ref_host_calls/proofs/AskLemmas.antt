@@ -1,10 +1,10 @@
 -- The host that is asked, and what is done with its answer.
-use Rattle.std.proofs.Common.{◌≡◌, ℕ, List, [], ◌++◌, length, Option, Result, Ok, Err, sym, ap, ◌∙◌}
+use Rattle.std.proofs.Common.{◌≡◌, ℕ, List, [], ◌++◌, length, Option, Result, Ok, Err, sym, ap, subst, ◌∙◌}
 use Rattle.std.specs.Prelude.{IfOk, OnOk}
 use Rattle.std.proofs.lemmas.List.{append_assoc, append-nil, map-append, length-map}
 use Rattle.wit_types.specs.PlainValue.{PlainValue}
 use Rattle.host_port.specs.Calls.{PlainCall, PlainAnswer, PlainObservation}
-use Rattle.host_port.specs.Hosts.{HostStep, Reaction, Kept, answer_of, reacts}
+use Rattle.host_port.specs.Hosts.{HostStep, IsAnswerTo, Reaction, Kept, answer_of, reacts}
 use Rattle.reference_step.specs.Handles.{Live, content_of}
 use Rattle.reference_step.specs.State.{Reference}
 use Rattle.reference_step.specs.Steps.{by_answer, host_id, host_ids, reacted, with_inner}
@@ -19,7 +19,16 @@ pub on_map : {A E : Type 0} (r : Result A E) (P Q : Type 0) → (P → Q) → On
 on_map (Ok x) P Q go p = go p
 on_map (Err e) P Q go p = p
 
+-- two facts of a value, and what follows
+pub ok_both : {A E : Type 0} (r : Result A E) (P Q : A → Type 0) (R : Type 0) → ((x : A) → P x → Q x → R) → IfOk r P → IfOk r Q → OnOk r R
+ok_both (Ok x) P Q R go p q = go x p q
+ok_both (Err e) P Q R go p q = tt
+
 module _ {S : Type 0} (h : HostStep S) where
+  -- the answer to a call, and to an equal one
+  pub typed_as : (k : Kept S) (theirs q : PlainCall) (a : PlainAnswer) → theirs ≡ q → a ≡ answer_of h k theirs → IsAnswerTo theirs.answer a → IsAnswerTo q.answer (answer_of h k q)
+  typed_as k theirs q a same is typed = subst (λ (x : PlainCall). IsAnswerTo x.answer (answer_of h k x)) same (subst (IsAnswerTo theirs.answer) is typed)
+
   pub host_ids-append : (live : Live) (a b : List (ℕ × ℕ)) → host_ids h live (a ++ b) ≡ host_ids h live a ++ host_ids h live b
   host_ids-append live a b = map-append (λ (g : ℕ × ℕ). host_id h (content_of live g.1)) a b
 

@@ -2,9 +2,11 @@
 use Rattle.std.specs.Prelude.{◌≡◌, List, ◌++◌}
 use Rattle.policy_data.specs.declared.policy.Policy.{Policy}
 use Rattle.tree_table.specs.Tables.{Forest}
-use Rattle.host_port.specs.Calls.{PlainAnswer, PlainObservation}
-use Rattle.host_port.specs.Hosts.{Reaction}
+use Rattle.host_port.specs.Calls.{PlainAnswer, PlainCall, PlainObservation}
+use Rattle.host_port.specs.Hosts.{HostStep, IsAnswerTo, Reaction}
+use Rattle.reference_step.specs.Listed.{Listed}
 use Rattle.reference_step.specs.State.{Reference}
+use Rattle.reference_step.specs.Steps.{to_host}
 use Rattle.ref_live.specs.Lives.{LiveTable}
 use Rattle.ref_answers.specs.Seen.{live_in}
 
@@ -17,3 +19,7 @@ pub record IsReaction {S : Type 0} (reaction : Reaction (Reference S)) (reply : 
   pub answer : reply ≡ reaction.answer
   pub next : state ≡ reaction.next
   pub seen : after ≡ before ++ reaction.seen
+
+-- what the host that is asked answers, where a call is handed on, has the call's result type
+abbrev pub HostIsTyped : {S : Type 0} → HostStep S → Reference S → Listed → PlainCall → Type 0
+HostIsTyped h r f c = IsAnswerTo c.answer (h.call r.inner (to_host h r f c)).answer

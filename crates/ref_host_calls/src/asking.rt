@@ -10,7 +10,7 @@ ghost use Rattle.ref_live.specs.Lives.{count_of_kind};
 ghost use Rattle.ref_room.specs.Entering.{are_kinds, count_kind};
 ghost use Rattle.ref_contents.specs.Contents.{KeepsContents, Hosts};
 ghost use Rattle.ref_host_calls.specs.Requests.{IsNoted, listed_of, call_of, handles_in};
-ghost use Rattle.ref_host_calls.specs.Reactions.{IsReaction, state_at};
+ghost use Rattle.ref_host_calls.specs.Reactions.{HostIsTyped, IsReaction, state_at};
 
 use crate::arguments::renumber_arguments;
 use crate::giving::{give, give_variables};
@@ -58,6 +58,7 @@ pub fn ask<H: Host>(
     requires { IsNoted request }
     ensures answer { IfOk result (λ a. (f : Forest) (r : Reference H.State) → plain_answer a ≡ answer_of H.step (H.kept inner.old) (to_host H.step (record r { live = live_in f live.now.handles }) (listed_of request.entry) (call_of request.entry))) }
     ensures next { OnOk result ((f : Forest) (r : Reference H.State) → H.kept inner.new ≡ reacts H.step (H.kept inner.old) (to_host H.step (record r { live = live_in f live.now.handles }) (listed_of request.entry) (call_of request.entry))) }
+    ensures typed { OnOk result ((f : Forest) (r : Reference H.State) → HostIsTyped H.step (state_at r f request.entry.policy.now live.now (H.kept inner.old).state) (listed_of request.entry) (call_of request.entry)) }
 {
     let theirs = to_host::<H>(alloc, live, request)?;
     inner.call(alloc, &theirs)
@@ -76,6 +77,7 @@ pub fn ask_host<H: Host>(
     ensures reaction { IfOk result (λ a. (f : Forest) (r : Reference H.State) → IsReaction (asks H.step (state_at r f request.entry.policy.now live.old (H.kept inner.old).state) (listed_of request.entry) (call_of request.entry) (λ s seen v. host_gave H.step s seen (listed_of request.entry) (call_of request.entry) v)) (plain_answer a) (state_at r f request.entry.policy.now live.new (H.kept inner.new).state) (H.kept inner.old).seen (H.kept inner.new).seen) }
     ensures keeps { OnOk result (KeepsContents Hosts live.old live.new) }
     ensures limits { OnOk result ((live.new.slots ≡ live.old.slots) × (live.new.files ≡ live.old.files)) }
+    ensures typed { OnOk result ((f : Forest) (r : Reference H.State) → HostIsTyped H.step (state_at r f request.entry.policy.now live.old (H.kept inner.old).state) (listed_of request.entry) (call_of request.entry)) }
 {
     match ask(alloc, live, inner, request)? {
         Answer::Value(value) => give::<H>(alloc, live, request, value),
@@ -93,7 +95,8 @@ pub fn ask_variables<H: Host>(
     request: Request<'_>,
 ) -> Result<Answer, NoMemory>
     requires { IsNoted request }
-    ensures { IfOk result (λ a. (f : Forest) (r : Reference H.State) → IsReaction (asks H.step (state_at r f request.entry.policy.now live.now (H.kept inner.old).state) (listed_of request.entry) (call_of request.entry) (λ s seen v. environment_gave H.step s seen (listed_of request.entry) (call_of request.entry) v)) (plain_answer a) (state_at r f request.entry.policy.now live.now (H.kept inner.new).state) (H.kept inner.old).seen (H.kept inner.new).seen) }
+    ensures reaction { IfOk result (λ a. (f : Forest) (r : Reference H.State) → IsReaction (asks H.step (state_at r f request.entry.policy.now live.now (H.kept inner.old).state) (listed_of request.entry) (call_of request.entry) (λ s seen v. environment_gave H.step s seen (listed_of request.entry) (call_of request.entry) v)) (plain_answer a) (state_at r f request.entry.policy.now live.now (H.kept inner.new).state) (H.kept inner.old).seen (H.kept inner.new).seen) }
+    ensures typed { OnOk result ((f : Forest) (r : Reference H.State) → HostIsTyped H.step (state_at r f request.entry.policy.now live.now (H.kept inner.old).state) (listed_of request.entry) (call_of request.entry)) }
 {
     match ask(alloc, live, inner, request)? {
         Answer::Value(value) => give_variables::<H>(alloc, request, value),

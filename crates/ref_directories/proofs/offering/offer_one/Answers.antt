@@ -1,4 +1,4 @@
-use Rattle.std.proofs.Common.{◌+◌, ◌++◌, ℕ, ◌∷◌, map, nat_le, sym, ap, subst, ◌∙◌}
+use Rattle.std.proofs.Common.{◌+◌, ◌++◌, ℕ, ◌∷◌, length, map, nat_le, sym, ap, subst, ◌∙◌}
 use Rattle.wit_types.specs.PlainValue.{plain_value}
 use Rattle.host_port.specs.Calls.{Trap}
 use Rattle.host_port.specs.Hosts.{Reaction}
@@ -7,8 +7,9 @@ use Rattle.reference_step.specs.Steps.{offers}
 use Rattle.ref_live.specs.Lives.{LiveTable, count_of_kind}
 use Rattle.ref_host_calls.specs.Reactions.{IsReaction}
 use Rattle.ref_directories.specs.declared.offers.Offer.{Offer}
-use Rattle.ref_directories.specs.Offers.{folders_at, shown}
+use Rattle.ref_directories.specs.Offers.{folders_at, offer_inside, shown}
 use Rattle.ref_directories.specs.Offered.{GoesOn}
+use Rattle.ref_directories.proofs.OfferLemmas.{on_map}
 use Rattle.ref_directories.proofs.OfferedLemmas.{ok_four, given, not_given}
 use Rattle.ref_directories.proofs.offering.offer_one.Goals as goal
 
@@ -34,3 +35,6 @@ returns-in-Given-clause-stops g c = ok_four c.give_folder.result _ _ _ _ _ (λ g
       next = ap (λ (l : LiveTable). folders_at r f c.args.folders l k.state) (none never) ∙ sym (ap (λ (x : Reaction (Reference g.H.Host.State)). x.next) is);
       seen = before ∙ sym (ap (λ (x : Reaction (Reference g.H.Host.State)). base ++ x.seen) is);
     })) c.give_folder.ensures.fits c.give_folder.ensures.handle c.give_folder.ensures.value c.give_folder.ensures.none
+
+pub returns-in-Given-clause-keeps : goal.returns-in-Given-clause-keeps
+returns-in-Given-clause-keeps g c = on_map c.give_folder.result _ _ (λ keeps inside. keeps (length c.args.folders.trees.now) (ap (offer_inside (length c.args.folders.trees.now)) (sym c.in-Given.is) ∙ inside)) c.give_folder.ensures.keeps

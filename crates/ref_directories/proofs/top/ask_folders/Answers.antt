@@ -1,6 +1,7 @@
 use Rattle.std.proofs.Common.{refl, sym, ap, ◌∙◌}
 use Rattle.host_port.specs.Calls.{Gives, Trap, Ended, Bad, plain_answer, plain_option}
 use Rattle.reference_step.specs.Steps.{folders_gave, to_host}
+use Rattle.ref_contents.proofs.KeepLaws.{on_always}
 use Rattle.ref_host_calls.specs.Requests.{listed_of, call_of}
 use Rattle.ref_host_calls.proofs.AskLemmas.{reacts_as, reacts_on, seen_then}
 use Rattle.ref_directories.specs.Offers.{folders_at}
@@ -39,3 +40,6 @@ returns-in-Bad-clause-reaction g c = λ f r holds.
     let is = ap plain_answer (sym c.in-Bad.is) ∙ c.in_ok-value.ensures.answer f at in
     reacts_as g.H.Host.step at (to_host g.H.Host.step at (listed_of c.args.request) (call_of c.args.request)) (λ s seen v. folders_gave g.H.Host.step s seen (listed_of c.args.request) (call_of c.args.request) v) Bad (g.H.Host.kept c.args.inner.now) (g.H.Host.kept c.ask.new.inner) is (c.in_ok-value.ensures.next f at)
     Bad (folders_at r f c.args.folders c.args.live.now (g.H.Host.kept c.ask.new.inner).state) (λ seen. refl)
+
+pub returns-in-Value-clause-typed : goal.returns-in-Value-clause-typed
+returns-in-Value-clause-typed g c = on_always c.give_folders.result _ c.in_ok-value.ensures.typed

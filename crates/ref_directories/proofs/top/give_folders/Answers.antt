@@ -1,4 +1,5 @@
-use Rattle.std.proofs.Common.{◌≡◌, ◌+◌, ◌++◌, ◌*◌, List, [], map, true, false, nat_le, rules, sym, ap, subst, ◌∙◌}
+use Rattle.std.proofs.Common.{◌≡◌, ◌+◌, ◌++◌, ◌*◌, List, [], length, map, true, false, nat_le, rules, sym, ap, subst, ◌∙◌}
+use Rattle.tree_table.specs.Tables.{Forest}
 use Rattle.wit_types.specs.Layout.{align_to}
 use Rattle.wit_types.specs.PlainValue.{PlainValue, plain_value}
 use Rattle.policy_data.specs.declared.policy.Policy.{Policy}
@@ -13,7 +14,8 @@ use Rattle.ref_guards.specs.Noted.{shown_all as shown_atoms}
 use Rattle.ref_host_calls.specs.Requests.{listed_of, call_of}
 use Rattle.ref_host_calls.specs.Reactions.{IsReaction}
 use Rattle.ref_directories.specs.declared.offers.Offer.{Offer}
-use Rattle.ref_directories.specs.Offers.{folders_at, shown_all}
+use Rattle.ref_directories.specs.Offers.{AreInside, folders_at, shown_all}
+use Rattle.ref_directories.proofs.OfferLemmas.{theirs_inside}
 use Rattle.ref_directories.proofs.OfferedLemmas.{ok_map, folders_heavy, folders_light}
 use Rattle.ref_directories.proofs.top.give_folders.Goals as goal
 
@@ -28,7 +30,7 @@ returns-then-not-is_light_list-clause-reaction g c = λ f r base seen holds befo
     let own = roots_from h 0 c.args.folders.trees.now ++ scratch_offer h policy.fs_scratch in
     let room = c.requires.noted.left ∙ ap (λ (p : Policy). p.transfer_limit) c.requires.policy in
     let atoms = ap shown_atoms c.as_slice-2.ensures.value ∙ c.in_ok-note_result.ensures ∙ ap (λ (xs : List Atom). shown_atoms xs ++ result_atoms ty v) c.new-noted.ensures.items in
-    let these = ap (shown_all h f) c.as_slice.ensures.value ∙ c.in_ok-note_own.ensures f holds
+    let these = ap (shown_all h f) c.as_slice.ensures.value ∙ c.in_ok-note_own.ensures.noted f holds
     ∙ ap (λ (xs : List (PlainOffer h)). xs ++ own) (c.in_ok-note_theirs.ensures f
     ∙ ap (λ (xs : List Offer). shown_all h f xs ++ map (λ x. offer_of h policy x) (list_in (plain_value c.value_of-answer.result))) c.new-offers.ensures.items
     ∙ ap (λ (w : PlainValue). map (λ x. offer_of h policy x) (list_in w)) c.value_of-answer.ensures) in
@@ -51,7 +53,7 @@ returns-clause-reaction g c = ok_map c.offer_all.result _ _ (λ a e f r base see
     let own = roots_from h 0 c.args.folders.trees.now ++ scratch_offer h policy.fs_scratch in
     let room = c.requires.noted.left ∙ ap (λ (p : Policy). p.transfer_limit) c.requires.policy in
     let atoms = ap shown_atoms c.as_slice-2.ensures.value ∙ c.in_ok-note_result.ensures ∙ ap (λ (xs : List Atom). shown_atoms xs ++ result_atoms ty v) c.new-noted.ensures.items in
-    let these = ap (shown_all h f) c.as_slice.ensures.value ∙ c.in_ok-note_own.ensures f holds
+    let these = ap (shown_all h f) c.as_slice.ensures.value ∙ c.in_ok-note_own.ensures.noted f holds
     ∙ ap (λ (xs : List (PlainOffer h)). xs ++ own) (c.in_ok-note_theirs.ensures f
     ∙ ap (λ (xs : List Offer). shown_all h f xs ++ map (λ x. offer_of h policy x) (list_in (plain_value c.value_of-answer.result))) c.new-offers.ensures.items
     ∙ ap (λ (w : PlainValue). map (λ x. offer_of h policy x) (list_in w)) c.value_of-answer.ensures) in
@@ -59,3 +61,17 @@ returns-clause-reaction g c = ok_map c.offer_all.result _ _ (λ a e f r base see
     let is = folders_light h at seen (listed_of c.args.request) (call_of c.args.request) v c.args.request.left room c.given_count-count.result (shown_all h f c.as_slice.result.now) these (c.given_count-count.ensures f) (light_is ∙ light) in
     let same = ap (λ (xs : List Offer). offers h at seen [] (shown_all h f xs)) (c.as_slice-3.ensures.value ∙ sym c.as_slice.ensures.value) in
     subst (λ (x : Reaction (Reference g.H.Host.State)). IsReaction x (plain_answer a) (folders_at r f c.args.folders c.offer_all.new.live (g.H.Host.kept c.offer_all.new.inner).state) base (g.H.Host.kept c.offer_all.new.inner).seen) (same ∙ sym is) (e f r base seen before)) c.offer_all.ensures.reaction
+
+nowhere : Forest
+nowhere = record { roots = 0; rows = [] }
+
+pub offer_all-requires-clause-inside : goal.offer_all-requires-clause-inside
+offer_all-requires-clause-inside g c =
+    let h = g.H.Host.step in
+    let policy = c.args.folders.policy.now in
+    let vs = list_in (plain_value c.value_of-answer.result) in
+    let n = length c.args.folders.trees.now in
+    subst (AreInside n) (sym c.as_slice-3.ensures.value)
+    (c.in_ok-note_own.ensures.inside
+    (theirs_inside h nowhere policy n c.note_theirs.new.offers.items vs
+    (c.in_ok-note_theirs.ensures nowhere ∙ ap (λ (xs : List Offer). shown_all h nowhere xs ++ map (λ x. offer_of h policy x) vs) c.new-offers.ensures.items)))

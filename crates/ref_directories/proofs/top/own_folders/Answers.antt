@@ -13,5 +13,5 @@ returns-clause-reaction g c = ok_map c.offer_all.result _ _ (λ a e f r holds.
     let h = g.H.Host.step in
     let k = g.H.Host.kept c.args.inner.now in
     let own = roots_from h 0 c.args.folders.trees.now ++ scratch_offer h c.args.folders.policy.now.fs_scratch in
-    let these = ap (shown_all h f) c.as_slice.ensures.value ∙ c.in_ok-note_own.ensures f holds ∙ ap (λ (xs : List Offer). shown_all h f xs ++ own) c.new-offers.ensures.items in
+    let these = ap (shown_all h f) c.as_slice.ensures.value ∙ c.in_ok-note_own.ensures.noted f holds ∙ ap (λ (xs : List Offer). shown_all h f xs ++ own) c.new-offers.ensures.items in
     subst (λ (xs : List (PlainOffer h)). IsReaction (offers h (folders_at r f c.args.folders c.args.live.now k.state) [] [] xs) (plain_answer a) (folders_at r f c.args.folders c.offer_all.new.live (g.H.Host.kept c.offer_all.new.inner).state) k.seen (g.H.Host.kept c.offer_all.new.inner).seen) these (e f r k.seen [] (sym (append-nil k.seen)))) c.offer_all.ensures.reaction

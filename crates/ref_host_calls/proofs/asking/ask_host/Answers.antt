@@ -2,7 +2,7 @@ use Rattle.std.proofs.Common.{refl, sym, ap, ◌∙◌}
 use Rattle.host_port.specs.Calls.{Gives, Trap, Ended, Bad, plain_answer, plain_option}
 use Rattle.reference_step.specs.Steps.{host_gave, to_host}
 use Rattle.ref_contents.specs.Contents.{Hosts}
-use Rattle.ref_contents.proofs.KeepLaws.{keeps-same}
+use Rattle.ref_contents.proofs.KeepLaws.{keeps-same, on_always}
 use Rattle.ref_host_calls.specs.Requests.{listed_of, call_of}
 use Rattle.ref_host_calls.specs.Reactions.{state_at}
 use Rattle.ref_host_calls.proofs.AskLemmas.{ok_map, reacts_as}
@@ -44,3 +44,6 @@ returns-in-Ended-clause-keeps g c = keeps-same Hosts _ _ refl
 
 pub returns-in-Bad-clause-keeps : goal.returns-in-Bad-clause-keeps
 returns-in-Bad-clause-keeps g c = keeps-same Hosts _ _ refl
+
+pub returns-in-Value-clause-typed : goal.returns-in-Value-clause-typed
+returns-in-Value-clause-typed g c = on_always c.give.result _ c.in_ok-value.ensures.typed
