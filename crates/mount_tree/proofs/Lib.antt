@@ -9,3 +9,4 @@ pub mod LegalLemmas
 pub mod LimitLemmas
 pub mod TreeLemmas
 pub mod SpotLemmas
+pub mod BuiltTexts

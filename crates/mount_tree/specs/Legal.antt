@@ -1,5 +1,5 @@
 -- The limits that the entries of trees keep.
-use Rattle.std.specs.Prelude.{◌≡◌, ◌≤◌, ◌⊎◌, ℕ, List, [], Bool, true, not, ◌&&◌, All, length}
+use Rattle.std.specs.Prelude.{◌≡◌, ◌≤◌, ◌⊎◌, ℕ, List, [], Bool, true, not, ◌&&◌, All, IsUtf8, length}
 use Rattle.tree_table.specs.declared.entries.Node.{Node}
 use Rattle.tree_table.specs.declared.entries.Node.TheVariants.{Folder, File, Link}
 use Rattle.tree_table.specs.declared.entries.Entry.{Entry}
@@ -17,12 +17,16 @@ is_entry_name name = is_name name && not (holds_byte 47 name)
 abbrev pub AreNames : List (List ℕ) → Type 0
 AreNames names = All (λ name. is_entry_name name ≡ true) names
 
+-- what a link may lead to, in UTF-8
+abbrev pub IsLinkTarget : List ℕ → Type 0
+IsLinkTarget target = (is_target target ≡ true) × IsUtf8 target
+
 abbrev pub KeepsNode : Node → Type 0
 KeepsNode Folder = Unit {0}
 KeepsNode (File bytes) = Unit {0}
-KeepsNode (Link target) = is_target target ≡ true
+KeepsNode (Link target) = IsLinkTarget target
 
--- legal names, at most 64 in a path, and a target that a link may have
+-- legal names, at most 64 in a path, and a target that a link may have, in UTF-8
 pub record IsLegal (entry : Entry) : Type 0 where
   pub names : AreNames entry.path
   pub few : length entry.path ≤ 64
@@ -42,7 +46,7 @@ pub record IsPlace (path : List ℕ) : Type 0 where
 abbrev pub IsOther : Node → Type 0
 IsOther Folder = Unit {0}
 IsOther (File bytes) = ⊥
-IsOther (Link target) = is_target target ≡ true
+IsOther (Link target) = IsLinkTarget target
 
 -- the path of a folder, which is empty for the root
 abbrev pub IsFolderPath : List ℕ → Type 0

@@ -26,8 +26,8 @@ pub record IsWood (forest : Forest) : Type 0 where
   pub held : made_bytes forest.trees ≤ forest.bytes
   pub light : forest.bytes ≤ 67108864
 
--- Trees that a table can be made of, within the limits of trees: legal names without `/`, at most 64 in a path, targets that links may have,
--- and at most 67,108,864 bytes in files.
+-- Trees that a table can be made of, within the limits of trees: legal names without `/`, at most 64 in a path, targets in UTF-8 that links may
+-- have, and at most 67,108,864 bytes in files.
 pub record AreBuilt (trees : List NamedTree) : Type 0 where
   pub sound : AreTrees trees
   pub legal : All (λ tree. AreLegal tree.entries) trees
