@@ -1,5 +1,5 @@
 -- What reading a file of a run comes to.
-use Rattle.std.specs.Prelude.{ℕ, ◌≡◌, ◌≤◌, ◌<◌, ◌⊎◌, List, true, Option, Some, None, IsSome, Result, IfErr, IfOk, length, Vec}
+use Rattle.std.specs.Prelude.{ℕ, ◌≡◌, ◌≤◌, ◌<◌, ◌⊎◌, List, true, Some, None, IsSome, Result, IfErr, IfOk, length, Vec}
 use Rattle.std.specs.declared.alloc.Global.{Global}
 use Rattle.outside.specs.Fault.{Rose}
 use Rattle.outside.specs.Files.{FilesState, Goes}

@@ -1,13 +1,14 @@
-ghost use Rattle.run_inputs.specs.Inputs.{FetchesComponent, FetchesScript, FetchesInputs};
+ghost use Rattle.run_inputs.specs.Inputs.{FetchesApplication, FetchesComponent, FetchesInputs, FetchesListed, FetchesScript};
 
 use crate::fetching::fetch;
 use crate::unready::Unready;
 use comp_signature::ComponentType;
 use host_script::Script;
 use outside::Files;
-use run_judge::{Judged, judge_component, judge_script};
+use run_judge::{Application, Judged, judge_application, judge_component, judge_script};
 use std::alloc::Global;
 use virt_base::Text;
+use wasi_match::Listed;
 
 /// A component has at most so many bytes.
 const COMPONENT_LIMIT: u64 = 201_326_592;
@@ -22,6 +23,13 @@ pub struct Inputs {
     pub script: Script,
 }
 
+/// What a run under a policy begins with, beside the policy: what the component imports of the listed interfaces, too.
+#[derive(Drop)]
+pub struct ListedInputs {
+    pub inputs: Inputs,
+    pub listed: Listed,
+}
+
 /// The component of a file. Its bytes are let go.
 fn fetch_component<F: Files>(alloc: Global, name: &Text, files: &mut F) -> Result<Judged, Unready>
     ensures { FetchesComponent name.now (F.state files.old) (F.state files.new) result }
@@ -29,6 +37,21 @@ fn fetch_component<F: Files>(alloc: Global, name: &Text, files: &mut F) -> Resul
     let bytes = fetch(alloc, name, "component-bytes", COMPONENT_LIMIT, files)?;
     match judge_component(alloc, bytes.as_slice()) {
         Ok(judged) => Ok(judged),
+        Err(refusal) => Err(Unready::Refused(refusal)),
+    }
+}
+
+/// The listed component of a file. Its bytes are let go.
+fn fetch_application<F: Files>(
+    alloc: Global,
+    name: &Text,
+    files: &mut F,
+) -> Result<Application, Unready>
+    ensures { FetchesApplication name.now (F.state files.old) (F.state files.new) result }
+{
+    let bytes = fetch(alloc, name, "component-bytes", COMPONENT_LIMIT, files)?;
+    match judge_application(alloc, bytes.as_slice()) {
+        Ok(application) => Ok(application),
         Err(refusal) => Err(Unready::Refused(refusal)),
     }
 }
@@ -62,4 +85,22 @@ pub fn fetch_inputs<F: Files>(
     let judged = fetch_component(alloc, component, files)?;
     let script = fetch_script(alloc, script, &judged.ty, files)?;
     Ok(Inputs { judged, script })
+}
+
+/// The same of a run under a policy: the component has to be listed.
+pub fn fetch_listed<F: Files>(
+    alloc: Global,
+    component: &Text,
+    script: &Text,
+    files: &mut F,
+) -> Result<ListedInputs, Unready>
+    ensures { FetchesListed component.now script.now (F.state files.old) (F.state files.new) result }
+{
+    let application = fetch_application(alloc, component, files)?;
+    let script = fetch_script(alloc, script, &application.judged.ty, files)?;
+    let Application { judged, listed } = application;
+    Ok(ListedInputs {
+        inputs: Inputs { judged, script },
+        listed,
+    })
 }

@@ -5,5 +5,6 @@ mod fetching;
 mod inputs;
 mod unready;
 
-pub use inputs::{Inputs, fetch_inputs};
+pub use fetching::fetch;
+pub use inputs::{Inputs, ListedInputs, fetch_inputs, fetch_listed};
 pub use unready::Unready;

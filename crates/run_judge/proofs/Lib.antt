@@ -1,3 +1,6 @@
+pub mod Applications
 pub mod Judging
 pub mod LastSeen
+pub mod Listing
+pub mod Refusals
 pub mod Verdicts

@@ -1,57 +1,87 @@
 -- A component that can be run is not refused.
-use Rattle.std.proofs.Common.{◌≡◌, ◌∙◌, ℕ, ◌≤◌, ◌<◌, List, refl, sym, subst, length, inl, inr, arith}
-use Rattle.std.specs.Prelude.{Some, None, Err}
+use Rattle.std.proofs.Common.{◌≡◌, ◌≢◌, ◌∙◌, ℕ, ◌≤◌, ◌<◌, List, refl, sym, subst, length, inl, inr, arith}
+use Rattle.std.specs.Prelude.{Some, None}
 use Rattle.virt_base.specs.declared.fault.AppFault.{AppFault}
 use Rattle.virt_base.specs.declared.fault.AppFault.TheVariants.{Malformed, Unsupported, Invalid, Unlisted, WrongType, TwoVersions, HandleExport}
 use Rattle.comp_grammar.specs.Trees.{Tree}
 use Rattle.comp_read.specs.Answers.{IsTheComponent}
 use Rattle.comp_types.specs.Added.{type_of}
+use Rattle.comp_types.specs.Items.{Signature}
 use Rattle.comp_types.specs.Validity.{BreaksComponent}
 use Rattle.comp_types.proofs.VerdictLaws.{valid_breaks_nothing}
 use Rattle.code_sizes.specs.Sizes.{tree_code}
+use Rattle.wasi_match.specs.declared.listed.ListedUse.{ListedUse}
+use Rattle.wasi_match.specs.declared.fault.Cause.{Cause}
+use Rattle.wasi_match.specs.declared.fault.Cause.TheVariants as causes
+use Rattle.wasi_match.specs.Listed.{IsListed}
+use Rattle.wasi_match.specs.Verdicts.{Accepted, Refused as RefusedFor, IsRefused}
+use Rattle.wasi_match.proofs.VerdictLaws.{one_verdict as one_listing}
 use Rattle.run_judge.specs.declared.refusal.RunRefusal.{RunRefusal}
 use Rattle.run_judge.specs.declared.refusal.RunRefusal.TheVariants.{Refused, OverLimit, BadScript, NoMemory}
 use Rattle.run_judge.specs.Types.{type_fault}
-use Rattle.run_judge.specs.Components.{component_limit, code_limit, IsRunnable, HasMuchCode, IsTooMuch, IsMisfit, IsRefusal, HasOneVerdict}
+use Rattle.run_judge.specs.Components.{component_limit, code_limit, Faulting, IsSound, IsUnfit, HasMuchCode, IsTooMuch, IsMisfit, IsRefusalBy, HasOneVerdict}
+use Rattle.run_judge.specs.Applications.{IsUnlisted, HasOneListing}
 
-same_tree : (bytes : List ℕ) (tree u : Tree) → IsRunnable bytes tree → IsTheComponent u bytes → u ≡ tree
-same_tree bytes tree u a h = a.sound.small.spelled.1 u h.0.0
+module _ (AtFault : Faulting) (bytes : List ℕ) (tree : Tree) (a : IsSound bytes tree) (fits : (fault : AppFault) → AtFault (type_of tree) fault → ⊥) where
+  same_tree : (u : Tree) → IsTheComponent u bytes → u ≡ tree
+  same_tree u h = a.small.spelled.1 u h.0.0
 
-fitting : (bytes : List ℕ) (tree : Tree) (fault : AppFault) → IsRunnable bytes tree → IsMisfit bytes fault → ⊥
-fitting bytes tree fault a h =
-    let same : h.0 ≡ tree = same_tree bytes tree h.0 a h.1.small.spelled in
-    let at_fault : type_fault (type_of tree) ≡ Some fault = subst (λ (t : Tree). type_fault (type_of t) ≡ Some fault) same h.2 in
-    let never : None ≡ Some fault = sym a.fits ∙ at_fault in
-    cc
+  fitting : (fault : AppFault) → IsMisfit AtFault bytes fault → ⊥
+  fitting fault h = fits fault (subst (λ (t : Tree). AtFault (type_of t) fault) (same_tree h.0 h.1.small.spelled) h.2)
 
-little_code : (bytes : List ℕ) (tree : Tree) (value : ℕ) → IsRunnable bytes tree → HasMuchCode bytes value → ⊥
-little_code bytes tree value a h =
-    let same : h.tree ≡ tree = same_tree bytes tree h.tree a h.spelled in
-    let much : code_limit < tree_code bytes tree = subst (λ (t : Tree). code_limit < tree_code bytes t) same h.much in
-    let few : tree_code bytes tree ≤ code_limit = a.sound.small.code in
-    omega (arith, much, few)
+  little_code : (value : ℕ) → HasMuchCode bytes value → ⊥
+  little_code value h =
+      let same : h.tree ≡ tree = same_tree h.tree h.spelled in
+      let much : code_limit < tree_code bytes tree = subst (λ (t : Tree). code_limit < tree_code bytes t) same h.much in
+      let few : tree_code bytes tree ≤ code_limit = a.small.code in
+      omega (arith, much, few)
 
-within : (bytes what : List ℕ) (tree : Tree) (value : ℕ) → IsRunnable bytes tree → IsTooMuch bytes what value → ⊥
-within bytes what tree value a h = elim h [
-  | inl long ↦ (let short : length bytes ≤ component_limit = a.sound.small.short in omega (arith, short, long.1))
-  | inr later ↦ (elim later [
-    | inl deep ↦ deep.1.1.2 tree a.sound.small.spelled.0
-    | inr much ↦ little_code bytes tree value a much.1
-  ])
-]
+  within : (what : List ℕ) (value : ℕ) → IsTooMuch bytes what value → ⊥
+  within what value h = elim h [
+    | inl long ↦ (let short : length bytes ≤ component_limit = a.small.short in omega (arith, short, long.1))
+    | inr later ↦ (elim later [
+      | inl deep ↦ deep.1.1.2 tree a.small.spelled.0
+      | inr much ↦ little_code value much.1
+    ])
+  ]
 
-runs : (bytes : List ℕ) (tree : Tree) (e : RunRefusal) → IsRunnable bytes tree → (e ≡ NoMemory → ⊥) → IsRefusal bytes e → ⊥
-runs bytes tree (Refused (Malformed at)) a some h = h.1.1 tree a.sound.small.spelled.0
-runs bytes tree (Refused (Unsupported at byte)) a some h = h.1.1 tree a.sound.small.spelled.0
-runs bytes tree (Refused (Invalid rule section)) a some h =
-    valid_breaks_nothing tree rule section a.sound.valid (subst (λ (t : Tree). BreaksComponent t rule section) (same_tree bytes tree h.0 a h.1.spelled) h.2)
-runs bytes tree (Refused (Unlisted name)) a some h = fitting bytes tree (Unlisted name) a h
-runs bytes tree (Refused (HandleExport name)) a some h = fitting bytes tree (HandleExport name) a h
-runs bytes tree (Refused (WrongType name)) a some h = h
-runs bytes tree (Refused (TwoVersions name)) a some h = h
-runs bytes tree (OverLimit what value) a some h = within bytes what tree value a h
-runs bytes tree (BadScript path) a some h = h
-runs bytes tree NoMemory a some h = some refl
+  stands : (e : RunRefusal) → e ≢ NoMemory → IsRefusalBy AtFault bytes e → ⊥
+  stands (Refused (Malformed at)) some h = h.1.1 tree a.small.spelled.0
+  stands (Refused (Unsupported at byte)) some h = h.1.1 tree a.small.spelled.0
+  stands (Refused (Invalid rule section)) some h =
+      valid_breaks_nothing tree rule section a.valid (subst (λ (t : Tree). BreaksComponent t rule section) (same_tree h.0 h.1.spelled) h.2)
+  stands (Refused (Unlisted name)) some h = fitting (Unlisted name) h
+  stands (Refused (HandleExport name)) some h = fitting (HandleExport name) h
+  stands (Refused (WrongType name)) some h = fitting (WrongType name) h
+  stands (Refused (TwoVersions name)) some h = fitting (TwoVersions name) h
+  stands (OverLimit what value) some h = within what value h
+  stands (BadScript path) some h = h
+  stands NoMemory some h = some refl
+
+-- ---- over a script alone
+
+no_fault : (ty : Signature) (fault : AppFault) → type_fault ty ≡ None → IsUnfit ty fault → ⊥
+no_fault ty fault fits at = let never : None ≡ Some fault = sym fits ∙ at in cc
 
 pub one_verdict : HasOneVerdict
-one_verdict = λ bytes tree e a some h. runs bytes tree e a some h
+one_verdict = λ bytes tree e a some h. stands IsUnfit bytes tree a.sound (λ fault at. no_fault (type_of tree) fault a.fits at) e some h
+
+-- ---- under a policy
+
+accepted_or_refused : (uses : List ListedUse) (cause : Cause) (name : List ℕ) → Accepted uses ≡ RefusedFor cause name → ⊥
+accepted_or_refused uses cause name e = cc
+
+not_listed : (ty : Signature) (uses : List ListedUse) (cause : Cause) (name : List ℕ) → IsListed ty uses → IsRefused cause ty name → ⊥
+not_listed ty uses cause name l h = accepted_or_refused uses cause name (one_listing ty (Accepted uses) (RefusedFor cause name) l h)
+
+listed_stands : (ty : Signature) (uses : List ListedUse) (fault : AppFault) → IsListed ty uses → IsUnlisted ty fault → ⊥
+listed_stands ty uses (Unlisted name) l h = not_listed ty uses causes.Unlisted name l h
+listed_stands ty uses (WrongType name) l h = not_listed ty uses causes.WrongType name l h
+listed_stands ty uses (TwoVersions name) l h = not_listed ty uses causes.TwoVersions name l h
+listed_stands ty uses (HandleExport name) l h = not_listed ty uses causes.HandleExport name l h
+listed_stands ty uses (Malformed at) l h = h
+listed_stands ty uses (Unsupported at byte) l h = h
+listed_stands ty uses (Invalid rule section) l h = h
+
+pub one_application : HasOneListing
+one_application = λ bytes tree uses e a some h. stands IsUnlisted bytes tree a.sound (λ fault at. listed_stands (type_of tree) uses fault a.listed at) e some h

@@ -7,6 +7,7 @@ use Rattle.comp_grammar.specs.Trees.{Tree, plain}
 use Rattle.comp_read.specs.Answers.{IsTheComponent, Answers as ReadAnswers}
 use Rattle.comp_read.specs.declared.reading.CompReadFault.{CompReadFault}
 use Rattle.comp_read.specs.declared.reading.CompReadFault.TheVariants as read_faults
+use Rattle.comp_types.specs.Items.{Signature}
 use Rattle.comp_types.specs.Added.{type_of}
 use Rattle.comp_types.specs.Validity.{IsValidComponent, BreaksComponent}
 use Rattle.comp_signature.specs.declared.ComponentType.{ComponentType}
@@ -61,20 +62,33 @@ IsTooMuch bytes what value =
     ⊎ (((what ≡ codes "nesting") × IsUnread bytes (Err (read_faults.TooNested value)))
     ⊎ ((what ≡ codes "code-bytes") × HasMuchCode bytes value))
 
-abbrev pub IsMisfit : List ℕ → AppFault → Type 0
-IsMisfit bytes fault = (tree : Tree) × IsSound bytes tree × (type_fault (type_of tree) ≡ Some fault)
+-- which types are at fault, and how
+abbrev pub Faulting : Type 1
+Faulting = Signature → AppFault → Type 0
+
+-- a component is sound whose type is at fault
+abbrev pub IsMisfit : Faulting → List ℕ → AppFault → Type 0
+IsMisfit AtFault bytes fault = (tree : Tree) × IsSound bytes tree × AtFault (type_of tree) fault
+
+-- why bytes are refused, where a type is refused by its imports and its exports so
+abbrev pub IsRefusalBy : Faulting → List ℕ → RunRefusal → Type 0
+IsRefusalBy AtFault bytes (Refused (Malformed at)) = IsUnread bytes (Err (read_faults.Malformed at))
+IsRefusalBy AtFault bytes (Refused (Unsupported at byte)) = IsUnread bytes (Err (read_faults.Unsupported at byte))
+IsRefusalBy AtFault bytes (Refused (Invalid rule section)) = (tree : Tree) × IsSmall bytes tree × BreaksComponent tree rule section
+IsRefusalBy AtFault bytes (Refused (Unlisted name)) = IsMisfit AtFault bytes (Unlisted name)
+IsRefusalBy AtFault bytes (Refused (WrongType name)) = IsMisfit AtFault bytes (WrongType name)
+IsRefusalBy AtFault bytes (Refused (TwoVersions name)) = IsMisfit AtFault bytes (TwoVersions name)
+IsRefusalBy AtFault bytes (Refused (HandleExport name)) = IsMisfit AtFault bytes (HandleExport name)
+IsRefusalBy AtFault bytes (OverLimit what value) = IsTooMuch bytes what value
+IsRefusalBy AtFault bytes (BadScript path) = ⊥
+IsRefusalBy AtFault bytes NoMemory = Unit {0}
+
+-- a host that answers by a script cannot run it
+abbrev pub IsUnfit : Signature → AppFault → Type 0
+IsUnfit ty fault = type_fault ty ≡ Some fault
 
 abbrev pub IsRefusal : List ℕ → RunRefusal → Type 0
-IsRefusal bytes (Refused (Malformed at)) = IsUnread bytes (Err (read_faults.Malformed at))
-IsRefusal bytes (Refused (Unsupported at byte)) = IsUnread bytes (Err (read_faults.Unsupported at byte))
-IsRefusal bytes (Refused (Invalid rule section)) = (tree : Tree) × IsSmall bytes tree × BreaksComponent tree rule section
-IsRefusal bytes (Refused (Unlisted name)) = IsMisfit bytes (Unlisted name)
-IsRefusal bytes (Refused (HandleExport name)) = IsMisfit bytes (HandleExport name)
-IsRefusal bytes (Refused (WrongType name)) = ⊥
-IsRefusal bytes (Refused (TwoVersions name)) = ⊥
-IsRefusal bytes (OverLimit what value) = IsTooMuch bytes what value
-IsRefusal bytes (BadScript path) = ⊥
-IsRefusal bytes NoMemory = Unit {0}
+IsRefusal bytes refusal = IsRefusalBy IsUnfit bytes refusal
 
 -- ---- what is answered
 
@@ -87,7 +101,20 @@ Judges bytes (Err refusal) = IsRefusal bytes refusal
 abbrev pub HasOneVerdict : Type 0
 HasOneVerdict = (bytes : List ℕ) (tree : Tree) (refusal : RunRefusal) → IsRunnable bytes tree → refusal ≢ NoMemory → IsRefusal bytes refusal → ⊥
 
+-- of two refusals beside want of memory both are the same
+abbrev pub HasOneRefusal : (List ℕ → RunRefusal → Type 0) → Type 0
+HasOneRefusal Refuses = (bytes : List ℕ) (a b : RunRefusal) → a ≢ NoMemory → b ≢ NoMemory → Refuses bytes a → Refuses bytes b → a ≡ b
+
 -- ---- for private clauses
+
+-- no type is at fault
+abbrev pub IsNeverAtFault : Signature → AppFault → Type 0
+IsNeverAtFault ty fault = ⊥
+
+-- of bytes: a sound component with its type, or why there is none
+abbrev pub JudgesSound : List ℕ → Result Judged RunRefusal → Type 0
+JudgesSound bytes (Ok j) = IsSound bytes (plain j.component) × (component_signature j.ty ≡ type_of (plain j.component))
+JudgesSound bytes (Err refusal) = IsRefusalBy IsNeverAtFault bytes refusal
 
 -- of bytes, whatever their length
 abbrev pub Reads : List ℕ → Result Component RunRefusal → Type 0

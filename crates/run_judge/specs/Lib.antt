@@ -1,3 +1,4 @@
+pub mod Applications
 pub mod Components
 pub mod Ends
 pub mod Limits

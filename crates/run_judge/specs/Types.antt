@@ -1,6 +1,6 @@
 -- Which types of components can be run by a host that answers by a script: each import is an instance of functions and types, and no
 -- export holds a resource type or a handle. (The choice of this project.)
-use Rattle.std.specs.Prelude.{ℕ, ◌≡◌, List, Bool, true, false, ◌&&◌, Option, Some, None, option_map, Result, Ok, Err, if◌then◌else◌}
+use Rattle.std.specs.Prelude.{◌≡◌, Bool, true, false, Option, Some, None, option_map, Result, Ok, Err, if◌then◌else◌}
 use Rattle.virt_base.specs.declared.fault.AppFault.{AppFault}
 use Rattle.virt_base.specs.declared.fault.AppFault.TheVariants.{Unlisted, HandleExport}
 use Rattle.wit_types.specs.Plain.{Name}

@@ -1,7 +1,7 @@
 #![tactic(auto, using(crate::proofs::Judging::nested))]
 
 ghost use Rattle.comp_grammar.specs.Trees.{plain};
-ghost use Rattle.run_judge.specs.Components.{Reads, HasFewCode, Validates, Judges, HasOneVerdict};
+ghost use Rattle.run_judge.specs.Components.{Reads, HasFewCode, Validates, Judges, JudgesSound};
 ghost use Rattle.run_judge.specs.Types.{Fits};
 
 use crate::limits::{too_nested, within};
@@ -68,11 +68,10 @@ fn type_of(alloc: Global, component: &Component) -> Result<ComponentType, RunRef
     }
 }
 
-/// The component that the bytes spell, with its type, where it can be run. Its length, its reading, how much code it holds, its
-/// validity, its imports and its exports are asked in this order, and the first fault is the answer. Each import has to be an instance
-/// of functions and types, and no export may hold a resource type or a handle.
-pub fn judge_component(alloc: Global, bytes: &[u8]) -> Result<Judged, RunRefusal>
-    ensures { Judges bytes.now result }
+/// The component that the bytes spell, with its type, where it is valid and keeps the limits. Its length, its reading, how much code it
+/// holds and its validity are asked in this order, and the first fault is the answer.
+pub fn sound_component(alloc: Global, bytes: &[u8]) -> Result<Judged, RunRefusal>
+    ensures { JudgesSound bytes.now result }
 {
     within(
         alloc,
@@ -83,11 +82,16 @@ pub fn judge_component(alloc: Global, bytes: &[u8]) -> Result<Judged, RunRefusal
     let component = read(alloc, bytes)?;
     test_code(alloc, bytes, &component)?;
     let ty = type_of(alloc, &component)?;
-    test_type(alloc, &ty)?;
     Ok(Judged { component, ty })
 }
 
-/// No component that can be run is refused.
-pub fn has_one_verdict()
-    ensures { HasOneVerdict }
-{}
+/// The component that the bytes spell, with its type, where a host that answers by a script can run it: behind what every component is
+/// asked, its imports and then its exports. Each import has to be an instance of functions and types, and no export may hold a
+/// resource type or a handle.
+pub fn judge_component(alloc: Global, bytes: &[u8]) -> Result<Judged, RunRefusal>
+    ensures { Judges bytes.now result }
+{
+    let judged = sound_component(alloc, bytes)?;
+    test_type(alloc, &judged.ty)?;
+    Ok(judged)
+}

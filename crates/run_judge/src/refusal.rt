@@ -1,4 +1,5 @@
 use virt_base::{AppFault, NoMemory, Text};
+use wasi_match::MatchFault;
 
 /// Why nothing is run.
 #[derive(Debug, Drop)]
@@ -20,5 +21,22 @@ impl From<NoMemory> for RunRefusal {
 
     fn from(_: NoMemory) -> RunRefusal {
         RunRefusal::NoMemory
+    }
+}
+
+impl From<MatchFault> for RunRefusal {
+    ghost use Rattle.std.specs.Prelude.{◌≡◌};
+    ghost use Rattle.run_judge.specs.Applications.{refusal_of};
+
+    ghost from_gives = { λ fault refusal. refusal ≡ refusal_of fault };
+
+    fn from(fault: MatchFault) -> RunRefusal {
+        match fault {
+            MatchFault::Unlisted(name) => RunRefusal::Refused(AppFault::Unlisted(name)),
+            MatchFault::TwoVersions(name) => RunRefusal::Refused(AppFault::TwoVersions(name)),
+            MatchFault::WrongType(name) => RunRefusal::Refused(AppFault::WrongType(name)),
+            MatchFault::HandleExport(name) => RunRefusal::Refused(AppFault::HandleExport(name)),
+            MatchFault::NoMemory => RunRefusal::NoMemory,
+        }
     }
 }

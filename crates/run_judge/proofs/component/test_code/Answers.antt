@@ -1,4 +1,3 @@
-use Rattle.std.proofs.Common.{rules}
 use Rattle.comp_grammar.specs.Trees.{plain}
 use Rattle.run_judge.proofs.Judging.{few_code}
 use Rattle.run_judge.proofs.component.test_code.Goals as goal

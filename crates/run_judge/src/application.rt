@@ -1,0 +1,27 @@
+ghost use Rattle.std.specs.Prelude.{IfOk, Ok};
+ghost use Rattle.run_judge.specs.Applications.{JudgesApplication};
+ghost use Rattle.run_judge.specs.Components.{Judges};
+
+use crate::component::{Judged, sound_component};
+use crate::refusal::RunRefusal;
+use std::alloc::Global;
+use wasi_match::{Listed, match_imports};
+
+/// A component that can be run under a policy, and what it imports of the listed interfaces.
+#[derive(Drop)]
+pub struct Application {
+    pub judged: Judged,
+    pub listed: Listed,
+}
+
+/// The component that the bytes spell, with its type, where it is listed: behind what every component is asked, its imports and then
+/// its exports.
+pub fn judge_application(alloc: Global, bytes: &[u8]) -> Result<Application, RunRefusal>
+    ensures listed { JudgesApplication bytes.now result }
+    // A listed component can be run over a host that answers by a script as well.
+    ensures runs { IfOk result (λ application. Judges bytes.now (Ok application.judged)) }
+{
+    let judged = sound_component(alloc, bytes)?;
+    let listed = match_imports(alloc, &judged.ty)?;
+    Ok(Application { judged, listed })
+}
