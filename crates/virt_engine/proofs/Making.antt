@@ -1,5 +1,5 @@
 -- A component that was judged can be made.
-use Rattle.std.proofs.Common.{◌≡◌, ℕ, List, [], Ok}
+use Rattle.std.proofs.Common.{◌≡◌, [], Ok}
 use Rattle.comp_grammar.specs.Trees.{plain}
 use Rattle.comp_types.specs.Added.{after_tree, root}
 use Rattle.comp_link.specs.Plans.{plan_of}

@@ -5,6 +5,7 @@ use Rattle.outside.specs.Files.{FilesState, Held, Goes}
 use Rattle.outside.proofs.FailingLaws.{Rose-before}
 use Rattle.policy_data.specs.declared.policy.Policy.{Policy}
 use Rattle.mount_tree.specs.Building.{trees_due}
+use Rattle.tree_table.specs.declared.entries.NamedTree.{NamedTree}
 use Rattle.comp_types.specs.Items.{Signature}
 use Rattle.virt_engine.specs.declared.app.App.{App}
 use Rattle.virt_engine.specs.declared.plan.Ready.{Ready}
@@ -12,17 +13,17 @@ use Rattle.virt_engine.specs.declared.status.Status.{Status}
 use Rattle.virt_engine.specs.declared.status.Status.TheVariants.{Done, PolicyRefused, AppRefused, FileFault, SinkFault, OverLimit, NoMemory, ScriptRefused, Trapped, ScriptEnded, StepsSpent, BadAnswer, TooDeep, Usage}
 use Rattle.virt_engine.specs.Command.{Command}
 use Rattle.virt_engine.specs.Fetching.{with_input, IsFileFault}
-use Rattle.virt_engine.specs.Policies.{policy_limit, policy_due, with_policy, IsPolicyVerdict, HasPolicy, PolicyCause, FetchesPolicy}
+use Rattle.virt_engine.specs.Policies.{policy_limit, policy_due, with_policy, IsPolicyVerdict, IsPolicyFile, HasPolicy, PolicyCause, FetchesPolicy}
 use Rattle.virt_engine.specs.Apps.{IsRefusedBy, IsAppFile, HasApp, HasTypedApp, HasRefused, AppCause, FetchesApp}
 use Rattle.virt_engine.specs.PolicyTrees.{trees_verdict, HasTrees, TreesCause, MakesTrees}
 use Rattle.virt_engine.specs.Line.{done_text, status_text}
 use Rattle.virt_engine.specs.Output.{IsOutputOf, output_bytes}
-use Rattle.virt_engine.specs.Plan.{IsPolicyFile, IsDueUnder, IsDueOf, NoFileDue, written_by, RefusalOf, Plans}
+use Rattle.virt_engine.specs.Plan.{IsDueUnder, IsDueOf, NoFileDue, written_by, RefusalOf, Plans}
 use Rattle.virt_engine.proofs.Adding.{goes_on}
 
 -- ---- files that are due
 
-fault_named : (status : Status) → IsFileFault status → (name : List ℕ) × (status ≡ FileFault name)
+pub fault_named : (status : Status) → IsFileFault status → (name : List ℕ) × (status ≡ FileFault name)
 fault_named (FileFault name) h = (name, refl)
 fault_named Done h = absurd h
 fault_named (PolicyRefused fault) h = absurd h
@@ -39,11 +40,11 @@ fault_named TooDeep h = absurd h
 fault_named Usage h = absurd h
 
 -- there, unless its absence is what is due
-there : (file : Option (List ℕ)) → (file ≡ None → ⊥) → IsSome file
+pub there : (file : Option (List ℕ)) → (file ≡ None → ⊥) → IsSome file
 there None never = absurd (never refl)
 there (Some bytes) never = refl
 
-policy_absent : (held : Held) (name : List ℕ) → held.file name ≡ None → IsPolicyVerdict held name (FileFault name)
+pub policy_absent : (held : Held) (name : List ℕ) → held.file name ≡ None → IsPolicyVerdict held name (FileFault name)
 policy_absent held name none = λ next. ap (λ (file : Option (List ℕ)). with_input file (codes "policy-bytes") policy_limit name (λ text. with_policy (policy_due text) next)) none
 
 module _ (c : Command) (s : FilesState) where
@@ -80,7 +81,7 @@ module _ (c : Command) (s : FilesState) where
 
 -- ---- behind the policy
 
-policy_file : (name : List ℕ) (s : FilesState) (policy : Policy) → HasPolicy name s policy → s.told ≡ true → IsPolicyFile s.held name policy
+pub policy_file : (name : List ℕ) (s : FilesState) (policy : Policy) → HasPolicy name s policy → s.told ≡ true → IsPolicyFile s.held name policy
 policy_file name s policy h told = record { text = h.text; there = h.there told; short = h.short; well_formed = h.well_formed }
 
 app_file : (name : List ℕ) (s : FilesState) (bytes : List ℕ) → HasApp name s bytes → s.told ≡ true → IsAppFile s.held name bytes
@@ -186,7 +187,7 @@ module _ (c : Command) (policy : Policy) (s t : FilesState) (p : FetchesPolicy c
       fine_left : s.told ≡ true → NoFileDue s.held c → ¬ (IsFileFault (trees_verdict u.held policy Done))
       fine_left told fine h = let named = fault_named (trees_verdict u.held policy Done) h in fine named.0 (by_trees told (FileFault named.0) named.1)
 
-      module _ (q : Result (Unit {0}) Status) (m : MakesTrees policy u w q) where
+      module _ (q : Result (List NamedTree) Status) (m : MakesTrees policy u w q) where
         quiet_trees : s.told ≡ true → s.steady ≡ true → NoFileDue s.held c → w.faults ≡ s.faults
         quiet_trees told steady fine = (m.quiet (told_u told) (goes_u.steady steady) (fine_left told fine)).0 ∙ quiet_app told steady fine
 
@@ -218,7 +219,7 @@ module _ (c : Command) (policy : Policy) (s t : FilesState) (p : FetchesPolicy c
         quiet = λ told steady fine. (quiet_trees (Err e) m told steady fine, (m.quiet (told_u told) (goes_u.steady steady) (fine_left told fine)).1);
       }
 
-      module _ (m : MakesTrees policy u w (Ok tt)) where
+      module _ (built : List NamedTree) (m : MakesTrees policy u w (Ok built)) where
         has_trees : HasTrees policy s
         has_trees = record {
           forest = m.trees.forest;
@@ -232,7 +233,7 @@ module _ (c : Command) (policy : Policy) (s t : FilesState) (p : FetchesPolicy c
           stays = m.stays ∙ stays_u;
           ready = tt;
           refusal = tt;
-          quiet = λ told steady fine. (quiet_trees (Ok tt) m told steady fine, λ (b : ⊥). b);
+          quiet = λ told steady fine. (quiet_trees (Ok built) m told steady fine, λ (b : ⊥). b);
         }
 
         pub plans_ready : (ready : Ready) → written_by ready ≡ output_bytes app.bytes.items app.ty.exports → IsOutputOf app.bytes.items (written_by ready)
@@ -254,7 +255,7 @@ module _ (c : Command) (policy : Policy) (s t : FilesState) (p : FetchesPolicy c
             fault_line = line;
           };
           refusal = tt;
-          quiet = λ told steady fine. (quiet_trees (Ok tt) m told steady fine, tt);
+          quiet = λ told steady fine. (quiet_trees (Ok built) m told steady fine, tt);
         }
 
 -- ---- an answer that is handed on

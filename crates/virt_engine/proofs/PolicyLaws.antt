@@ -1,6 +1,8 @@
 -- The policy that a text stands for, and the status that a fault of it calls for.
-use Rattle.std.proofs.Common.{◌≡◌, ℕ, List, Bool, true, false, refl, ap, subst, ◌∙◌, inr, inl, Ok, Err}
-use Rattle.std.specs.Prelude.{Some, None, Result, IsUtf8}
+use Rattle.std.proofs.Common.{◌≡◌, ℕ, ◌≤◌, List, Bool, true, false, refl, sym, ap, subst, ◌∙◌, length, inr, inl, Ok, Err}
+use Rattle.std.specs.Prelude.{Option, Some, None, Result, IsUtf8, codes}
+use Rattle.std.proofs.lemmas.Bool.{le-ltb}
+use Rattle.outside.specs.Files.{Held}
 use Rattle.std.specs.Str.{is_utf8}
 use Rattle.std.proofs.lemmas.Str.{is_utf8-from_IsUtf8, IsUtf8-from_is_utf8}
 use Rattle.toml.specs.Data.{Members}
@@ -10,7 +12,9 @@ use Rattle.policy_data.specs.declared.fault.ReadPolicyFault.{ReadPolicyFault}
 use Rattle.policy_data.specs.declared.fault.ReadPolicyFault.TheVariants.{NotToml, BadKey, BadValue, BadName, OverLimit, NoMemory}
 use Rattle.policy_toml.specs.Policy.{policy_of, IsWellFormed, GivesPolicy}
 use Rattle.virt_engine.specs.declared.status.Status.{Status}
-use Rattle.virt_engine.specs.Policies.{policy_due, document_due, refused_for, ReadsPolicy}
+use Rattle.virt_engine.specs.declared.status.Status.TheVariants.{Done, Usage}
+use Rattle.virt_engine.specs.Fetching.{with_input}
+use Rattle.virt_engine.specs.Policies.{policy_limit, policy_due, document_due, refused_for, with_policy, policy_verdict, IsPolicyVerdict, IsPolicyFile, ReadsPolicy}
 
 due_of : (text : List ℕ) → is_utf8 text ≡ true → policy_due text ≡ document_due (parse_document text)
 unfolding policy_due parse_document
@@ -40,3 +44,36 @@ reads_refused text NoMemory h = inl refl
 
 pub reads_fault : (text : List ℕ) (fault : ReadPolicyFault) (status : Status) → GivesPolicy text (Err fault) → refused_for fault ≡ status → ReadsPolicy text (Err status)
 reads_fault text fault status h e = subst (λ (v : Status). ReadsPolicy text (Err v)) e (reads_refused text fault h)
+
+-- ---- a policy's file
+
+-- what is due of a file within its limit is what comes next
+pub input_here : (file : Option (List ℕ)) (bytes what name : List ℕ) (limit : ℕ) (next : List ℕ → Status) → file ≡ Some bytes → length bytes ≤ limit → with_input file what limit name next ≡ next bytes
+input_here file bytes what name limit next e short = rw (e, le-ltb _ _ short) refl
+
+-- its text decides
+pub text_decides : (held : Held) (name text : List ℕ) → held.file name ≡ Some text → length text ≤ policy_limit → (next : Policy → Status) → policy_verdict held name next ≡ with_policy (policy_due text) next
+text_decides held name text there short next = input_here (held.file name) text (codes "policy-bytes") name policy_limit (λ z. with_policy (policy_due z) next) there short
+
+pub policy_decides : (held : Held) (name : List ℕ) (policy : Policy) → IsPolicyFile held name policy → (next : Policy → Status) → policy_verdict held name next ≡ next policy
+policy_decides held name policy f next =
+    text_decides held name f.text f.there f.short next ∙ ap (λ (due : Result Policy ReadPolicyFault). with_policy due next) (well_formed_due f.text policy f.well_formed)
+
+done_or_usage : Done ≡ Usage → ⊥
+done_or_usage h = cc
+
+-- so it is not refused
+pub policy_stands : (held : Held) (name : List ℕ) (policy : Policy) (status : Status) → IsPolicyFile held name policy → IsPolicyVerdict held name status → ⊥
+policy_stands held name policy status f h =
+    done_or_usage (sym (policy_decides held name policy f (λ p. Done)) ∙ h (λ p. Done) ∙ sym (h (λ p. Usage)) ∙ policy_decides held name policy f (λ p. Usage))
+
+same_some : (a b : List ℕ) → Some a ≡ Some b → a ≡ b
+same_some a b e = cc
+
+same_ok : (a b : Policy) → ◌≡◌ {A = Result Policy ReadPolicyFault} (Ok a) (Ok b) → a ≡ b
+same_ok a b e = cc
+
+pub one_policy : (held : Held) (name : List ℕ) (a b : Policy) → IsPolicyFile held name a → IsPolicyFile held name b → a ≡ b
+one_policy held name a b f g =
+    let text : f.text ≡ g.text = same_some f.text g.text (sym f.there ∙ g.there) in
+    same_ok a b (sym (well_formed_due f.text a f.well_formed) ∙ ap policy_due text ∙ well_formed_due g.text b g.well_formed)

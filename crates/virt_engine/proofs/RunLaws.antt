@@ -1,110 +1,206 @@
--- A call of `run` whose files do is not refused.
-use Rattle.std.proofs.Common.{◌≡◌, ◌∙◌, refl, sym, ap, subst, ℕ, ◌≤◌, List, length, true, inl, inr, arith, Ok, Err}
-use Rattle.std.specs.Prelude.{Some, Result}
+-- What follows of a call of `run`: the status is one that the contents call for.
+use Rattle.std.proofs.Common.{◌≡◌, ◌∙◌, refl, sym, ap, subst, ℕ, ◌<◌, List, length, true, inl, inr, arith}
+use Rattle.std.specs.Prelude.{◌⊎◌, Option, Some, None, codes}
 use Rattle.outside.specs.Fault.{Rose}
 use Rattle.outside.specs.Files.{FilesState}
 use Rattle.outside.specs.Sink.{SinkState}
+use Rattle.policy_data.specs.declared.policy.Policy.{Policy}
 use Rattle.comp_types.specs.Items.{Entries, Signature}
-use Rattle.comp_grammar.specs.Trees.{Tree, plain}
+use Rattle.comp_grammar.specs.Trees.{plain}
 use Rattle.comp_types.specs.Added.{type_of}
-use Rattle.host_script.specs.Script.{PlainScript, due_script, json_in}
-use Rattle.host_script.specs.declared.fault.ScriptFault.{ScriptFault}
-use Rattle.host_script.specs.declared.fault.ScriptFault.TheVariants as faults
-use Rattle.script_exports.specs.Callable.{callable}
+use Rattle.comp_signature.specs.Signatures.{component_signature}
 use Rattle.run_judge.specs.declared.refusal.RunRefusal.{RunRefusal}
 use Rattle.run_judge.specs.declared.refusal.RunRefusal.TheVariants as refusals
 use Rattle.run_judge.specs.declared.component.Judged.{Judged}
-use Rattle.run_judge.specs.Components.{IsRunnable, IsRefusal}
-use Rattle.run_judge.specs.Scripts.{script_limit, JudgesScript}
-use Rattle.run_judge.proofs.Verdicts.{one_verdict}
+use Rattle.run_judge.specs.Components.{component_limit, Faulting, IsUnfit, IsRefusal, IsRefusalBy, IsRunnable}
+use Rattle.run_judge.specs.Applications.{IsUnlisted, IsApplicationRefusal}
+use Rattle.run_judge.specs.Scripts.{script_limit}
 use Rattle.run_inputs.specs.declared.unready.Unready.{Unready}
-use Rattle.run_inputs.specs.declared.unready.Unready.TheVariants.{FileFault, Refused}
-use Rattle.run_inputs.specs.Inputs.{HasComponent, ComponentCause, ScriptCause, RefusesScript}
+use Rattle.run_inputs.specs.declared.unready.Unready.TheVariants.{FileFault as Faulted, Refused}
+use Rattle.run_inputs.specs.declared.inputs.Inputs.{Inputs}
+use Rattle.run_inputs.specs.Fetching.{Cause}
+use Rattle.run_inputs.specs.Inputs.{IsListedBy, RefusesScript, HasComponent, HasApplication, AreReady, ScriptCause, InputsCause, ListedCause}
+use Rattle.virt_engine.specs.declared.runner.Shown.{Shown}
 use Rattle.virt_engine.specs.declared.status.Status.{Status}
-use Rattle.virt_engine.specs.declared.status.Status.TheVariants.{NoMemory}
+use Rattle.virt_engine.specs.declared.status.Status.TheVariants.{Done, PolicyRefused, AppRefused, FileFault, SinkFault, OverLimit, NoMemory, ScriptRefused, Trapped, ScriptEnded, StepsSpent, BadAnswer, TooDeep, Usage}
 use Rattle.virt_engine.specs.Command.{RunCommand}
-use Rattle.virt_engine.specs.Report.{Puts, Reports}
-use Rattle.virt_engine.specs.Runs.{refused_for, RanNot, RunsBy, CanBeRun, RunCompletes}
+use Rattle.virt_engine.specs.Fetching.{unready_as}
+use Rattle.virt_engine.specs.Policies.{IsPolicyVerdict, PolicyCause}
+use Rattle.virt_engine.specs.PolicyTrees.{IsTreesVerdict, TreesCause}
+use Rattle.virt_engine.specs.Report.{Puts}
+use Rattle.virt_engine.specs.RunDue.{HoldsComponent, Refusing, IsVerdictBy, AreInputsRefused, IsRefusedBy, IsRunRefused, AreAccepted, IsAcceptedUnder}
+use Rattle.virt_engine.specs.Runs.{ended_as, BeginsUnder, BeginsBy, ShowsWhat, EndsBy, CauseBy, RunCause, RunsBy, RunCompletes, RunAccepts}
+use Rattle.virt_engine.proofs.Planning.{policy_file}
+use Rattle.virt_engine.proofs.Showing.{script_held, application_held}
+use Rattle.virt_engine.proofs.RunDue.{runs_stand}
 
-same_some : (a b : List ℕ) → Some a ≡ Some b → a ≡ b
-same_some a b e = cc
+-- ---- a cause without a fault that was counted is due
 
--- ---- the component is not refused
+-- bytes that are refused, unless memory ran out
+verdict_of : (Refuses : Refusing) (file : Option (List ℕ)) (name bytes : List ℕ) (refusal : RunRefusal) → file ≡ Some bytes → Refuses bytes refusal
+    → IsVerdictBy Refuses file name (unready_as (Refused refusal)) ⊎ (unready_as (Refused refusal) ≡ NoMemory)
+verdict_of Refuses file name bytes refusals.NoMemory there h = inr refl
+verdict_of Refuses file name bytes (refusals.Refused fault) there h =
+    inl (subst (λ (o : Option (List ℕ)). IsVerdictBy Refuses o name (AppRefused fault)) (sym there) (refusals.Refused fault, λ e. cc, h, refl))
+verdict_of Refuses file name bytes (refusals.OverLimit what value) there h =
+    inl (subst (λ (o : Option (List ℕ)). IsVerdictBy Refuses o name (OverLimit what value)) (sym there) (refusals.OverLimit what value, λ e. cc, h, refl))
+verdict_of Refuses file name bytes (refusals.BadScript path) there h =
+    inl (subst (λ (o : Option (List ℕ)). IsVerdictBy Refuses o name (ScriptRefused path)) (sym there) (refusals.BadScript path, λ e. cc, h, refl))
 
-of_component : (bytes : List ℕ) (tree : Tree) (r : RunRefusal) → IsRunnable bytes tree → IsRefusal bytes r → refused_for (Refused r) ≡ NoMemory
-of_component bytes tree refusals.NoMemory h w = refl
-of_component bytes tree (refusals.Refused fault) h w = absurd (one_verdict bytes tree (refusals.Refused fault) h (λ e. cc) w)
-of_component bytes tree (refusals.OverLimit what value) h w = absurd (one_verdict bytes tree (refusals.OverLimit what value) h (λ e. cc) w)
-of_component bytes tree (refusals.BadScript path) h w = absurd w
+module _ (s t : FilesState) (told : s.told ≡ true) (quiet : ¬ (Rose s.faults t.faults)) where
+  file_due : (name what : List ℕ) (limit : ℕ) (Refuses : Refusing) (e : Unready)
+      → ((bytes : List ℕ) (value : ℕ) → limit < value → length bytes ≡ value → Refuses bytes (refusals.OverLimit what value))
+      → Cause name what limit Refuses s t e → IsVerdictBy Refuses (s.held.file name) name (unready_as e) ⊎ (unready_as e ≡ NoMemory)
+  file_due name what limit Refuses (Faulted kept) long h = absurd (quiet h.counted)
+  file_due name what limit Refuses (Refused refusal) long (inl none) = inr (ap (λ r. unready_as (Refused r)) none)
+  file_due name what limit Refuses (Refused refusal) long (inr (inl h)) =
+      let found = h.there told in
+      verdict_of Refuses (s.held.file name) name found.0 refusal found.1
+      (subst (λ (r : RunRefusal). Refuses found.0 r) (sym h.named) (long found.0 h.value h.over found.2))
+  file_due name what limit Refuses (Refused refusal) long (inr (inr h)) = verdict_of Refuses (s.held.file name) name h.bytes refusal (h.there told) h.refused
 
--- ---- nor is the script
+  long_component : (AtFault : Faulting) (bytes : List ℕ) (value : ℕ) → component_limit < value → length bytes ≡ value → IsRefusalBy AtFault bytes (refusals.OverLimit (codes "component-bytes") value)
+  long_component AtFault bytes value over is = inl (refl, omega (arith, over, is), sym is)
 
-ok_or_bad : (read : PlainScript) (fault : ScriptFault) → ◌≡◌ {A = Result PlainScript ScriptFault} (Ok read) (Err fault) → ⊥
-ok_or_bad read fault e = cc
+  long_script : (exports : Entries) (bytes : List ℕ) (value : ℕ) → script_limit < value → length bytes ≡ value → RefusesScript exports bytes (refusals.OverLimit (codes "script-bytes") value)
+  long_script exports bytes value over is = (refl, omega (arith, over, is), sym is)
 
-of_script : (exports : Entries) (bytes : List ℕ) (read : PlainScript) (r : RunRefusal) → length bytes ≤ script_limit → due_script (callable exports) (json_in bytes) ≡ Ok read
-    → JudgesScript exports bytes (Err r) → refused_for (Refused r) ≡ NoMemory
-of_script exports bytes read refusals.NoMemory short due w = refl
-of_script exports bytes read (refusals.BadScript path) short due w = absurd (ok_or_bad read (faults.BadScript path) (sym due ∙ w.1))
-of_script exports bytes read (refusals.OverLimit what value) short due w = absurd (omega (arith, short, w.1))
-of_script exports bytes read (refusals.Refused fault) short due w = absurd w
+  script_due : (judged : Judged) (name : List ℕ) (e : Unready) → component_signature judged.ty ≡ type_of (plain judged.component) → ScriptCause judged.ty.exports name s t e
+      → IsVerdictBy (RefusesScript (type_of (plain judged.component)).exports) (s.held.file name) name (unready_as e) ⊎ (unready_as e ≡ NoMemory)
+  script_due judged name e same h =
+      let exports : judged.ty.exports ≡ (type_of (plain judged.component)).exports = ap (λ (sig : Signature). sig.exports) same in
+      subst (λ (es : Entries). IsVerdictBy (RefusesScript es) (s.held.file name) name (unready_as e) ⊎ (unready_as e ≡ NoMemory)) exports
+      (file_due name (codes "script-bytes") script_limit (RefusesScript judged.ty.exports) e (long_script judged.ty.exports) h)
 
-module _ (c : RunCommand) (s t : FilesState) (told : s.told ≡ true) (h : CanBeRun c s.held) (quiet : ¬ (Rose s.faults t.faults)) where
-  here : (bytes : List ℕ) → s.held.file c.component ≡ Some bytes → bytes ≡ h.component
-  here bytes there = same_some bytes h.component (sym there ∙ h.first)
+  component_held : (name : List ℕ) (judged : Judged) → HasComponent name s judged → HoldsComponent IsRunnable s.held name (plain judged.component)
+  component_held name judged h = record { bytes = h.bytes; there = h.there told; fits = h.judges.0 }
 
-  read_here : (bytes : List ℕ) → s.held.file c.script ≡ Some bytes → bytes ≡ h.script
-  read_here bytes there = same_some bytes h.script (sym there ∙ h.second)
+  listed_held : (name : List ℕ) (judged : Judged) (listed : _) → HasApplication name s judged listed → HoldsComponent IsListedBy s.held name (plain judged.component)
+  listed_held name judged listed h = record { bytes = h.bytes; there = h.there told; fits = (listed.uses, h.judges.0) }
 
-  component_stands : (e : Unready) → ComponentCause c.component s t e → refused_for e ≡ NoMemory
-  component_stands (FileFault kept) w = absurd (quiet w.counted)
-  component_stands (Refused r) (inl none) = ap (λ x. refused_for (Refused x)) none
-  component_stands (Refused r) (inr (inl long)) =
-      let found = long.there told in
-      absurd (omega (arith, ap length (here found.0 found.1), found.2, long.over, h.runnable.sound.small.short))
-  component_stands (Refused r) (inr (inr w)) =
-      of_component h.component h.tree r h.runnable (subst (λ z. IsRefusal z r) (here w.bytes (w.there told)) w.refused)
+  alone_due : (c : RunCommand) (e : Unready) → InputsCause c.component c.script s t e → AreInputsRefused IsRefusal IsRunnable s.held c (unready_as e) ⊎ (unready_as e ≡ NoMemory)
+  alone_due c e (inl h) = elim (file_due c.component (codes "component-bytes") component_limit IsRefusal e (long_component IsUnfit) h) [ inl v ↦ inl (inl v) | inr none ↦ inr none ]
+  alone_due c e (inr h) = elim (script_due h.0 c.script e h.1.judges.1 h.2) [
+    | inl v ↦ inl (inr (plain h.0.component, component_held c.component h.0 h.1, v))
+    | inr none ↦ inr none
+  ]
 
-  -- the component that was judged is the one that is there
-  exports_here : (judged : Judged) → HasComponent c.component s judged → judged.ty.exports ≡ (type_of h.tree).exports
-  exports_here judged w =
-      let spelled = subst (λ z. IsRunnable z (plain judged.component)) (here w.bytes (w.there told)) w.judges.0 in
-      let same : h.tree ≡ plain judged.component = spelled.sound.small.spelled.1 h.tree h.runnable.sound.small.spelled.0.0 in
-      ap (λ (sig : Signature). sig.exports) (w.judges.1 ∙ ap type_of (sym same))
+  listed_due : (c : RunCommand) (e : Unready) → ListedCause c.component c.script s t e → AreInputsRefused IsApplicationRefusal IsListedBy s.held c (unready_as e) ⊎ (unready_as e ≡ NoMemory)
+  listed_due c e (inl h) = elim (file_due c.component (codes "component-bytes") component_limit IsApplicationRefusal e (long_component IsUnlisted) h) [ inl v ↦ inl (inl v) | inr none ↦ inr none ]
+  listed_due c e (inr h) = elim (script_due h.0 c.script e h.2.judges.1 h.3) [
+    | inl v ↦ inl (inr (plain h.0.component, listed_held c.component h.0 h.1 h.2, v))
+    | inr none ↦ inr none
+  ]
 
-  script_stands : (judged : Judged) → HasComponent c.component s judged → (e : Unready) → ScriptCause judged.ty.exports c.script s t e → refused_for e ≡ NoMemory
-  script_stands judged j (FileFault kept) w = absurd (quiet w.counted)
-  script_stands judged j (Refused r) (inl none) = ap (λ x. refused_for (Refused x)) none
-  script_stands judged j (Refused r) (inr (inl long)) =
-      let found = long.there told in
-      absurd (omega (arith, ap length (read_here found.0 found.1), found.2, long.over, h.short))
-  script_stands judged j (Refused r) (inr (inr w)) =
-      let bytes = subst (λ z. RefusesScript judged.ty.exports z r) (read_here w.bytes (w.there told)) w.refused in
-      of_script (type_of h.tree).exports h.script h.read r h.short h.due (subst (λ z. JudgesScript z h.script (Err r)) (exports_here judged j) bytes)
+  policy_due : (name : List ℕ) (status : Status) → PolicyCause name s t status → IsPolicyVerdict s.held name status ⊎ (status ≡ NoMemory)
+  policy_due name (FileFault kept) h = absurd (quiet h.1)
+  policy_due name NoMemory h = inr refl
+  policy_due name (OverLimit what value) h = inl (h.1 told)
+  policy_due name (PolicyRefused fault) h = inl (h.1 told)
+  policy_due name Done h = absurd h
+  policy_due name (AppRefused fault) h = absurd h
+  policy_due name SinkFault h = absurd h
+  policy_due name (ScriptRefused path) h = absurd h
+  policy_due name Trapped h = absurd h
+  policy_due name ScriptEnded h = absurd h
+  policy_due name StepsSpent h = absurd h
+  policy_due name BadAnswer h = absurd h
+  policy_due name TooDeep h = absurd h
+  policy_due name Usage h = absurd h
 
-  none_of : (k l : SinkState) (result : Status) → RanNot c s t k l result → (due : Status) × (due ≡ NoMemory) × ((text : List ℕ) × Reports due text k l result)
-  none_of k l result n = (
-    refused_for n.why,
-    elim n.cause [
-      | inl w ↦ component_stands n.why w
-      | inr w ↦ script_stands w.0 w.1 n.why w.2
-    ],
-    (_, n.report),
-  )
+  trees_are_due : (policy : Policy) (status : Status) → TreesCause policy s t status → IsTreesVerdict s.held policy status ⊎ (status ≡ NoMemory)
+  trees_are_due policy (FileFault kept) h = absurd (quiet h.0)
+  trees_are_due policy NoMemory h = inr refl
+  trees_are_due policy (OverLimit what value) h = inl (h.1 told)
+  trees_are_due policy (PolicyRefused fault) h = inl (h told)
+  trees_are_due policy Done h = absurd h
+  trees_are_due policy (AppRefused fault) h = absurd h
+  trees_are_due policy SinkFault h = absurd h
+  trees_are_due policy (ScriptRefused path) h = absurd h
+  trees_are_due policy Trapped h = absurd h
+  trees_are_due policy ScriptEnded h = absurd h
+  trees_are_due policy StepsSpent h = absurd h
+  trees_are_due policy BadAnswer h = absurd h
+  trees_are_due policy TooDeep h = absurd h
+  trees_are_due policy Usage h = absurd h
+
+  due_as : (c : RunCommand) (policy : Option (List ℕ)) (a b : Status) → a ≡ b → IsRefusedBy s.held c policy b ⊎ (b ≡ NoMemory) → IsRefusedBy s.held c policy a ⊎ (a ≡ NoMemory)
+  due_as c policy a b is h = subst (λ (x : Status). IsRefusedBy s.held c policy x ⊎ (x ≡ NoMemory)) (sym is) h
+
+  cause_due : (c : RunCommand) (policy : Option (List ℕ)) (status : Status) → CauseBy c policy s t status → IsRefusedBy s.held c policy status ⊎ (status ≡ NoMemory)
+  cause_due c None status h = due_as c None status (unready_as h.0) h.2 (alone_due c h.0 h.1)
+  cause_due c (Some name) status (inl h) = elim (policy_due name status h) [ inl v ↦ inl (inl v) | inr none ↦ inr none ]
+  cause_due c (Some name) status (inr (policy, has, inl h)) =
+      due_as c (Some name) status (unready_as h.0) h.2 (elim (listed_due c h.0 h.1) [
+        | inl v ↦ inl (inr (policy, policy_file name s policy has told, inl v))
+        | inr none ↦ inr none
+      ])
+  cause_due c (Some name) status (inr (policy, has, inr (inputs, ready, h))) = elim (trees_are_due policy status h) [
+    | inl v ↦ inl (inr (
+      policy,
+      policy_file name s policy has told,
+      inr (
+        plain inputs.inputs.judged.component,
+        application_held c.component c.script s inputs ready told,
+        script_held inputs.inputs.judged c.script s inputs.inputs.script ready.application.judges.1 ready.scripted told,
+        v,
+      ),
+    ))
+    | inr none ↦ inr none
+  ]
+
+-- ---- what files begin a run with is what can be run
+
+module _ (s : FilesState) (told : s.told ≡ true) where
+  abbrev alone_accepted : (c : RunCommand) (inputs : Inputs) → AreReady c.component c.script s inputs → AreAccepted IsRunnable s.held c
+  alone_accepted c inputs h = record {
+    tree = plain inputs.judged.component;
+    component = record { bytes = h.runnable.bytes; there = h.runnable.there told; fits = h.runnable.judges.0 };
+    script = script_held inputs.judged c.script s inputs.script h.runnable.judges.1 h.scripted told;
+  }
+
+  abbrev under_accepted : (c : RunCommand) (name : List ℕ) → BeginsUnder c name s → IsAcceptedUnder s.held c name
+  under_accepted c name h = record {
+    policy = h.policy;
+    policy_file = policy_file name s h.policy h.has_policy told;
+    inputs = record {
+      tree = plain h.inputs.inputs.judged.component;
+      component = application_held c.component c.script s h.inputs h.ready told;
+      script = script_held h.inputs.inputs.judged c.script s h.inputs.inputs.script h.ready.application.judges.1 h.ready.scripted told;
+    };
+    forest = h.are.0;
+    trees = h.are.1 told;
+  }
+
+  -- and the status is that of the run's end
+  begins_ended : (c : RunCommand) (policy : Option (List ℕ)) (b : BeginsBy c policy s) (shown : Shown) (result : Status) → ShowsWhat c policy s b shown → result ≡ ended_as shown.end → EndsBy s.held c policy result
+  begins_ended c None b shown result runs is = record { accepted = alone_accepted c b.0 b.1; end = is ∙ ap ended_as runs.told.end }
+  begins_ended c (Some name) b shown result runs is = record { accepted = under_accepted c name b; trees = b.trees; ordered = b.are.2; end = is ∙ ap ended_as runs.told.end }
+
+-- ---- the whole call
 
 put_of : (due : Status) (text : List ℕ) (k l : SinkState) (result : Status) → Puts due text k l result → ¬ (Rose k.faults l.faults) → result ≡ due
 put_of due text k l result p quiet = elim p.put [ inl w ↦ w.status | inr b ↦ absurd (quiet b.cause) ]
 
+refused_so : (c : RunCommand) (s t : FilesState) (result why : Status) → s.told ≡ true → ¬ (Rose s.faults t.faults) → RunCause c s t why → result ≡ why → IsRunRefused s.held c result ⊎ (result ≡ NoMemory)
+refused_so c s t result why told files (inl none) is = inr (is ∙ none)
+refused_so c s t result why told files (inr h) is = elim (cause_due s t told files c c.policy why h) [
+  | inl due ↦ inl (subst (λ (x : Status). IsRunRefused s.held c x) (sym is) due)
+  | inr none ↦ inr (is ∙ none)
+]
+
 pub run_completes : (c : RunCommand) (s t : FilesState) (k l : SinkState) (result : Status) → RunsBy c s t k l result → RunCompletes c s t k l result
-run_completes c s t k l result r told h files sink = elim r.end [
-  | inl n ↦
-      let why = none_of c s t told h files k l result n in
-      elim why.2.1 [
-        | inl p ↦ inr (put_of why.0 why.2.0 k l result p sink ∙ why.1)
-        | inr none ↦ inr none.0
-      ]
-  | inr on ↦ elim on.shows [
-    | inl w ↦ inl (w.0, w.1, put_of _ _ k l result w.2.puts sink)
-    | inr none ↦ inr none.0
+run_completes c s t k l result r told files sink = elim r.end [
+  | inl n ↦ elim n.report [
+    | inl p ↦ elim (refused_so c s t result n.why told files n.cause (put_of n.why _ k l result p sink)) [ inl due ↦ inl due | inr none ↦ inr (inr none) ]
+    | inr none ↦ inr (inr none.0)
   ]
+  | inr on ↦ inr (inl (begins_ended s told c c.policy on.begins on.shown result on.runs (put_of _ _ k l result on.shows.puts sink)))
+]
+
+pub run_accepts : (c : RunCommand) (s t : FilesState) (k l : SinkState) (result : Status) → RunsBy c s t k l result → RunAccepts c s t k l result
+run_accepts c s t k l result r told can files sink = elim (run_completes c s t k l result r told files sink) [
+  | inl refused ↦ absurd (runs_stand s.held c result can refused)
+  | inr (inl ended) ↦ inl ended
+  | inr (inr none) ↦ inr none
 ]

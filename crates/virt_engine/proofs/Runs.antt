@@ -1,7 +1,6 @@
 -- A whole call, by what its parts did.
 use Rattle.std.proofs.Common.{◌≡◌, ◌≢◌, ℕ, ◌≤◌, List, [], length, true, false, refl, sym, ap, subst, ◌∙◌, inl, inr, arith, Ok, Err, string_bytes}
-use Rattle.std.specs.Prelude.{◌⊎◌, Option, Some, None, Result, codes}
-use Rattle.std.proofs.lemmas.Bool.{le-ltb}
+use Rattle.std.specs.Prelude.{◌⊎◌, Option, Some, None, Result}
 use Rattle.outside.specs.Fault.{Rose}
 use Rattle.outside.specs.Files.{FilesState, Held, with_file, no_place}
 use Rattle.outside.specs.Sink.{SinkState}
@@ -19,16 +18,13 @@ use Rattle.virt_engine.specs.Line.{status_text}
 use Rattle.virt_engine.specs.Output.{output_bytes}
 use Rattle.virt_engine.specs.Report.{Puts, Reports}
 use Rattle.virt_engine.specs.Writing.{LeftOf}
-use Rattle.virt_engine.specs.Fetching.{with_input}
-use Rattle.virt_engine.specs.Policies.{policy_limit, policy_due, with_policy, policy_verdict, IsPolicyVerdict}
 use Rattle.virt_engine.specs.Apps.{Refuses, IsRefusedBy, IsAppFile}
 use Rattle.virt_engine.specs.PolicyTrees.{with_trees, trees_verdict}
-use Rattle.virt_engine.specs.Plan.{IsPolicyFile, IsDueUnder, IsDueOf, IsDueFor, IsDue, IsAccepted, NoFileDue, written_by, Plans, IsReady, RefusalOf, Wrote, DueOf, FilesQuiet, Finishes, Ran, RanCommand, Completes, Accepts, Delivers}
+use Rattle.virt_engine.specs.Plan.{IsDueUnder, IsDueOf, IsDueFor, IsDue, IsAccepted, NoFileDue, written_by, Plans, IsReady, RefusalOf, Wrote, DueOf, FilesQuiet, Finishes, Ran, RanCommand, Completes, Accepts, Delivers}
 use Rattle.policy_data.specs.declared.policy.Policy.{Policy}
-use Rattle.policy_data.specs.declared.fault.ReadPolicyFault.{ReadPolicyFault}
 use Rattle.mount_tree.specs.declared.forest.Forest.{Forest}
 use Rattle.mount_tree.specs.declared.fault.TreeFault.{TreeFault}
-use Rattle.virt_engine.proofs.PolicyLaws.{well_formed_due}
+use Rattle.virt_engine.proofs.PolicyLaws.{policy_stands, one_policy}
 use Rattle.virt_engine.proofs.Adding.{goes_on}
 
 -- ---- what is due of words that name a command
@@ -211,34 +207,6 @@ completes words s t k l result r = by_due r.due r.text words s t k l result r.fi
 
 -- ---- a call that is to be accepted
 
-input_here : (file : Option (List ℕ)) (bytes what name : List ℕ) (limit : ℕ) (next : List ℕ → Status) → file ≡ Some bytes → length bytes ≤ limit → with_input file what limit name next ≡ next bytes
-input_here file bytes what name limit next e short = rw (e, le-ltb _ _ short) refl
-
--- a policy file's policy decides what is due
-policy_decides : (held : Held) (name : List ℕ) (policy : Policy) → IsPolicyFile held name policy → (next : Policy → Status) → policy_verdict held name next ≡ next policy
-policy_decides held name policy f next =
-    input_here (held.file name) f.text (codes "policy-bytes") name policy_limit (λ text. with_policy (policy_due text) next) f.there f.short
-    ∙ ap (λ (due : Result Policy ReadPolicyFault). with_policy due next) (well_formed_due f.text policy f.well_formed)
-
-done_or_usage : Done ≡ Usage → ⊥
-done_or_usage h = cc
-
--- so it is not refused
-policy_taken : (held : Held) (name : List ℕ) (policy : Policy) (status : Status) → IsPolicyFile held name policy → IsPolicyVerdict held name status → ⊥
-policy_taken held name policy status f h =
-    done_or_usage (sym (policy_decides held name policy f (λ p. Done)) ∙ h (λ p. Done) ∙ sym (h (λ p. Usage)) ∙ policy_decides held name policy f (λ p. Usage))
-
-same_some : (a b : List ℕ) → Some a ≡ Some b → a ≡ b
-same_some a b e = cc
-
-same_ok : (a b : Policy) → ◌≡◌ {A = Result Policy ReadPolicyFault} (Ok a) (Ok b) → a ≡ b
-same_ok a b e = cc
-
-one_policy : (held : Held) (name : List ℕ) (a b : Policy) → IsPolicyFile held name a → IsPolicyFile held name b → a ≡ b
-one_policy held name a b f g =
-    let text : f.text ≡ g.text = same_some f.text g.text (sym f.there ∙ g.there) in
-    same_ok a b (sym (well_formed_due f.text a f.well_formed) ∙ ap policy_due text ∙ well_formed_due g.text b g.well_formed)
-
 fault_is_some : (fault : AppFault) → refusals.Refused fault ≡ refusals.NoMemory → ⊥
 fault_is_some fault h = cc
 
@@ -276,7 +244,7 @@ accepted_under held words a policy status same h = elim h [
 
 accepted_of : (held : Held) (words : List (List ℕ)) (a : IsAccepted held words) (status : Status) → IsDueOf held a.command status → status ≡ Done
 accepted_of held words a status h = elim h [
-  | inl r ↦ absurd (policy_taken held a.command.policy a.policy status a.policy_file r)
+  | inl r ↦ absurd (policy_stands held a.command.policy a.policy status a.policy_file r)
   | inr w ↦ accepted_under held words a w.0 status (one_policy held a.command.policy a.policy w.0 a.policy_file w.1) w.2
 ]
 

@@ -1,25 +1,19 @@
 -- Of each call one status is due.
-use Rattle.std.proofs.Common.{◌≡◌, ◌≢◌, ◌∙◌, ◌⊎◌, refl, sym, ap, subst, ℕ, ◌<◌, ◌≤◌, List, Bool, true, false, length, nat_lt, Option, Some, None, Result, Ok, Err, inl, inr, arith}
+use Rattle.std.proofs.Common.{◌≡◌, ◌≢◌, ◌∙◌, refl, sym, ap, subst, ℕ, List, Option, Some, None, inl, inr, arith}
 use Rattle.std.specs.Prelude.{codes}
-use Rattle.std.proofs.lemmas.Bool.Decides.{nat_tests}
-use Rattle.toml.specs.Parse.{parse_document}
 use Rattle.outside.specs.Files.{Held}
 use Rattle.policy_data.specs.declared.policy.Policy.{Policy}
-use Rattle.policy_toml.specs.Policy.{IsWellFormed}
-use Rattle.comp_grammar.specs.Trees.{Tree}
 use Rattle.virt_app.specs.declared.refusal.AppRefusal.{AppRefusal}
 use Rattle.virt_app.specs.declared.refusal.AppRefusal.TheVariants as refusals
-use Rattle.virt_app.specs.Apps.{IsApp, IsRefusal}
+use Rattle.virt_app.specs.Apps.{IsRefusal}
 use Rattle.virt_app.proofs.AppLaws.{app_not_refused}
 use Rattle.virt_app.proofs.RefusalLaws.{one_refusal}
 use Rattle.virt_engine.specs.declared.status.Status.{Status}
 use Rattle.virt_engine.specs.declared.status.Status.TheVariants.{Done, PolicyRefused, AppRefused, FileFault, SinkFault, OverLimit, NoMemory, ScriptRefused, Trapped, ScriptEnded, StepsSpent, BadAnswer, TooDeep, Usage}
 use Rattle.virt_engine.specs.Command.{Command, command_of}
-use Rattle.virt_engine.specs.Fetching.{with_input}
-use Rattle.virt_engine.specs.Policies.{policy_limit, policy_due, policy_verdict, with_policy, IsPolicyVerdict}
-use Rattle.virt_engine.specs.Apps.{app_limit, Refuses, IsRefusedBy, IsAppFile}
-use Rattle.virt_engine.specs.Plan.{IsPolicyFile, IsDue, IsDueFor, IsDueOf, IsDueUnder}
-use Rattle.virt_engine.proofs.PolicyLaws.{well_formed_due}
+use Rattle.virt_engine.specs.Apps.{Refuses, IsRefusedBy, IsAppFile}
+use Rattle.virt_engine.specs.Plan.{IsDue, IsDueFor, IsDueOf, IsDueUnder}
+use Rattle.virt_engine.proofs.PolicyLaws.{policy_stands, one_policy}
 
 -- ---- the application
 
@@ -65,36 +59,6 @@ app_stands held name bytes status app h = by (subst (λ (file : Option (List ℕ
     by : IsRefusedBy (Some bytes) name status → ⊥
     by (inl over) = omega (arith, over.0, app.short)
     by (inr refused) = let r = refusal_for bytes status refused.1 in app_not_refused bytes app.tree r.0 app.application r.1 r.2
-
--- ---- the policy
-
-some_same : {A : Type 0} (x y : A) → Some x ≡ Some y → x ≡ y
-some_same x y e = cc
-
-ok_same : {A E : Type 0} (x y : A) → ◌≡◌ {A = Result A E} (Ok x) (Ok y) → x ≡ y
-ok_same x y e = cc
-
--- a file's text is one policy
-one_policy : (held : Held) (name : List ℕ) (p q : Policy) → IsPolicyFile held name p → IsPolicyFile held name q → p ≡ q
-one_policy held name p q h g =
-    let same : h.text ≡ g.text = some_same h.text g.text (sym h.there ∙ g.there) in
-    ok_same p q (sym (well_formed_due h.text p h.well_formed) ∙ ap policy_due same ∙ well_formed_due g.text q g.well_formed)
-
-within : (text name : List ℕ) (next : List ℕ → Status) → length text ≤ policy_limit → with_input (Some text) (codes "policy-bytes") policy_limit name next ≡ next text
-within text name next short = let small : nat_lt policy_limit (length text) ≡ false = grind (arith, nat_tests, short) in rw (small) refl
-
--- behind a policy's file comes what is next
-policy_taken : (held : Held) (name : List ℕ) (policy : Policy) (next : Policy → Status) → IsPolicyFile held name policy → policy_verdict held name next ≡ next policy
-policy_taken held name policy next h =
-    ap (λ (file : Option (List ℕ)). with_input file (codes "policy-bytes") policy_limit name (λ text. with_policy (policy_due text) next)) h.there
-    ∙ within h.text name (λ text. with_policy (policy_due text) next) h.short
-    ∙ ap (λ due. with_policy due next) (well_formed_due h.text policy h.well_formed)
-
-policy_stands : (held : Held) (name : List ℕ) (policy : Policy) (status : Status) → IsPolicyFile held name policy → IsPolicyVerdict held name status → ⊥
-policy_stands held name policy status h verdict =
-    let done : Done ≡ status = sym (policy_taken held name policy (λ p. Done) h) ∙ verdict (λ p. Done) in
-    let usage : Usage ≡ status = sym (policy_taken held name policy (λ p. Usage) h) ∙ verdict (λ p. Usage) in
-    cc
 
 -- ---- all together
 

@@ -7,11 +7,6 @@ use Rattle.outside.specs.Sink.{SinkState}
 use Rattle.outside.specs.declared.sink.PutFailed.{PutFailed}
 use Rattle.run_judge.specs.declared.ends.RunEnd.{RunEnd}
 use Rattle.run_judge.specs.declared.ends.RunEnd.TheVariants as ends
-use Rattle.run_judge.specs.declared.refusal.RunRefusal.TheVariants as refusals
-use Rattle.run_inputs.specs.declared.unready.Unready.{Unready}
-use Rattle.run_inputs.specs.declared.unready.Unready.TheVariants as unready
-use Rattle.run_inputs.specs.declared.inputs.Inputs.{Inputs}
-use Rattle.run_inputs.specs.Inputs.{FetchesInputs}
 use Rattle.sink_lines.specs.Lines.{text_of, PutsAll}
 use Rattle.virt_engine.specs.declared.runner.Shown.{Shown}
 use Rattle.virt_engine.specs.Lines.{IsLine}
@@ -20,7 +15,7 @@ use Rattle.virt_engine.specs.declared.status.Status.TheVariants.{SinkFault, NoMe
 use Rattle.virt_engine.specs.Command.{RunCommand}
 use Rattle.virt_engine.specs.Line.{status_text}
 use Rattle.virt_engine.specs.Report.{Reports}
-use Rattle.virt_engine.specs.Runs.{refused_for, ended_as, PutsShown, ShowsRun, RunsBy, CanRun}
+use Rattle.virt_engine.specs.Runs.{ended_as, PutsShown, ShowsTask, RunsBy}
 
 -- ---- lines that were put
 
@@ -64,33 +59,24 @@ shown_is_loud shown k l result p e = elim p.puts.put [
   | inr b ↦ fault_is_loud (sym b.status ∙ e)
 ]
 
-silent : (k l : SinkState) (result : Status) → ShowsRun k l result → result ≡ NoMemory → l ≡ k
-silent k l result w e = elim w [
-  | inl s ↦ absurd (shown_is_loud s.0 k l result s.2 e)
-  | inr n ↦ n.1
-]
-
-pub runs_on : (c : RunCommand) (inputs : Inputs) (s t : FilesState) (k l : SinkState) (result : Status) → FetchesInputs c.component c.script s t (Ok inputs) → ShowsRun k l result → RunsBy c s t k l result
-runs_on c inputs s t k l result f w = record {
+pub runs_on : (c : RunCommand) (shown : Shown) (s t : FilesState) (k l : SinkState) (result : Status) → ShowsTask c s t (Ok shown) → PutsShown shown k l result → RunsBy c s t k l result
+runs_on c shown s t k l result f w = record {
   goes = f.goes;
   stays = f.stays;
-  end = inr (record { inputs = inputs; ready = f.ready; shows = w });
-  kept = silent k l result w;
-  quiet = λ told steady there. (f.quiet told steady there).0;
+  end = inr (record { begins = f.begins.0; shown = shown; ends = f.ends; runs = f.begins.1; shows = w });
+  kept = λ e. absurd (shown_is_loud shown k l result w e);
+  quiet = f.quiet;
 }
 
-pub runs_not : (c : RunCommand) (why : Unready) (due : Status) (s t : FilesState) (k l : SinkState) (result : Status) → FetchesInputs c.component c.script s t (Err why) → refused_for why ≡ due
-    → Reports due (status_text due) k l result → (result ≡ NoMemory → l ≡ k) → RunsBy c s t k l result
-runs_not c why due s t k l result f is report quiet = record {
+pub runs_not : (c : RunCommand) (why : Status) (s t : FilesState) (k l : SinkState) (result : Status) → ShowsTask c s t (Err why)
+    → Reports why (status_text why) k l result → (result ≡ NoMemory → l ≡ k) → RunsBy c s t k l result
+runs_not c why s t k l result f report silent = record {
   goes = f.goes;
   stays = f.stays;
-  end = inl (record { why = why; cause = f.cause; report = subst (λ (d : Status). Reports d (status_text d) k l result) (sym is) report });
-  kept = quiet;
-  quiet = λ told steady there. (f.quiet told steady there).0;
+  end = inl (record { why = why; cause = f.cause; report = report });
+  kept = silent;
+  quiet = f.quiet;
 }
-
-pub can_run : (component script : List ℕ) (inputs : Inputs) (s t : FilesState) → FetchesInputs component script s t (Ok inputs) → CanRun inputs
-can_run component script inputs s t f = (f.ready.runnable.bytes, f.ready.runnable.judges)
 
 -- no memory for the words
 
@@ -98,7 +84,7 @@ pub runs_memory : (c : RunCommand) (s : FilesState) (k : SinkState) → RunsBy c
 runs_memory c s k = record {
   goes = record { later = omega arith; told = refl; steady = λ h. h };
   stays = refl;
-  end = inl (record { why = unready.Refused refusals.NoMemory; cause = inl (inl refl); report = inr (refl, refl) });
+  end = inl (record { why = NoMemory; cause = inl refl; report = inr (refl, refl) });
   kept = λ h. refl;
   quiet = λ told steady there. refl;
 }

@@ -1,6 +1,6 @@
 -- What words say of `virt` and of `run`, which alone work.
-use Rattle.std.proofs.Common.{◌≡◌, ℕ, List, Ok, Err, sym, ap, subst}
-use Rattle.std.specs.Prelude.{Option, Some, None, Result}
+use Rattle.std.proofs.Common.{◌≡◌, ℕ, List, Ok, Err, ap}
+use Rattle.std.specs.Prelude.{Option, Some, None}
 use Rattle.virt_words.specs.Words.{Reads as Says, command_of as said_by}
 use Rattle.virt_words.specs.declared.command.Command.{Command as Said}
 use Rattle.virt_words.specs.declared.command.Command.TheVariants.{Virt, Run, Gen}
@@ -9,9 +9,8 @@ use Rattle.virt_words.specs.declared.command.RunWords.{RunWords}
 use Rattle.virt_words.specs.declared.command.GenWords.{GenWords}
 use Rattle.virt_words.specs.declared.command.WordsFault.{WordsFault}
 use Rattle.virt_words.specs.declared.command.WordsFault.TheVariants.{Usage, NoMemory}
-use Rattle.virt_engine.specs.declared.command.Task.{Task}
 use Rattle.virt_engine.specs.declared.command.Task.TheVariants as tasks
-use Rattle.virt_engine.specs.Command.{Command, RunCommand, virt_alone, run_alone, without_policy, command_of, run_of, IsTask, ReadsTask, GivesRun}
+use Rattle.virt_engine.specs.Command.{virt_alone, run_alone, command_of, run_of, ReadsTask}
 
 virt_is : (words : List (List ℕ)) (said : Option Said) → said_by words ≡ said → command_of words ≡ virt_alone said
 unfolding command_of
@@ -24,11 +23,8 @@ run_is words said e = ap run_alone e
 pub of_virt : (words : List (List ℕ)) (w : VirtWords) → said_by words ≡ Some (Virt w) → ReadsTask words (Ok (tasks.Virt w))
 of_virt words w e = (virt_is words (Some (Virt w)) e, run_is words (Some (Virt w)) e)
 
-by_both : (virt virt' : Option Command) (run run' : Option RunCommand) (r : Result Task WordsFault) → virt ≡ virt' → run ≡ run' → IsTask virt' run' r → IsTask virt run r
-by_both virt virt' run run' r e f h = subst (λ v. IsTask v run r) (sym e) (subst (λ u. IsTask virt' u r) (sym f) h)
-
-pub of_run : (words : List (List ℕ)) (w : RunWords) (r : Result Task WordsFault) → said_by words ≡ Some (Run w) → GivesRun w r → ReadsTask words r
-of_run words w r e h = by_both (command_of words) None (run_of words) (without_policy w w.policy) r (virt_is words (Some (Run w)) e) (run_is words (Some (Run w)) e) h
+pub of_run : (words : List (List ℕ)) (w : RunWords) → said_by words ≡ Some (Run w) → ReadsTask words (Ok (tasks.Run w))
+of_run words w e = (virt_is words (Some (Run w)) e, run_is words (Some (Run w)) e)
 
 pub of_gen : (words : List (List ℕ)) (w : GenWords) → said_by words ≡ Some (Gen w) → ReadsTask words (Err Usage)
 of_gen words w e = (virt_is words (Some (Gen w)) e, run_is words (Some (Gen w)) e)

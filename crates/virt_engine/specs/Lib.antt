@@ -8,7 +8,11 @@ pub mod Plan
 pub mod Policies
 pub mod PolicyTrees
 pub mod Report
+pub mod RunDue
 pub mod Runs
 pub mod Writing
 pub mod Lines
 pub mod Shown
+pub mod Told
+pub mod Calling
+pub mod Runners

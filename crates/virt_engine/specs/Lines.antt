@@ -1,5 +1,5 @@
 -- Lines of what is seen of a run, and how it ended.
-use Rattle.std.specs.Prelude.{ℕ, ◌≡◌, List, [], ◌∷◌, ◌++◌, Option, Some, None, Vec}
+use Rattle.std.specs.Prelude.{ℕ, ◌≡◌, List, [], ◌∷◌, ◌++◌, map, Option, Some, None, Vec}
 use Rattle.std.specs.declared.alloc.Global.{Global}
 use Rattle.wit_types.specs.Plain.{Plain}
 use Rattle.host_port.specs.Calls as port
@@ -32,6 +32,10 @@ abbrev pub EndsBy : List (Vec ℕ Global) → RunEnd → Type 0
 EndsBy lines end = LastIs lines (named end)
 
 -- ---- for private clauses
+
+-- the texts of lines
+abbrev pub texts : List (Vec ℕ Global) → List (List ℕ)
+texts lines = map (λ (line : Vec ℕ Global). line.items) lines
 
 abbrev pub Adds : List (Vec ℕ Global) → List (Vec ℕ Global) → List ℕ → Type 0
 Adds old new text = (line : Vec ℕ Global) × (new ≡ old ++ line ∷ []) × (line.items ≡ text)

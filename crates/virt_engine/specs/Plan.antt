@@ -5,7 +5,6 @@ use Rattle.outside.specs.Fault.{Rose}
 use Rattle.outside.specs.Files.{FilesState, Held, Goes, with_file, no_place}
 use Rattle.outside.specs.Sink.{SinkState}
 use Rattle.policy_data.specs.declared.policy.Policy.{Policy}
-use Rattle.policy_toml.specs.Policy.{IsWellFormed}
 use Rattle.mount_tree.specs.declared.forest.Forest.{Forest}
 use Rattle.mount_tree.specs.Runs.{IsAbove}
 use Rattle.mount_tree.specs.Building.{trees_due}
@@ -19,20 +18,13 @@ use Rattle.virt_engine.specs.Command.{Command, command_of}
 use Rattle.virt_engine.specs.Line.{done_text, status_text}
 use Rattle.virt_engine.specs.Output.{IsOutputOf, output_bytes}
 use Rattle.virt_engine.specs.Fetching.{IsFileFault}
-use Rattle.virt_engine.specs.Policies.{policy_limit, IsPolicyVerdict, HasPolicy, HasRefusedPolicy, IsPolicyOver}
+use Rattle.virt_engine.specs.Policies.{IsPolicyFile, IsPolicyVerdict, HasPolicy, HasRefusedPolicy, IsPolicyOver}
 use Rattle.virt_engine.specs.Apps.{IsAppVerdict, IsAppFile, HasApp, HasRefused, IsAppOver}
 use Rattle.virt_engine.specs.PolicyTrees.{trees_verdict, HasTrees}
 use Rattle.virt_engine.specs.Report.{Puts, Reports}
 use Rattle.virt_engine.specs.Writing.{LeftOf}
 
 -- ---- the definition: the status that files with these contents call for, in the order of refusals
-
--- The file's text is a policy.
-pub record IsPolicyFile (held : Held) (name : List ℕ) (policy : Policy) : Type 0 where
-  pub text : List ℕ
-  pub there : held.file name ≡ Some text
-  pub short : length text ≤ policy_limit
-  pub well_formed : IsWellFormed text policy
 
 -- behind the policy: the application is refused, or the policy's trees decide
 abbrev pub IsDueUnder : Held → Command → Policy → Status → Type 0

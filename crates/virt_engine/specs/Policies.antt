@@ -51,6 +51,13 @@ policy_verdict held name next = with_input (held.file name) (codes "policy-bytes
 abbrev pub IsPolicyVerdict : Held → List ℕ → Status → Type 0
 IsPolicyVerdict held name status = (next : Policy → Status) → policy_verdict held name next ≡ status
 
+-- The file's text is a policy.
+pub record IsPolicyFile (held : Held) (name : List ℕ) (policy : Policy) : Type 0 where
+  pub text : List ℕ
+  pub there : held.file name ≡ Some text
+  pub short : length text ≤ policy_limit
+  pub well_formed : IsWellFormed text policy
+
 -- What reading a policy's text answers.
 abbrev pub ReadsPolicy : List ℕ → Result Policy Status → Type 0
 ReadsPolicy text (Ok policy) = IsWellFormed text policy × (policy_due text ≡ Ok policy) × KeepsLimits policy

@@ -1,5 +1,5 @@
 -- The trees of a command's policy, and the status that a fault of them calls for.
-use Rattle.std.specs.Prelude.{◌≡◌, true, Contains, Result, Ok, Err, IfErr, IfOk}
+use Rattle.std.specs.Prelude.{◌≡◌, List, true, Contains, Result, Ok, Err, IfErr, IfOk}
 use Rattle.outside.specs.Fault.{Rose}
 use Rattle.outside.specs.Files.{FilesState, Held, Goes}
 use Rattle.policy_data.specs.declared.policy.Policy.{Policy}
@@ -8,6 +8,9 @@ use Rattle.mount_tree.specs.declared.fault.TreeFault.TheVariants as faults
 use Rattle.mount_tree.specs.declared.forest.Forest.{Forest}
 use Rattle.mount_tree.specs.Runs.{IsAbove}
 use Rattle.mount_tree.specs.Building.{trees_due}
+use Rattle.mount_tree.specs.Ordered.{AreOrdered}
+use Rattle.mount_tree.specs.Woods.{AreBuilt}
+use Rattle.tree_table.specs.declared.entries.NamedTree.{NamedTree}
 use Rattle.virt_engine.specs.declared.status.PolicyFault.TheVariants.{BadName}
 use Rattle.virt_engine.specs.declared.status.Status.{Status}
 use Rattle.virt_engine.specs.declared.status.Status.TheVariants.{Done, PolicyRefused, FileFault, OverLimit, NoMemory}
@@ -40,6 +43,10 @@ pub record HasTrees (policy : Policy) (s : FilesState) : Type 0 where
   pub made : s.told ≡ true → (trees_due s.held policy).answer ≡ Ok forest
   pub taken : s.told ≡ true → (next : Status) → trees_verdict s.held policy next ≡ next
 
+-- these are the trees that the policy and the files stand for, the paths of each in order
+abbrev pub AreTreesOf : Policy → FilesState → List NamedTree → Type 0
+AreTreesOf policy s trees = (forest : Forest) × (s.told ≡ true → (trees_due s.held policy).answer ≡ Ok forest) × AreOrdered forest.trees trees
+
 -- why making the trees gave this status; a file or a folder whose name was asked for may fail besides
 abbrev pub TreesCause : Policy → FilesState → FilesState → Status → Type 0
 TreesCause policy s t (FileFault name) = Rose s.faults t.faults × (s.told ≡ true → Contains (trees_due s.held policy).asks name)
@@ -50,9 +57,11 @@ TreesCause policy s t (PolicyRefused fault) = s.told ≡ true → IsTreesVerdict
 TreesCause policy s t _ = ⊥
 
 -- What making the trees of a policy does.
-pub record MakesTrees (policy : Policy) (s t : FilesState) (r : Result (Unit {0}) Status) : Type 0 where
+pub record MakesTrees (policy : Policy) (s t : FilesState) (r : Result (List NamedTree) Status) : Type 0 where
   pub goes : Goes s t
   pub stays : t.held ≡ s.held
   pub trees : IfOk r (λ _. HasTrees policy s)
+  pub made : IfOk r (AreTreesOf policy s)
+  pub built : IfOk r AreBuilt
   pub cause : IfErr r (TreesCause policy s t)
   pub quiet : s.told ≡ true → s.steady ≡ true → ¬ (IsFileFault (trees_verdict s.held policy Done)) → (t.faults ≡ s.faults) × IfErr r (λ e. ¬ (IsFileFault e))

@@ -1,9 +1,10 @@
 ghost use Rattle.virt_engine.specs.Apps.{FetchesApp, IsRefusedAs, Judges};
 
-use crate::fetch::{fetch, over_limit};
+use crate::fetch::over_limit;
 use crate::status::Status;
 use comp_signature::ComponentType;
 use outside::Files;
+use run_inputs::fetch;
 use std::alloc::Global;
 use virt_app::{AppRefusal, judge_app};
 use virt_base::Text;

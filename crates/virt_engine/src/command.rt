@@ -1,4 +1,4 @@
-ghost use Rattle.virt_engine.specs.Command.{GivesRun, ReadsTask};
+ghost use Rattle.virt_engine.specs.Command.{ReadsTask};
 
 use std::alloc::Global;
 use virt_base::Text;
@@ -12,48 +12,21 @@ pub struct Names<'a> {
     pub out: &'a Text,
 }
 
-/// What a run works on, and how many steps it may take.
-#[derive(Drop)]
-pub struct RunTask {
-    pub component: Text,
-    pub script: Text,
-    pub steps: u64,
-}
-
 /// What a call is to do.
 #[derive(Drop)]
 pub enum Task {
     Virt(VirtWords),
-    Run(RunTask),
+    Run(RunWords),
 }
 
-/// What the words ask for. For now a run with a policy, and `gen`, are refused as words that give no command.
+/// What the words ask for. For now `gen` is refused as words that give no command.
 pub fn task_in(alloc: Global, words: &[Text]) -> Result<Task, WordsFault>
     ensures { ReadsTask words.now result }
 {
     match read_words(alloc, words) {
-        Ok(Command::Virt(names)) => Ok(Task::Virt(names)),
-        Ok(Command::Run(words)) => run_in(words),
+        Ok(Command::Virt(words)) => Ok(Task::Virt(words)),
+        Ok(Command::Run(words)) => Ok(Task::Run(words)),
         Ok(Command::Gen(_)) => Err(WordsFault::Usage),
         Err(fault) => Err(fault),
-    }
-}
-
-fn run_in(words: RunWords) -> Result<Task, WordsFault>
-    ensures { GivesRun words result }
-{
-    let RunWords {
-        component,
-        script,
-        policy,
-        steps,
-    } = words;
-    match policy {
-        Some(_) => Err(WordsFault::Usage),
-        None => Ok(Task::Run(RunTask {
-            component,
-            script,
-            steps,
-        })),
     }
 }

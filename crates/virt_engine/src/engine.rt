@@ -2,7 +2,7 @@ ghost use Rattle.std.specs.Prelude.{◌≡◌, true};
 ghost use Rattle.std.specs.Prelude.{None, Some};
 ghost use Rattle.virt_engine.specs.Command.{RunCommand, names_of, run_of};
 ghost use Rattle.virt_engine.specs.Plan.{Ran, RanCommand, Finishes, Completes, Accepts, Delivers};
-ghost use Rattle.virt_engine.specs.Runs.{RunCompletes, RunsBy};
+ghost use Rattle.virt_engine.specs.Runs.{RunAccepts, RunCompletes, RunsBy};
 
 use crate::command::{Names, Task, task_in};
 use crate::plan::{Ready, plan};
@@ -86,9 +86,11 @@ fn do_words<F: Files, S: Sink>(alloc: Global, words: &[Text], files: &mut F, out
 /// read whole, and its trees are made of what it writes out and of the files and folders that it names. APP is any valid component that
 /// imports nothing and exports neither a resource type nor a handle; one that imports something is unlisted for now.
 ///
-/// `run COMPONENT -s SCRIPT [--steps N]` runs a component over a script, and puts a line for each call of the host, each dropped handle
-/// and each result; the status says how it ended. COMPONENT is any valid component whose imports are instances of functions and types
-/// and that exports neither a resource type nor a handle. Nothing is put before the run has ended.
+/// `run COMPONENT -s SCRIPT [-p POLICY] [--steps N]` runs a component over a script, and puts a line for each call that the script
+/// answers, each dropped handle of the script's and each result; the status says how it ended. COMPONENT is any valid component whose
+/// imports are instances of functions and types and that exports neither a resource type nor a handle. With POLICY its imports have to
+/// be listed ones: they are answered under the policy, whose trees are made behind the reading of the script, and the script answers
+/// what the policy asks of a host. Nothing is put before the run has ended.
 ///
 /// Other commands are usage errors.
 pub fn wasi_virt<F: Files, S: Sink>(
@@ -108,6 +110,7 @@ pub fn wasi_virt<F: Files, S: Sink>(
     // of a run
     ensures runs { (c : RunCommand) → run_of words.now ≡ Some c → RunsBy c (F.state files.old) (F.state files.new) (S.state out.old) (S.state out.new) result }
     ensures run_completes { (c : RunCommand) → run_of words.now ≡ Some c → RunCompletes c (F.state files.old) (F.state files.new) (S.state out.old) (S.state out.new) result }
+    ensures run_accepts { (c : RunCommand) → run_of words.now ≡ Some c → RunAccepts c (F.state files.old) (F.state files.new) (S.state out.old) (S.state out.new) result }
 {
     do_words(alloc, words, files, out)
 }

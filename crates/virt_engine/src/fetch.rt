@@ -1,18 +1,10 @@
-ghost use Rattle.virt_engine.specs.Fetching.{Fetches, IsFileFaultOf, IsOverLimitOf};
+ghost use Rattle.virt_engine.specs.Fetching.{IsOverLimitOf};
 
 use crate::status::Status;
-use outside::{FileFail, Files};
+use run_inputs::Unready;
+use run_judge::RunRefusal;
 use std::alloc::Global;
 use virt_base::Text;
-
-fn file_fault(alloc: Global, name: &Text) -> Status
-    ensures { IsFileFaultOf name.now result }
-{
-    match name.copy(alloc) {
-        Ok(name) => Status::FileFault(name),
-        Err(_) => Status::NoMemory,
-    }
-}
 
 pub fn over_limit(alloc: Global, what: &str, value: u64) -> Status
     ensures { IsOverLimitOf what.now value result }
@@ -23,20 +15,20 @@ pub fn over_limit(alloc: Global, what: &str, value: u64) -> Status
     }
 }
 
-/// The bytes of a file within a limit.
-pub fn fetch<F: Files>(
-    alloc: Global,
-    name: &Text,
-    what: &str,
-    limit: u64,
-    files: &mut F,
-) -> Result<Vec<u8>, Status>
-    ensures { Fetches name.now what.now limit (F.state files.old) (F.state files.new) result }
-{
-    match files.read(alloc, name, limit) {
-        Ok(bytes) => Ok(bytes),
-        Err(FileFail::Missing) | Err(FileFail::Failed) => Err(file_fault(alloc, name)),
-        Err(FileFail::TooLong(len)) => Err(over_limit(alloc, what, len)),
-        Err(FileFail::NoMemory) => Err(Status::NoMemory),
+/// The status of a file that could not be read, or is refused.
+impl From<Unready> for Status {
+    ghost use Rattle.std.specs.Prelude.{◌≡◌};
+    ghost use Rattle.virt_engine.specs.Fetching.{unready_as};
+
+    ghost from_gives = { λ unready status. status ≡ unready_as unready };
+
+    fn from(unready: Unready) -> Status {
+        match unready {
+            Unready::FileFault(name) => Status::FileFault(name),
+            Unready::Refused(RunRefusal::Refused(fault)) => Status::AppRefused(fault),
+            Unready::Refused(RunRefusal::OverLimit(what, value)) => Status::OverLimit(what, value),
+            Unready::Refused(RunRefusal::BadScript(path)) => Status::ScriptRefused(path),
+            Unready::Refused(RunRefusal::NoMemory) => Status::NoMemory,
+        }
     }
 }

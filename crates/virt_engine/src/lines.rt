@@ -1,8 +1,8 @@
-ghost use Rattle.std.specs.Prelude.{◌≡◌, [], List, ℕ, All, OnOk, Vec};
+ghost use Rattle.std.specs.Prelude.{◌≡◌, ◌++◌, [], List, ℕ, All, None, OnOk, Vec, map};
 ghost use Rattle.std.specs.declared.alloc.Global.{Global};
 ghost use Rattle.host_port.specs.Calls.{plain_observation};
 ghost use Rattle.script_lines.specs.Lines.{line_text, type_of};
-ghost use Rattle.virt_engine.specs.Lines.{IsLine, Adds};
+ghost use Rattle.virt_engine.specs.Lines.{IsLine, Adds, texts};
 
 use host_port::Observation;
 use script_lines::print_observation;
@@ -49,7 +49,9 @@ impl Lines {
     }
 
     /// Adds the lines of what is seen of a host.
-    pub fn add_all(&mut self, alloc: Global, seen: &[Observation]) -> Result<(), NoMemory> {
+    pub fn add_all(&mut self, alloc: Global, seen: &[Observation]) -> Result<(), NoMemory>
+        ensures { OnOk result (texts self.new ≡ texts self.old ++ map (line_text None) (map plain_observation seen.now)) }
+    {
         for observation in seen {
             self.add(alloc, observation, None)?;
         }

@@ -82,6 +82,7 @@ pub fn plan<F: Files>(alloc: Global, names: Names<'_>, files: &mut F) -> Result<
 {
     let policy = fetch_policy(alloc, names.policy, files)?;
     let app = fetch_app(alloc, names.app, files)?;
+    // An application without imports sees nothing of the trees, so they are let go.
     make_trees(alloc, &policy, files)?;
     match ready_for(alloc, app, names.out) {
         Ok(ready) => Ok(ready),

@@ -1,13 +1,19 @@
-ghost use Rattle.std.specs.Prelude.{IfOk};
+ghost use Rattle.std.specs.Prelude.{◌≡◌, [], IfOk, OnOk, drop, map};
+ghost use Rattle.comp_grammar.specs.Trees.{plain as plain_tree};
+ghost use Rattle.host_script.specs.Script.{AreTyped, call_seen, exports_seen};
+ghost use Rattle.script_exports.specs.Callable.{callable};
+ghost use Rattle.script_lines.specs.Lines.{type_of};
+ghost use Rattle.virt_engine.specs.Calling.{result_named};
 ghost use Rattle.virt_engine.specs.Lines.{EndsBy};
-ghost use Rattle.virt_engine.specs.Shown.{CanRun, IsShown};
+ghost use Rattle.virt_engine.specs.Runners.{ShowsHost, ShowsEnd, Makes, CallsOn, Goes};
+ghost use Rattle.virt_engine.specs.Shown.{CanRun, IsShown, ShowsRun};
 
 use crate::ends::{end_by, seen_by};
 use crate::lines::Lines;
 use comp_interp::{Run, RunEnd as CallEnd};
 use comp_linking::link;
 use host_port::{Host, Observation};
-use host_script::{Call, ExportTypes, Script, ScriptHost};
+use host_script::{Call, ExportTypes};
 use run_judge::{Judged, RunEnd};
 use script_exports::callable;
 use std::alloc::Global;
@@ -22,7 +28,9 @@ pub struct Shown {
 }
 
 /// The result type of the first function with a name.
-fn result_named<'a>(exports: &'a ExportTypes, name: &Text) -> Option<&'a WitType> {
+fn result_named<'a>(exports: &'a ExportTypes, name: &Text) -> Option<&'a WitType>
+    ensures { type_of result ≡ result_named name.now (exports_seen exports.now) }
+{
     for export in exports.as_slice() {
         if export.name.is_same(name) {
             return export.ty.result.as_ref();
@@ -32,7 +40,9 @@ fn result_named<'a>(exports: &'a ExportTypes, name: &Text) -> Option<&'a WitType
 }
 
 /// What was seen behind the first ones.
-fn behind(seen: &[Observation], shown: usize) -> &[Observation] {
+fn behind(seen: &[Observation], shown: usize) -> &[Observation]
+    ensures { result.now ≡ drop shown seen.now }
+{
     if shown < seen.len() {
         &seen[shown..]
     } else {
@@ -42,16 +52,18 @@ fn behind(seen: &[Observation], shown: usize) -> &[Observation] {
 
 /// A component that runs, with the lines of what was seen so far.
 #[derive(Drop)]
-struct Runner {
-    run: Run<ScriptHost>,
+struct Runner<H> {
+    run: Run<H>,
     lines: Lines,
     /// So many of the host's observations stand among them.
     shown: usize,
 }
 
-impl Runner {
+impl<H: Host> Runner<H> {
     /// Adds what was seen of the host since then.
-    fn show_host(&mut self, alloc: Global) -> Result<(), NoMemory> {
+    fn show_host(&mut self, alloc: Global) -> Result<(), NoMemory>
+        ensures { OnOk result (ShowsHost H.step H.kept self.old self.new) }
+    {
         let seen = self.run.host().observations().as_slice();
         self.lines.add_all(alloc, behind(seen, self.shown))?;
         self.shown = seen.len();
@@ -65,7 +77,8 @@ impl Runner {
         end: CallEnd,
         ty: Option<&WitType>,
     ) -> Result<RunEnd, NoMemory>
-        ensures { IfOk result (EndsBy self.new.lines) }
+        ensures ends { IfOk result (EndsBy self.new.lines) }
+        ensures adds { IfOk result (λ how. ShowsEnd H.step H.kept end (type_of ty.entry) self.old how self.new) }
     {
         let how = end_by(&end);
         self.lines.add(alloc, &seen_by(end), ty)?;
@@ -74,7 +87,8 @@ impl Runner {
 
     /// Makes the instances of the component.
     fn make(&mut self, alloc: Global) -> Result<RunEnd, NoMemory>
-        ensures { IfOk result (EndsBy self.new.lines) }
+        ensures ends { IfOk result (EndsBy self.new.lines) }
+        ensures told { IfOk result (λ how. Makes H.step H.kept self.old how self.new) }
     {
         let end = self.run.instantiate(alloc)?;
         self.show_host(alloc)?;
@@ -90,7 +104,8 @@ impl Runner {
         exports: &ExportTypes,
         call: &Call,
     ) -> Result<RunEnd, NoMemory>
-        ensures { IfOk result (EndsBy self.new.lines) }
+        ensures ends { IfOk result (EndsBy self.new.lines) }
+        ensures told { IfOk result (λ how. CallsOn H.step H.kept (exports_seen exports.now) (call_seen call.now) self.old how self.new) }
     {
         let end = self.run.call_export(alloc, &call.name, &call.args)?;
         self.show_host(alloc)?;
@@ -104,7 +119,8 @@ impl Runner {
         exports: &ExportTypes,
         calls: &[Call],
     ) -> Result<RunEnd, NoMemory>
-        ensures { IfOk result (EndsBy self.new.lines) }
+        ensures ends { IfOk result (EndsBy self.new.lines) }
+        ensures told { IfOk result (λ how. Goes H.step H.kept (exports_seen exports.now) (map call_seen calls.now) self.old how self.new) }
     {
         let made = self.make(alloc)?;
         let RunEnd::Done = made else {
@@ -120,26 +136,29 @@ impl Runner {
     }
 }
 
-/// Runs a component over a script, in at most so many steps: it is made, and the script's calls are made, until one does not return.
-pub fn run_component(
+/// Runs a component over a host, in at most so many steps: it is made, and these calls of what it exports are made, until one does
+/// not return. What is shown of the host is what it says that was seen of it.
+pub fn run_component<H: Host + Drop>(
     alloc: Global,
     judged: Judged,
-    script: Script,
+    host: H,
+    calls: &[Call],
     steps: u64,
 ) -> Result<Shown, NoMemory>
     requires { CanRun judged }
-    ensures { IfOk result IsShown }
+    ensures ends { IfOk result IsShown }
+    ensures told { IfOk result (λ shown. (H.kept host).seen ≡ [] → AreTyped (callable judged.ty.exports) calls.now →
+        ShowsRun (plain_tree judged.component) H.step (H.kept host).state (map call_seen calls.now) steps shown) }
 {
     let Judged { component, ty } = judged;
-    let Script { answers, calls } = script;
     let exports = callable(alloc, &ty)?;
     let linked = link(alloc, component)?;
     let mut runner = Runner {
-        run: Run::new(alloc, linked, ScriptHost::new(answers), steps),
+        run: Run::new(alloc, linked, host, steps),
         lines: Lines::none(alloc),
         shown: 0,
     };
-    let end = runner.go(alloc, &exports, calls.as_slice())?;
+    let end = runner.go(alloc, &exports, calls)?;
     Ok(Shown {
         lines: runner.lines,
         end,

@@ -1,29 +1,21 @@
 ghost use Rattle.std.specs.Prelude.{◌≡◌};
 ghost use Rattle.virt_engine.specs.Command.{told_by};
-ghost use Rattle.virt_engine.specs.Runs.{ended_as, CanRun, IsRefusedFor, PutsShown, RunsBy, ShowsRun};
+ghost use Rattle.virt_engine.specs.Runs.{ended_as, PutsShown, RunsBy, ShowsAlone, ShowsUnder, ShowsTask};
 
-use crate::command::RunTask;
+use crate::policy::fetch_policy;
 use crate::report::refuse;
 use crate::status::Status;
+use crate::trees::make_trees;
 use crate::{Shown, run_component};
+use host_script::{Script, ScriptHost};
 use outside::{Files, Sink};
-use run_inputs::{Inputs, Unready, fetch_inputs};
-use run_judge::{RunEnd, RunRefusal};
+use reference_host::Referenced;
+use run_inputs::{Inputs, ListedInputs, fetch_inputs, fetch_listed};
+use run_judge::RunEnd;
 use sink_lines::put_lines;
 use std::alloc::Global;
-
-/// The status of what is not run.
-fn refused_for(unready: Unready) -> Status
-    ensures { IsRefusedFor unready result }
-{
-    match unready {
-        Unready::FileFault(name) => Status::FileFault(name),
-        Unready::Refused(RunRefusal::Refused(fault)) => Status::AppRefused(fault),
-        Unready::Refused(RunRefusal::OverLimit(what, value)) => Status::OverLimit(what, value),
-        Unready::Refused(RunRefusal::BadScript(path)) => Status::ScriptRefused(path),
-        Unready::Refused(RunRefusal::NoMemory) => Status::NoMemory,
-    }
-}
+use virt_base::Text;
+use virt_words::RunWords;
 
 /// The status of a run that ended so.
 fn ended_as(end: RunEnd) -> Status
@@ -49,28 +41,58 @@ fn put_shown<S: Sink>(shown: &Shown, out: &mut S) -> Status
     }
 }
 
-fn run_inputs<S: Sink>(alloc: Global, inputs: Inputs, steps: u64, out: &mut S) -> Status
-    requires { CanRun inputs }
-    ensures { ShowsRun (S.state out.old) (S.state out.new) result }
+/// Runs a component over a script alone.
+fn show_alone<F: Files>(alloc: Global, task: &RunWords, files: &mut F) -> Result<Shown, Status>
+    ensures { ShowsAlone (told_by task.now) (F.state files.old) (F.state files.new) result }
 {
+    let inputs = fetch_inputs(alloc, &task.component, &task.script, files)?;
     let Inputs { judged, script } = inputs;
-    match run_component(alloc, judged, script, steps) {
-        Ok(shown) => put_shown(&shown, out),
-        Err(_) => Status::NoMemory,
+    let Script { answers, calls } = script;
+    let host = ScriptHost::new(answers);
+    let shown = run_component(alloc, judged, host, calls.as_slice(), task.steps)?;
+    Ok(shown)
+}
+
+/// Runs a component over the reference host of a policy, which asks a script.
+fn show_under<F: Files>(
+    alloc: Global,
+    task: &RunWords,
+    policy: &Text,
+    files: &mut F,
+) -> Result<Shown, Status>
+    ensures { ShowsUnder (told_by task.now) policy.now (F.state files.old) (F.state files.new) result }
+{
+    let policy = fetch_policy(alloc, policy, files)?;
+    let inputs = fetch_listed(alloc, &task.component, &task.script, files)?;
+    let trees = make_trees(alloc, &policy, files)?;
+    let ListedInputs { inputs, listed } = inputs;
+    let Inputs { judged, script } = inputs;
+    let Script { answers, calls } = script;
+    let host = Referenced::new(alloc, policy, trees, &listed, ScriptHost::new(answers))?;
+    let shown = run_component(alloc, judged, host, calls.as_slice(), task.steps)?;
+    Ok(shown)
+}
+
+fn show_task<F: Files>(alloc: Global, task: &RunWords, files: &mut F) -> Result<Shown, Status>
+    ensures { ShowsTask (told_by task.now) (F.state files.old) (F.state files.new) result }
+{
+    match &task.policy {
+        None => show_alone(alloc, task, files),
+        Some(policy) => show_under(alloc, task, policy, files),
     }
 }
 
-/// Runs a component over a script. All lines are made before the first is put.
+/// Runs a component over a script, under a policy where one is named. All lines are made before the first is put.
 pub fn run_task<F: Files, S: Sink>(
     alloc: Global,
-    task: &RunTask,
+    task: &RunWords,
     files: &mut F,
     out: &mut S,
 ) -> Status
     ensures { RunsBy (told_by task.now) (F.state files.old) (F.state files.new) (S.state out.old) (S.state out.new) result }
 {
-    match fetch_inputs(alloc, &task.component, &task.script, files) {
-        Ok(inputs) => run_inputs(alloc, inputs, task.steps, out),
-        Err(unready) => refuse(alloc, refused_for(unready), out),
+    match show_task(alloc, task, files) {
+        Ok(shown) => put_shown(&shown, out),
+        Err(status) => refuse(alloc, status, out),
     }
 }

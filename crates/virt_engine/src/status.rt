@@ -1,7 +1,7 @@
 ghost use Rattle.std.specs.Prelude.{◌≡◌};
 ghost use Rattle.virt_engine.specs.Code.{code_of};
 
-use virt_base::{AppFault, Text};
+use virt_base::{AppFault, NoMemory, Text};
 
 /// Why a policy is refused.
 #[derive(Debug, Drop)]
@@ -38,6 +38,17 @@ pub enum Status {
     TooDeep,
     /// The words are no command.
     Usage,
+}
+
+impl From<NoMemory> for Status {
+    ghost use Rattle.std.specs.Prelude.{◌≡◌};
+    ghost use Rattle.virt_engine.specs.declared.status.Status.TheVariants.{NoMemory};
+
+    ghost from_gives = { λ _ status. status ≡ NoMemory };
+
+    fn from(_: NoMemory) -> Status {
+        Status::NoMemory
+    }
 }
 
 /// The exit status of a program that ended so.

@@ -6,6 +6,7 @@ use mount_tree::{TreeFault, build};
 use outside::Files;
 use policy_data::Policy;
 use std::alloc::Global;
+use tree_table::Trees;
 
 fn stopped_by(fault: TreeFault) -> Status
     ensures { IsStoppedBy fault result }
@@ -18,13 +19,13 @@ fn stopped_by(fault: TreeFault) -> Status
     }
 }
 
-/// Makes the trees of a policy. An application without imports sees nothing of them, so they are let go.
-pub fn make_trees<F: Files>(alloc: Global, policy: &Policy, files: &mut F) -> Result<(), Status>
+/// Makes the trees of a policy.
+pub fn make_trees<F: Files>(alloc: Global, policy: &Policy, files: &mut F) -> Result<Trees, Status>
     requires { KeepsLimits policy.now }
     ensures { MakesTrees policy.now (F.state files.old) (F.state files.new) result }
 {
     match build(alloc, policy, files) {
-        Ok(_) => Ok(()),
+        Ok(trees) => Ok(trees),
         Err(fault) => Err(stopped_by(fault)),
     }
 }

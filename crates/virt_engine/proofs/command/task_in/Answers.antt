@@ -5,10 +5,10 @@ use Rattle.virt_engine.proofs.WordLaws.{of_virt, of_run, of_gen, of_fault}
 use Rattle.virt_engine.proofs.command.task_in.Goals as goal
 
 pub returns-in-Ok-Virt : goal.returns-in-Ok-Virt
-returns-in-Ok-Virt c = of_virt c.args.words.now c.in-Ok-Virt.names (c.in-Ok-Virt.ensures ∙ ap (λ (x : Said). Some x) c.in-Ok-Virt.field-0-is)
+returns-in-Ok-Virt c = of_virt c.args.words.now c.in-Ok-Virt.words (c.in-Ok-Virt.ensures ∙ ap (λ (x : Said). Some x) c.in-Ok-Virt.field-0-is)
 
 pub returns-in-Ok-Run : goal.returns-in-Ok-Run
-returns-in-Ok-Run c = of_run c.args.words.now c.in-Ok-Run.words _ (c.in-Ok-Run.ensures ∙ ap (λ (x : Said). Some x) c.in-Ok-Run.field-0-is) c.run_in.ensures
+returns-in-Ok-Run c = of_run c.args.words.now c.in-Ok-Run.words (c.in-Ok-Run.ensures ∙ ap (λ (x : Said). Some x) c.in-Ok-Run.field-0-is)
 
 pub returns-in-Ok-Gen : goal.returns-in-Ok-Gen
 returns-in-Ok-Gen c = of_gen c.args.words.now c.in-Ok-Gen.field-0-0 (c.in-Ok-Gen.ensures ∙ ap (λ (x : Said). Some x) c.in-Ok-Gen.field-0-is)

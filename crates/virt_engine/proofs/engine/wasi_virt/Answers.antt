@@ -1,5 +1,5 @@
 use Rattle.virt_engine.proofs.Runs.{completes, accepts, delivers}
-use Rattle.virt_engine.proofs.RunLaws.{run_completes}
+use Rattle.virt_engine.proofs.RunLaws.{run_accepts, run_completes}
 use Rattle.virt_engine.proofs.engine.wasi_virt.Goals as goal
 
 pub returns-clause-complete : goal.returns-clause-complete
@@ -13,3 +13,6 @@ returns-clause-delivers g c = λ none. delivers _ _ _ _ _ _ (c.do_words.ensures.
 
 pub returns-clause-run_completes : goal.returns-clause-run_completes
 returns-clause-run_completes g c = λ command run. run_completes _ _ _ _ _ _ (c.do_words.ensures.run command run)
+
+pub returns-clause-run_accepts : goal.returns-clause-run_accepts
+returns-clause-run_accepts g c = λ command run. run_accepts _ _ _ _ _ _ (c.do_words.ensures.run command run)

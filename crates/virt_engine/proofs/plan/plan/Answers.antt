@@ -21,7 +21,7 @@ pub returns-in-Ok : goal.returns-in-Ok
 returns-in-Ok g c =
     let typed = c.in_ok-app.ensures.app in
     let tree = typed.0.tree in
-    plans_ready _ _ _ _ c.in_ok-policy.ensures _ _ c.in_ok-app.ensures _ c.in_ok-make_trees.ensures _ c.in-Ok.ensures.output
+    plans_ready _ _ _ _ c.in_ok-policy.ensures _ _ c.in_ok-app.ensures _ _ c.in_ok-make_trees.ensures _ c.in-Ok.ensures.output
     (is_output _ _ tree _ typed.0.application typed.1 c.in-Ok.ensures.output (c.in-Ok.ensures.spelled tree (app_spelled c.in_ok-app.app.bytes.items tree typed.0.application)))
     c.in-Ok.ensures.done c.in-Ok.ensures.fault c.in-Ok.ensures.line
 

@@ -1,0 +1,7 @@
+use Rattle.virt_engine.proofs.Following.{shows_host}
+use Rattle.virt_engine.proofs.runner.Runner.show_host.Goals as goal
+
+pub returns : goal.returns
+returns g c =
+    shows_host _ _ c.args.self.now c.add_all.new.self c.host.result.now c.observations.result.now c.as_slice-seen.result.now c.behind.result.now
+    c.host.ensures c.observations.ensures c.as_slice-seen.ensures c.behind.ensures c.in_ok-add_all.ensures
