@@ -156,6 +156,19 @@ def borrow(i):
     return b"\x68" + leb(i)
 
 
+def option(ty):
+    return b"\x6b" + ty
+
+
+def result():
+    return b"\x6a\0\0"
+
+
+def outer_type(i):
+    """A type of the component around an instance type."""
+    return b"\2\3\2\1" + leb(i)
+
+
 def instance_type(*items):
     return b"\x42" + many(items)
 
@@ -429,10 +442,75 @@ def closed():
     )
 
 
+def lent_stream():
+    """The same as `lent` with a stream of the standard input."""
+    served = module(imports=[("host", "drop", ONE)], functions=[(ONE, 0, const(1) + call(0))], exports=[("f", 0, 1)])
+    starts = module(imports=[("host", "open", GIVES), ("host", "f", ONE)], functions=[(NONE, 0, call(0) + call(1))], exports=[], start=2)
+    return component(
+        types(instance_type(exports_type("input-stream"))),
+        imports(("wasi:io/streams@0.2.0", an_instance(0))),
+        aliases(from_instance(TYPE, 0, "input-stream")),
+        types(instance_type(outer_type(1), declares(own(0)), declares(func([], leb(1))), exports_func("get-stdin", 2))),
+        imports(("wasi:cli/stdin@0.2.0", an_instance(2))),
+        aliases(from_instance(FUNC, 1, "get-stdin")),
+        canons(lower(0), resource_drop(1)),
+        core_module(served),
+        core_instances(of_core_items(("drop", 0, 1)), of_module(0, host=0)),
+        aliases(from_core(0, 1, "f")),
+        types(borrow(1), func([("it", leb(3))])),
+        canons(lift(2, 4), lower(1)),
+        core_module(starts),
+        core_instances(of_core_items(("open", 0, 0), ("f", 0, 3)), of_module(1, host=2)),
+    )
+
+
+def realloc_exits():
+    """A realloc asks for the end of the program while a text of the host is lowered."""
+    library = module(
+        imports=[("host", "exit", ONE)],
+        functions=[((4, 1), 0, const(0) + call(0) + const(64))],
+        exports=[("memory", 2, 0), ("realloc", 0, 1)],
+        memory=True,
+    )
+    main = module(imports=[("host", "cwd", ONE)], functions=[(NONE, 0, const(16) + call(0))], exports=[("f", 0, 1)])
+    return component(
+        types(
+            instance_type(declares(option(prim(STRING))), declares(func([], leb(0))), exports_func("initial-cwd", 1)),
+            instance_type(declares(result()), declares(func([("status", leb(0))])), exports_func("exit", 1)),
+        ),
+        imports(("wasi:cli/environment@0.2.0", an_instance(0)), ("wasi:cli/exit@0.2.0", an_instance(1))),
+        aliases(from_instance(FUNC, 0, "initial-cwd"), from_instance(FUNC, 1, "exit")),
+        canons(lower(1)),
+        core_module(library),
+        core_instances(of_core_items(("exit", 0, 0)), of_module(0, host=0)),
+        aliases(from_core(2, 1, "memory"), from_core(0, 1, "realloc")),
+        canons(lower(0, memory_option(0), realloc_option(1))),
+        core_module(main),
+        core_instances(of_core_items(("cwd", 0, 2)), of_module(1, host=2)),
+        aliases(from_core(0, 3, "f")),
+        types(func([])),
+        canons(lift(3, 2)),
+        exports(("f", FUNC, 2)),
+    )
+
+
+MADE = {
+    "things": things,
+    "lent": lent,
+    "lent_stream": lent_stream,
+    "owner": owner,
+    "nested_calls": nested_calls,
+    "starts": starts,
+    "closed": closed,
+    "realloc_exits": realloc_exits,
+}
+
+
 def main(folder):
-    for name, made in [("things", things()), ("lent", lent()), ("owner", owner()), ("nested_calls", nested_calls()), ("starts", starts()), ("closed", closed())]:
+    for name, made in MADE.items():
         with open(os.path.join(folder, f"{name}.wasm"), "wb") as file:
-            file.write(made)
+            file.write(made())
 
 
-main(sys.argv[1])
+if __name__ == "__main__":
+    main(sys.argv[1])

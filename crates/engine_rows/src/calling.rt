@@ -1,12 +1,12 @@
 //! A call of `wasi_virt` over files that answer what a row says.
 
 use crate::saying::{Answers, Saying};
+use crate::top::exit_of;
 use outside::{MemSink, Places};
 use std::alloc::Global;
 use std::process::Abort;
 use std::test::Fail;
 use virt_base::{Items, NoMemory, Text};
-use virt_engine::{code, wasi_virt};
 
 /// A sink whose calls of these numbers fail.
 pub fn sink_of(alloc: Global, failing: &[u64]) -> Result<MemSink, NoMemory> {
@@ -31,8 +31,8 @@ pub fn says(
     }
     let mut files = Saying::new(answers);
     let mut sink = sink_of(alloc, &[])?;
-    let status = wasi_virt(alloc, texts.as_slice(), &mut files, &mut sink);
-    assert_eq!(rt; code(&status), exit);
+    let status = exit_of(alloc, texts.as_slice(), &mut files, &mut sink);
+    assert_eq!(rt; status, exit);
     assert_eq!(rt; sink.bytes(), lines.as_bytes());
     Ok(())
 }

@@ -2,10 +2,10 @@ use crate::fixtures::{
     EMPTY, Ran, SEVEN, SEVEN_OUT, WORDS, files_of, files_with, mounted, run_app, run_on, sink_of,
     words_of,
 };
+use crate::top::exit_of;
 use std::alloc::Global;
 use std::test::Fail;
 use virt_base::{NoMemory, Text, write_u32};
-use virt_engine::{code, wasi_virt};
 
 /// The place of the operand of `i32.const` in it.
 const OPERAND: usize = 42;
@@ -241,8 +241,8 @@ fn what_fits_stays_after_a_write_without_room(rt: HostRuntime) -> Result<(), Fai
     let mut files = files_of(alloc, &SEVEN, b"slots = 3", 50, &[])?;
     let mut sink = sink_of(alloc, &[])?;
     let words = words_of(alloc, &WORDS)?;
-    let status = wasi_virt(alloc, words.as_slice(), &mut files, &mut sink);
-    assert_eq!(rt; code(&status), 3);
+    let status = exit_of(alloc, words.as_slice(), &mut files, &mut sink);
+    assert_eq!(rt; status, 3);
     assert_eq!(rt; sink.bytes(), b"file fault: o\n".as_slice());
     for (name, bytes) in [
         ("a", SEVEN.as_slice()),
@@ -281,7 +281,6 @@ fn refusals_come_in_their_order(rt: HostRuntime) -> Result<(), Fail> {
     let pack = ["pack"];
     let twice = ["virt", "a", "-p", "p", "-p", "p", "-o", "o"];
     let one_word_more = ["virt", "a", "b", "-p", "p", "-o", "o"];
-    let run = ["run", "a", "-s", "p", "-p", "p"];
     let make = ["gen", "3", "o"];
     let no_policy = ["virt", "a", "-p", "q", "-o", "o"];
     let no_app = ["virt", "b", "-p", "p", "-o", "o"];
@@ -296,7 +295,6 @@ fn refusals_come_in_their_order(rt: HostRuntime) -> Result<(), Fail> {
             64,
             usage.as_slice(),
         ),
-        (run.as_slice(), b"".as_slice(), 64, usage.as_slice()),
         (make.as_slice(), b"".as_slice(), 64, usage.as_slice()),
         (
             no_policy.as_slice(),

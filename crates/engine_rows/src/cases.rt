@@ -9,6 +9,8 @@ pub struct Case<'a> {
     pub steps: &'a str,
     /// The exit status.
     pub status: &'a str,
+    /// The file `POLICY.toml`, of a run under a policy.
+    pub policy: Option<&'a str>,
 }
 
 pub fn case_in(row: &str) -> Option<Case<'_>> {
@@ -19,6 +21,7 @@ pub fn case_in(row: &str) -> Option<Case<'_>> {
             component,
             steps,
             status,
+            policy: words.next(),
         }),
         _ => None,
     }

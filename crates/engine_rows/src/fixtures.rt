@@ -1,8 +1,8 @@
+use crate::top::exit_of;
 use outside::{Contents, Entries, Entry, EntryKind, MemFiles, MemSink, Named, Places};
 use std::alloc::Global;
 use std::process::Abort;
 use virt_base::{Bytes, Items, NoMemory, Text};
-use virt_engine::{code, wasi_virt};
 
 /// A component whose export `f` answers 7.
 pub const SEVEN: [u8; 83] = [
@@ -149,13 +149,13 @@ pub fn run_on(
     mut sink: MemSink,
 ) -> Result<Ran, NoMemory> {
     let words = words_of(alloc, words)?;
-    let status = wasi_virt(alloc, words.as_slice(), &mut files, &mut sink);
+    let status = exit_of(alloc, words.as_slice(), &mut files, &mut sink);
     let out = match files.file(&Text::from_str(alloc, "o")?) {
         Some(bytes) => Some(Vec::from_slice(alloc, bytes)?),
         None => None,
     };
     Ok(Ran {
-        code: code(&status),
+        code: status,
         text: Vec::from_slice(alloc, sink.bytes())?,
         out,
     })

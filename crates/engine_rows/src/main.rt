@@ -12,6 +12,14 @@ mod cases;
 #[cfg(test)]
 mod fixtures;
 #[cfg(test)]
+mod policy_fixtures;
+#[cfg(test)]
+mod policy_limits;
+#[cfg(test)]
+mod policy_refusals;
+#[cfg(test)]
+mod policy_runs;
+#[cfg(test)]
 mod puts;
 #[cfg(test)]
 mod refusals;
@@ -26,6 +34,7 @@ mod saying;
 #[cfg(test)]
 mod statuses;
 mod stored;
+mod top;
 #[cfg(test)]
 mod usage;
 

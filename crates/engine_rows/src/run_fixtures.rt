@@ -1,11 +1,11 @@
 //! A component and a script in memory, and calls on them.
 
+use crate::top::exit_of;
 use outside::{Contents, MemFiles, MemSink, Named, Places};
 use std::alloc::Global;
 use std::process::Abort;
 use std::test::Fail;
 use virt_base::{Bytes, Items, Text};
-use virt_engine::{code, wasi_virt};
 
 /// The sections of a component whose export `f` answers 7.
 pub const SEVEN: &str =
@@ -65,9 +65,9 @@ pub fn said(
     out: &mut MemSink,
 ) -> Result<String, Fail> {
     let words = words_of(alloc, words)?;
-    let status = wasi_virt(alloc, words.as_slice(), files, out);
+    let status = exit_of(alloc, words.as_slice(), files, out);
     match str::from_utf8(out.bytes()) {
-        Ok(text) => Ok(format!(in alloc; "{status} {text}", status = code(&status))?),
+        Ok(text) => Ok(format!(in alloc; "{status} {text}")?),
         Err(_) => Err(Fail::from("no UTF-8")),
     }
 }

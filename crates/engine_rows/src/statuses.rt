@@ -2,10 +2,10 @@
 
 use crate::calling::{says, sink_of};
 use crate::saying::{Answers, Listed, Said, Saying};
+use crate::top::exit_of;
 use std::alloc::Global;
 use std::process::Abort;
 use std::test::Fail;
-use virt_engine::{code, wasi_virt};
 
 /// The component without sections (Component Model, Binary.md).
 const EMPTY: [u8; 8] = [0x00, 0x61, 0x73, 0x6d, 0x0d, 0x00, 0x01, 0x00];
@@ -124,8 +124,8 @@ fn the_output_is_not_written(rt: HostRuntime) -> Result<(), Fail> {
 fn the_line_is_not_put(rt: HostRuntime) -> Result<(), Fail> {
     let alloc = rt.alloc();
     let mut sink = sink_of(alloc, &[0])?;
-    let status = wasi_virt(alloc, &[], &mut Saying::new(FINE), &mut sink);
-    assert_eq!(rt; code(&status), 4);
+    let status = exit_of(alloc, &[], &mut Saying::new(FINE), &mut sink);
+    assert_eq!(rt; status, 4);
     assert_eq!(rt; sink.bytes().len(), 0);
     Ok(())
 }
@@ -250,7 +250,7 @@ fn memory_runs_out(rt: HostRuntime) -> Result<(), Fail> {
 fn words_are_no_command(rt: HostRuntime) -> Result<(), Fail> {
     let alloc = rt.alloc();
     let mut sink = sink_of(alloc, &[])?;
-    let status = wasi_virt(alloc, &[], &mut Saying::new(FINE), &mut sink);
-    assert_eq!(rt; code(&status), 64);
+    let status = exit_of(alloc, &[], &mut Saying::new(FINE), &mut sink);
+    assert_eq!(rt; status, 64);
     Ok(())
 }

@@ -1,9 +1,9 @@
 use crate::cases::Case;
+use crate::top::exit_of;
 use outside::{Contents, MemFiles, MemSink, Named};
 use std::alloc::Global;
 use std::fs;
-use virt_base::{Items, NoMemory, Text};
-use virt_engine::{code, wasi_virt};
+use virt_base::{Bytes, Items, NoMemory, Text};
 
 /// Lines have at most so many bytes together.
 const ROOM: usize = 1_048_576;
@@ -15,16 +15,33 @@ struct Ran {
     lines: Vec<u8>,
 }
 
-fn files_of(alloc: Global, component: Vec<u8>, script: Vec<u8>) -> Result<MemFiles, NoMemory> {
+/// What a run finds: the files by their names in its words.
+#[derive(Drop)]
+struct Given {
+    component: Vec<u8>,
+    script: Vec<u8>,
+    policy: Option<Vec<u8>>,
+}
+
+fn named(alloc: Global, name: &str, bytes: Vec<u8>) -> Result<Named<Bytes>, NoMemory> {
+    Ok(Named {
+        name: Text::from_str(alloc, name)?,
+        value: Items::new(bytes),
+    })
+}
+
+fn files_of(alloc: Global, given: Given) -> Result<MemFiles, NoMemory> {
+    let Given {
+        component,
+        script,
+        policy,
+    } = given;
     let mut files = Items::empty(alloc);
-    files.push(Named {
-        name: Text::from_str(alloc, "component")?,
-        value: Items::new(component),
-    })?;
-    files.push(Named {
-        name: Text::from_str(alloc, "script")?,
-        value: Items::new(script),
-    })?;
+    files.push(named(alloc, "component", component)?)?;
+    files.push(named(alloc, "script", script)?)?;
+    if let Some(policy) = policy {
+        files.push(named(alloc, "policy", policy)?)?;
+    }
     let contents = Contents {
         files,
         folders: Items::empty(alloc),
@@ -32,26 +49,30 @@ fn files_of(alloc: Global, component: Vec<u8>, script: Vec<u8>) -> Result<MemFil
     MemFiles::new(alloc, contents, Items::empty(alloc))
 }
 
-fn words_of(alloc: Global, steps: &str) -> Result<Vec<Text>, NoMemory> {
+fn words_of(alloc: Global, case: &Case<'_>) -> Result<Vec<Text>, NoMemory> {
     let mut words = Vec::new(alloc);
     for word in ["run", "component", "-s", "script"] {
         words.push(Text::from_str(alloc, word)?)?;
     }
-    if steps != "-" {
+    if case.steps != "-" {
         words.push(Text::from_str(alloc, "--steps")?)?;
-        words.push(Text::from_str(alloc, steps)?)?;
+        words.push(Text::from_str(alloc, case.steps)?)?;
+    }
+    if case.policy.is_some() {
+        words.push(Text::from_str(alloc, "-p")?)?;
+        words.push(Text::from_str(alloc, "policy")?)?;
     }
     Ok(words)
 }
 
-fn run(alloc: Global, component: Vec<u8>, script: Vec<u8>, steps: &str) -> Result<Ran, NoMemory> {
-    let words = words_of(alloc, steps)?;
-    let mut files = files_of(alloc, component, script)?;
+fn run(alloc: Global, case: &Case<'_>, given: Given) -> Result<Ran, NoMemory> {
+    let words = words_of(alloc, case)?;
+    let mut files = files_of(alloc, given)?;
     let mut out = MemSink::new(alloc, Items::empty(alloc));
     out.reserve(alloc, ROOM)?;
-    let status = wasi_virt(alloc, words.as_slice(), &mut files, &mut out);
+    let status = exit_of(alloc, words.as_slice(), &mut files, &mut out);
     Ok(Ran {
-        status: code(&status),
+        status,
         lines: Vec::from_slice(alloc, out.bytes())?,
     })
 }
@@ -65,6 +86,21 @@ fn bytes_of(rt: &HostRuntime, name: &str, kind: &str) -> Option<Vec<u8>> {
     fs::read(rt, path.as_str()).ok()
 }
 
+/// The files of a row.
+fn files_for(rt: &HostRuntime, case: &Case<'_>) -> Option<Given> {
+    let component = bytes_of(rt, case.component, "wasm")?;
+    let script = bytes_of(rt, case.name, "json")?;
+    let policy = match case.policy {
+        None => None,
+        Some(name) => Some(bytes_of(rt, name, "toml")?),
+    };
+    Some(Given {
+        component,
+        script,
+        policy,
+    })
+}
+
 fn is_as_written(alloc: Global, case: &Case<'_>, ran: &Ran, lines: &[u8]) -> bool {
     match format!(in alloc; "{status}", status = ran.status) {
         Ok(status) => status.as_str() == case.status && ran.lines.as_slice() == lines,
@@ -75,14 +111,10 @@ fn is_as_written(alloc: Global, case: &Case<'_>, ran: &Ran, lines: &[u8]) -> boo
 /// Whether a run's status and lines are those of its row.
 pub fn comes_out(rt: &HostRuntime, case: &Case<'_>) -> bool {
     let alloc = rt.alloc();
-    let (Some(component), Some(script), Some(lines)) = (
-        bytes_of(rt, case.component, "wasm"),
-        bytes_of(rt, case.name, "json"),
-        bytes_of(rt, case.name, "lines"),
-    ) else {
+    let (Some(given), Some(lines)) = (files_for(rt, case), bytes_of(rt, case.name, "lines")) else {
         return false;
     };
-    match run(alloc, component, script, case.steps) {
+    match run(alloc, case, given) {
         Ok(ran) => is_as_written(alloc, case, &ran, lines.as_slice()),
         Err(_) => false,
     }

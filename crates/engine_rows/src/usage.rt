@@ -67,12 +67,15 @@ fn steps(rt: HostRuntime) -> Result<(), Fail> {
     say(&rt, rt.alloc(), rows, USAGE)
 }
 
-// For now a run has no policy.
+// A run has one policy at most, beside its component and its script.
 #[test]
 fn policies(rt: HostRuntime) -> Result<(), Fail> {
     let rows = "
-        run c -s s -p s
-        run c -s s --policy s
+        run c -s s -p
+        run c -s s -p p -p p
+        run c -s s -p p --policy p
+        run c -p p
+        run -s s -p p
     ";
     say(&rt, rt.alloc(), rows, USAGE)
 }
