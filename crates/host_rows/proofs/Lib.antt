@@ -1,2 +1,0 @@
-pub mod Compute
-pub mod Methods
