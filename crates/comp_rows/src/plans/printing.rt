@@ -5,7 +5,7 @@ use comp_plans::{ItemAt, Linked, PlanArg, PlanItem};
 use std::alloc::Global;
 use std::test::Fail;
 use virt_base::Text;
-use wasm_ast::{CoreArg, CoreExport, CoreSort, Sort};
+use wasm_ast::{CoreArg, CoreExport, CoreFunc, CoreSort, Sort};
 
 fn core_sort(sort: CoreSort) -> &'static str {
     match sort {
@@ -91,6 +91,65 @@ fn canon(
     Ok(())
 }
 
+fn component(
+    alloc: Global,
+    text: &mut String,
+    number: u32,
+    first: u32,
+    given: &[PlanArg],
+) -> Result<(), Fail> {
+    put(alloc, text, "component ", &number)?;
+    put(alloc, text, " from ", &first)?;
+    args(alloc, text, given)
+}
+
+/// A resource, with the function that destroys it.
+fn new_resource(
+    alloc: Global,
+    text: &mut String,
+    resource: u32,
+    destructor: Option<u32>,
+) -> Result<(), Fail> {
+    put(alloc, text, "resource ", &resource)?;
+    match destructor {
+        Some(func) => put(alloc, text, " with ", &func),
+        None => Ok(()),
+    }
+}
+
+fn lowered(
+    alloc: Global,
+    text: &mut String,
+    func: u32,
+    options: usize,
+    ty: &CoreFunc,
+) -> Result<(), Fail> {
+    canon(alloc, text, "lower ", func, options)?;
+    put(alloc, text, " to ", &ty.params.len())?;
+    put(alloc, text, " and ", &ty.results.len())
+}
+
+fn import(text: &mut String, name: &Text) -> Result<(), Fail> {
+    text.push_str("import ")?;
+    text.push_str(name.as_str())?;
+    Ok(())
+}
+
+fn export(
+    alloc: Global,
+    text: &mut String,
+    name: &Text,
+    at: ItemAt,
+    is_stated: bool,
+) -> Result<(), Fail> {
+    text.push_str("export ")?;
+    text.push_str(name.as_str())?;
+    text.push('=')?;
+    item_at(alloc, text, at)?;
+    text.push_str(if is_stated { " as stated" } else { "" })?;
+    Ok(())
+}
+
 fn item(alloc: Global, text: &mut String, item: &PlanItem) -> Result<(), Fail> {
     match item {
         PlanItem::OfModule { number, args } => {
@@ -112,12 +171,8 @@ fn item(alloc: Global, text: &mut String, item: &PlanItem) -> Result<(), Fail> {
         PlanItem::OfComponent {
             number,
             first,
-            args: given,
-        } => {
-            put(alloc, text, "component ", number)?;
-            put(alloc, text, " from ", first)?;
-            args(alloc, text, given.as_slice())
-        }
+            args,
+        } => component(alloc, text, *number, *first, args.as_slice()),
         PlanItem::OfItems { exports } => {
             text.push_str("items")?;
             args(alloc, text, exports.as_slice())
@@ -130,38 +185,15 @@ fn item(alloc: Global, text: &mut String, item: &PlanItem) -> Result<(), Fail> {
         PlanItem::NewResource {
             resource,
             destructor,
-        } => {
-            put(alloc, text, "resource ", resource)?;
-            match destructor {
-                Some(func) => put(alloc, text, " with ", func),
-                None => Ok(()),
-            }
-        }
+        } => new_resource(alloc, text, *resource, *destructor),
         PlanItem::Lifts { func, options, .. } => canon(alloc, text, "lift ", *func, options.len()),
-        PlanItem::Lowers { func, options, ty } => {
-            canon(alloc, text, "lower ", *func, options.len())?;
-            put(alloc, text, " to ", &ty.params.len())?;
-            put(alloc, text, " and ", &ty.results.len())
-        }
+        PlanItem::Lowers { func, options, ty } => lowered(alloc, text, *func, options.len(), ty),
         PlanItem::MakesResource(resource) => put(alloc, text, "new ", resource),
         PlanItem::DropsResource(resource) => put(alloc, text, "drop ", resource),
         PlanItem::ReadsResource(resource) => put(alloc, text, "rep ", resource),
-        PlanItem::Imports { name, .. } => {
-            text.push_str("import ")?;
-            text.push_str(name.as_str())?;
-            Ok(())
-        }
-        PlanItem::Exports {
-            name,
-            item: at,
-            stated,
-        } => {
-            text.push_str("export ")?;
-            text.push_str(name.as_str())?;
-            text.push('=')?;
-            item_at(alloc, text, *at)?;
-            text.push_str(if stated.is_some() { " as stated" } else { "" })?;
-            Ok(())
+        PlanItem::Imports { name, .. } => import(text, name),
+        PlanItem::Exports { name, item, stated } => {
+            export(alloc, text, name, *item, stated.is_some())
         }
     }
 }
