@@ -50,7 +50,7 @@ pub fn copy_type(_alloc: Global, ty: &WitType) -> Result<WitType, NoMemory>
 fn copy_fields(alloc: Global, fields: &[Field]) -> Result<Fields, NoMemory>
     ensures { IfOk result (λ copy. fields_of (out-Fields copy).items.items ≡ fields_of fields.now) }
 {
-    let mut items = Vec::new(alloc);
+    let mut items = Vec::with_capacity(alloc, fields.len())?;
     for field in fields {
         let name = field.name.copy(alloc)?;
         let ty = copy_type(alloc, &field.ty)?;

@@ -21,7 +21,7 @@ fn copy_payload(alloc: Global, payload: &Option<Box<Value>>) -> Result<Option<Bo
 fn copy_each(alloc: Global, values: &[Value]) -> Result<Vec<Value>, NoMemory>
     ensures { IfOk result (λ copies. values_of copies.items ≡ values_of values.now) }
 {
-    let mut items = Vec::new(alloc);
+    let mut items = Vec::with_capacity(alloc, values.len())?;
     for value in values {
         items.push(copy_value(alloc, value)?)?;
     }
