@@ -3,8 +3,8 @@ use Rattle.std.specs.Prelude.{◌≡◌, Result, Ok, Err}
 use Rattle.wit_types.specs.PlainValue.{PlainValue, plain_value}
 use Rattle.wit_types.specs.declared.value.Value.{Value}
 use Rattle.host_port.specs.Calls.{PlainCall, PlainAnswer, Gives, Trap, Ended, Bad}
+use Rattle.comp_worlds.specs.Groups.{Import}
 use Rattle.comp_worlds.specs.Passing.{in_tuple, values_in}
-use Rattle.instance_values.specs.declared.target.Import.{Import}
 use Rattle.call_frames.specs.declared.end.Stop.{Stop}
 use Rattle.call_frames.specs.declared.end.Stop.TheVariants as stops
 

@@ -8,18 +8,11 @@ use host_port::HostCall;
 use instance_values::Import;
 use std::alloc::Global;
 use virt_base::NoMemory;
-use wit_types::{FuncType, Value, copy_func};
+use wit_types::Value;
 
 /// The call of an import.
 pub fn host_call(alloc: Global, import: &Import, args: Value) -> Result<HostCall, NoMemory>
     ensures { IfOk result (λ call. plain_call call ≡ called import.now (plain_value args)) }
 {
-    let FuncType { params, result } = copy_func(alloc, import.ty.func().ty())?;
-    Ok(HostCall {
-        interface: import.interface.copy(alloc)?,
-        function: import.function.copy(alloc)?,
-        params,
-        args: values_in(alloc, args),
-        result,
-    })
+    import.call(values_in(alloc, args))
 }

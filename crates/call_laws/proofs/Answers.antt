@@ -8,12 +8,10 @@ use Rattle.host_port.specs.Calls.{PlainCall, PlainAnswer, Gives, Trap, Ended, Ba
 use Rattle.host_port.specs.Hosts.{HostStep}
 use Rattle.comp_worlds.specs.Acts.{Out, Next}
 use Rattle.comp_worlds.specs.Passing.{params_tuple, answer_tuple, values_in}
-use Rattle.comp_worlds.specs.Groups.{Nesting, Config, World, Nothing, Answer, Inside}
+use Rattle.comp_worlds.specs.Groups.{Nesting, Config, World, Nothing, Answer, Inside, Import}
 use Rattle.comp_worlds.specs.Calls.{below, below_end}
 use Rattle.comp_worlds.specs.Hosts.{call_of, passed_by, answered_by, reacts, hosted}
 use Rattle.value_numbers.proofs.Twice.{twice}
-use Rattle.instance_values.specs.declared.target.Import.{Import}
-use Rattle.instance_values.specs.Targets.{import_of}
 use Rattle.call_frames.specs.declared.end.Stop.{Stop}
 use Rattle.call_frames.specs.declared.end.Stop.TheVariants as stops
 use Rattle.call_frames.specs.Asking.{called, Asks}
@@ -21,7 +19,7 @@ use Rattle.call_laws.specs.Laws.{ComesOut, HostsAnswer}
 use Rattle.call_laws.proofs.Own.{numbers, own_numbers}
 
 -- the call that the ports make is that of the value itself
-same_call : (i : Import) (args : PlainValue) → call_of (import_of i) (passed_by (params_tuple i.ty) args) ≡ called i args
+same_call : (i : Import) (args : PlainValue) → call_of i (passed_by (params_tuple i.ty) args) ≡ called i args
 same_call i args =
     let ty = params_tuple i.ty in
     ap (λ v. record { interface = i.interface; function = i.function; params = i.ty.params; args = values_in v; answer = i.ty.answer })
@@ -50,12 +48,12 @@ module _ {S : Type 0} (h : HostStep S) (configs : ℕ → Config ℕ) (s : S) (i
   by_answer a (Err stops.TooDeep) e = e
   by_answer a (Err stops.NoMemory) e = tt
 
-  port_is : (d : Nesting) → below ((hosted h).ask d Inside (import_of i) (passed_by (params_tuple i.ty) args)) world n ≡ out_of (call_of (import_of i) (passed_by (params_tuple i.ty) args))
+  port_is : (d : Nesting) → below ((hosted h).ask d Inside i (passed_by (params_tuple i.ty) args)) world n ≡ out_of (call_of i (passed_by (params_tuple i.ty) args))
   unfolding below reacts
   port_is d = refl
 
   pub comes_out : (d : Nesting) (result : Result Value Stop) → Asks (h.call s (called i args)).answer result →
-      ComesOut h configs s i args n (below ((hosted h).ask d Inside (import_of i) (passed_by (params_tuple i.ty) args)) world n) result
+      ComesOut h configs s i args n (below ((hosted h).ask d Inside i (passed_by (params_tuple i.ty) args)) world n) result
   comes_out d result g =
       subst (λ out. ComesOut h configs s i args n out result) (sym (port_is d ∙ ap out_of (same_call i args))) (by_answer (h.call s (called i args)).answer result g)
 

@@ -5,11 +5,9 @@ use Rattle.wit_types.specs.declared.value.Value.{Value}
 use Rattle.host_port.specs.Hosts.{HostStep, Kept, answer_of}
 use Rattle.comp_worlds.specs.Acts.{Trapped, ScriptEnded, BadAnswer, TooDeep, Out, Next, Over, Spent}
 use Rattle.comp_worlds.specs.Passing.{params_tuple, answer_tuple}
-use Rattle.comp_worlds.specs.Groups.{Nesting, Nested, deeper, Config, World, Nothing, Answer, Inside}
+use Rattle.comp_worlds.specs.Groups.{Nesting, Nested, deeper, Config, World, Nothing, Answer, Inside, Import}
 use Rattle.comp_worlds.specs.Calls.{below, begins_call}
 use Rattle.comp_worlds.specs.Hosts.{passed_by, hosted}
-use Rattle.instance_values.specs.declared.target.Import.{Import}
-use Rattle.instance_values.specs.Targets.{import_of}
 use Rattle.call_frames.specs.declared.end.Stop.{Stop}
 use Rattle.call_frames.specs.declared.end.Stop.TheVariants as stops
 use Rattle.call_frames.specs.declared.depth.Depth.{Depth}
@@ -46,4 +44,4 @@ ComesOut h configs s i args n out (Err stops.NoMemory) = Unit {0}
 abbrev pub HostsAnswer : {S : Type 0} → HostStep S → Type 0
 HostsAnswer {S} h =
     (d : Nesting) (configs : ℕ → Config ℕ) (k : Kept S) (i : Import) (args : PlainValue) (n : ℕ) (result : Result Value Stop) → Asks (answer_of h k (called i args)) result →
-    ComesOut h configs k.state i args n (below ((hosted h).ask d Inside (import_of i) (passed_by (params_tuple i.ty) args)) (record { configs = configs; below = k.state }) n) result
+    ComesOut h configs k.state i args n (below ((hosted h).ask d Inside i (passed_by (params_tuple i.ty) args)) (record { configs = configs; below = k.state }) n) result

@@ -19,7 +19,7 @@ use Rattle.host_port.specs.declared.call.Resource.{Resource}
 use Rattle.host_port.specs.Hosts.{HostStep, Kept}
 use Rattle.comp_worlds.specs.Acts.{Trapped, Out, Over, Act, ◌>>◌}
 use Rattle.comp_worlds.specs.Passing.{params_tuple, answer_tuple, most_params}
-use Rattle.comp_worlds.specs.Groups.{Nesting, deeper, Group, Lifting, Target, Mine, Theirs, type_of, LoweredFunc, Config, World, Answer, Below, Nothing, Inside}
+use Rattle.comp_worlds.specs.Groups.{Nesting, deeper, Group, Lifting, Target, Mine, Theirs, type_of, LoweredFunc, Config, World, Answer, Below, Nothing, Inside, Import}
 use Rattle.comp_worlds.specs.Locals.{Local, Args, gives_in, done, is_open, enter, lifts}
 use Rattle.comp_worlds.specs.Calls.{on, below, begins_call, place_in, performs}
 use Rattle.comp_worlds.specs.Hosts.{passed_by, hosted}
@@ -32,9 +32,8 @@ use Rattle.instance_state.specs.Shown.{config_of}
 use Rattle.instance_handles.specs.declared.loan.Loan.{Loan}
 use Rattle.instance_handles.specs.Loans.{indexes_of, IsLentAs}
 use Rattle.instance_values.specs.Passed.{options_of, needs_memory, IsInStore, IsLiftedAs}
-use Rattle.instance_values.specs.Targets.{target_of, lifting_of, import_of}
+use Rattle.instance_values.specs.Targets.{target_of, lifting_of}
 use Rattle.instance_values.specs.declared.options.CallOptions.{CallOptions}
-use Rattle.instance_values.specs.declared.target.Import.{Import}
 use Rattle.instance_values.specs.declared.target.Lifting.{Lifting as CodeLifting}
 use Rattle.instance_values.specs.declared.target.Target.{Target as CodeTarget}
 use Rattle.call_frames.specs.Stores.{Lifts}
@@ -230,7 +229,7 @@ module _ {S : Type 0} (h : HostStep S) (old : Moment S) (k : ℕ) (depth : Depth
             (subst (λ t. is_of (params_tuple t) (plain_value value) ≡ true) types value_typed))
 
         -- a function of the host, which ends the run
-        pub calls_host_ends : (import : Import) → target_of target ≡ Theirs (import_of import) → (new : Moment S) (stop : Stop) (result : Result Flow Stop) → AsksHost h mid import (plain_value value) (Err stop) new → IsErrAnd result (λ s. s ≡ stop) → Calls result new
+        pub calls_host_ends : (import : Import) → target_of target ≡ Theirs import → (new : Moment S) (stop : Stop) (result : Result Flow Stop) → AsksHost h mid import (plain_value value) (Err stop) new → IsErrAnd result (λ s. s ≡ stop) → Calls result new
         calls_host_ends import theirs new stop result asks e = λ G waiting w inner fits typed.
             ends_as h old new G _ stop result e
             (ends_by h G _ _ new stop
@@ -239,7 +238,7 @@ module _ {S : Type 0} (h : HostStep S) (old : Moment S) (k : ℕ) (depth : Depth
             (asks G (depth_of depth) _))
 
         -- or answers
-        pub calls_host : (import : Import) → target_of target ≡ Theirs (import_of import) → (answer : Value) (mid2 new : Moment S) (result : Result Flow Stop) → AsksHost h mid import (plain_value value) (Ok answer) mid2 →
+        pub calls_host : (import : Import) → target_of target ≡ Theirs import → (answer : Value) (mid2 new : Moment S) (result : Result Flow Stop) → AsksHost h mid import (plain_value value) (Ok answer) mid2 →
             ResultLeads h mid2 k call dues.Host depth (plain_value answer) result new → Calls result new
         calls_host import theirs answer mid2 new result asks leads = λ G waiting w inner fits typed.
             let same = same_set h G old k i j found code in

@@ -9,12 +9,10 @@ use Rattle.host_port.specs.Calls.{PlainAnswer, Gives, Trap, Ended, Bad}
 use Rattle.host_port.specs.Hosts.{HostStep, Kept, IsResult, IsAnswerTo, answer_of, reacts}
 use Rattle.comp_worlds.specs.Acts.{Trapped, ScriptEnded, BadAnswer, Out, Next, Over, seen_before, Act, ◌>>◌}
 use Rattle.comp_worlds.specs.Passing.{params_tuple, answer_tuple, answer_parts, in_tuple}
-use Rattle.comp_worlds.specs.Groups.{Nesting, Group, World, Answer, Nothing, Inside}
+use Rattle.comp_worlds.specs.Groups.{Nesting, Group, World, Answer, Nothing, Inside, Import}
 use Rattle.comp_worlds.specs.Calls.{below}
 use Rattle.comp_worlds.specs.Hosts.{passed_by, hosted}
 use Rattle.comp_runs.proofs.Heads.{before_before, after_next, after_over}
-use Rattle.instance_values.specs.Targets.{import_of}
-use Rattle.instance_values.specs.declared.target.Import.{Import}
 use Rattle.call_frames.specs.Asking.{called, GivesTuple, Asks}
 use Rattle.call_frames.specs.declared.end.Stop.{Stop}
 use Rattle.call_frames.specs.declared.end.Stop.TheVariants as stops
@@ -46,7 +44,7 @@ module _ {S : Type 0} (h : HostStep S) (old : Moment S) (import : Import) (args 
 
   module _ (d : Nesting) (go : Answer → Act (World S) (Option PlainValue)) where
     abbrev asked : Act (World S) Answer
-    asked = below ((hosted h).ask d Inside (import_of import) (passed_by (params_tuple import.ty) args))
+    asked = below ((hosted h).ask d Inside import (passed_by (params_tuple import.ty) args))
 
     over_so : (new : Moment S) (e : _) → new.kept ≡ reacts h old.kept (called import args) → asked (world_of old.instances old.kept.state) old.budget ≡ Over (h.call old.kept.state (called import args)).seen e → so_far old (asked >> go) ≡ Over new.kept.seen e
     over_so new e same is =

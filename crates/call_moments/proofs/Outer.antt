@@ -22,8 +22,7 @@ use Rattle.comp_frames.specs.Frames.{Awaiting, instance_in}
 use Rattle.comp_frames.specs.Laws.{calls_lifted}
 use Rattle.comp_frames.specs.Frames as defined
 use Rattle.comp_frames.proofs.Steps.{calls_from_outside as outside_laws}
-use Rattle.instance_values.specs.Targets.{target_of, lifting_of, import_of}
-use Rattle.instance_values.specs.declared.target.Import.{Import as CodeImport}
+use Rattle.instance_values.specs.Targets.{target_of, lifting_of}
 use Rattle.instance_values.specs.declared.target.Lifting.{Lifting as CodeLifting}
 use Rattle.call_frames.specs.Steps.{BeginsCall}
 use Rattle.call_frames.specs.declared.depth.Depth.{Depth}
@@ -264,26 +263,26 @@ module _ {S : Type 0} where
   begins_below : (d : Nesting) → ◌≡◌ {A = Act (World S) (Unit {0})} (below (begins_call d)) (begins_call d)
   begins_below d = fun_ext (λ w. fun_ext (λ n. begins_at d w n))
 
-module _ {S : Type 0} (h : HostStep S) (old : Moment S) (args : PlainValues) (import : CodeImport) where
+module _ {S : Type 0} (h : HostStep S) (old : Moment S) (args : PlainValues) (import : Import) where
   abbrev tuple_in : PlainValue
   tuple_in = RecordValue args
 
   -- it is called, behind the step of the call
   abbrev asks_it : Act (World S) (Option PlainValue)
-  asks_it = below ((hosted h).ask (nested 0) Inside (import_of import) (passed_by (params_tuple import.ty) tuple_in)) >> λ a. gives (Some a.passed.value)
+  asks_it = below ((hosted h).ask (nested 0) Inside import (passed_by (params_tuple import.ty) tuple_in)) >> λ a. gives (Some a.passed.value)
 
-  host_so : (G : Group) → HoldsNone (params_tuple import.ty) → so_far old (calls_from_outside h G (Theirs (import_of import)) args) ≡ so_far old ((begins_call (nested 0) >> λ _. asks_it) >> λ o. gives (out_of o))
+  host_so : (G : Group) → HoldsNone (params_tuple import.ty) → so_far old (calls_from_outside h G (Theirs import) args) ≡ so_far old ((begins_call (nested 0) >> λ _. asks_it) >> λ o. gives (out_of o))
   host_so G none =
       let p : Passed ℕ = record { value = tuple_in; reps = [] } in
       ap (so_far old)
-      (call_so h G (Theirs (import_of import)) args
+      (call_so h G (Theirs import) args
       ∙ ap (λ (x : Act (World S) (Option PlainValue)). x >> λ o. gives (out_of o))
-      ((outside_laws G h (nested 0)).imported (nested 0) (import_of import) p
-      ∙ ap (λ (x : Act (World S) Answer). x >> λ a. gives (Some a.passed.value)) (below_then (begins_call (nested 0)) (λ _. reacts h (import_of import) p) ∙ ap (λ (y : Act (World S) (Unit {0})). y >> λ _. below (reacts h (import_of import) p)) (begins_below (nested 0)))
-      ∙ then_then (begins_call (nested 0)) (λ _. below (reacts h (import_of import) p)) (λ a. gives (Some a.passed.value))
-      ∙ ap (λ q. begins_call (nested 0) >> λ _. below (reacts h (import_of import) q) >> λ a. gives (Some a.passed.value)) (sym (passes_alone (params_tuple import.ty) tuple_in none))))
+      ((outside_laws G h (nested 0)).imported (nested 0) import p
+      ∙ ap (λ (x : Act (World S) Answer). x >> λ a. gives (Some a.passed.value)) (below_then (begins_call (nested 0)) (λ _. reacts h import p) ∙ ap (λ (y : Act (World S) (Unit {0})). y >> λ _. below (reacts h import p)) (begins_below (nested 0)))
+      ∙ then_then (begins_call (nested 0)) (λ _. below (reacts h import p)) (λ a. gives (Some a.passed.value))
+      ∙ ap (λ q. begins_call (nested 0) >> λ _. below (reacts h import q) >> λ a. gives (Some a.passed.value)) (sym (passes_alone (params_tuple import.ty) tuple_in none))))
 
-  pub host_stops : (new : Moment S) (stop : Stop) (result : Result (Option Value) Stop) → BeginsCall old.budget 0 new.budget (Err stop) → new.kept ≡ old.kept → IsErrAnd result (λ s. s ≡ stop) → RunsCall h old (Theirs (import_of import)) args result new
+  pub host_stops : (new : Moment S) (stop : Stop) (result : Result (Option Value) Stop) → BeginsCall old.budget 0 new.budget (Err stop) → new.kept ≡ old.kept → IsErrAnd result (λ s. s ≡ stop) → RunsCall h old (Theirs import) args result new
   host_stops new stop result b same e = λ G r can.
       comes_err h plain_option G _ old new stop result e (ends_by h G _ _ new stop (host_so G can.params) (ends_with h G old (begins_call (nested 0) >> λ _. asks_it) out_of new stop (begin_ends h G old new 0 new.budget stop (λ _. asks_it) same b)))
 
@@ -291,14 +290,14 @@ module _ {S : Type 0} (h : HostStep S) (old : Moment S) (args : PlainValues) (im
     begun_so : (G : Group) → so_far old (begins_call (nested 0) >> λ _. asks_it) ≡ so_far mid asks_it
     begun_so G = begin_then h G old 0 mid.budget depth (λ _. asks_it) b ∙ ap (λ m. so_far m asks_it) (sym is)
 
-    pub host_ends : (new : Moment S) (stop : Stop) (result : Result (Option Value) Stop) → AsksHost h mid import value (Err stop) new → IsErrAnd result (λ s. s ≡ stop) → RunsCall h old (Theirs (import_of import)) args result new
+    pub host_ends : (new : Moment S) (stop : Stop) (result : Result (Option Value) Stop) → AsksHost h mid import value (Err stop) new → IsErrAnd result (λ s. s ≡ stop) → RunsCall h old (Theirs import) args result new
     host_ends new stop result asks e = λ G r can.
         comes_err h plain_option G _ old new stop result e
         (ends_by h G _ _ new stop (host_so G can.params)
         (ends_with h G old (begins_call (nested 0) >> λ _. asks_it) out_of new stop
         (ends_by h G _ _ new stop (begun_so G) (subst (λ x. AsksHost h mid import x (Err stop) new) v asks G (nested 0) (λ a. gives (Some a.passed.value))))))
 
-    pub host_answers : (new : Moment S) (tuple : Value) (answer : Option Value) → AsksHost h mid import value (Ok tuple) new → plain_option answer ≡ out_of (Some (plain_value tuple)) → RunsCall h old (Theirs (import_of import)) args (Ok answer) new
+    pub host_answers : (new : Moment S) (tuple : Value) (answer : Option Value) → AsksHost h mid import value (Ok tuple) new → plain_option answer ≡ out_of (Some (plain_value tuple)) → RunsCall h old (Theirs import) args (Ok answer) new
     host_answers new tuple answer asks e = λ G r can.
         let there = subst (λ x. AsksHost h mid import x (Ok tuple) new) v asks in
         let mid_same : Same old mid = subst (λ m. Same old m) (sym is) (record { group = refl; scenes = refl }) in

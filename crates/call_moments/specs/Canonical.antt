@@ -11,7 +11,7 @@ use Rattle.indexmap.specs.IndexMap.{get}
 use Rattle.host_port.specs.Hosts.{HostStep}
 use Rattle.comp_worlds.specs.Acts.{Out, Act, ◌>>◌}
 use Rattle.comp_worlds.specs.Passing.{params_tuple, answer_tuple, most_results, has_borrow}
-use Rattle.comp_worlds.specs.Groups.{Nesting, deeper, Lifting, Func, Group, World, Answer, Nothing, Inside}
+use Rattle.comp_worlds.specs.Groups.{Nesting, deeper, Lifting, Func, Group, World, Answer, Nothing, Inside, Import}
 use Rattle.comp_worlds.specs.Locals.{Args, gives_in, lifts, has_no_borrow}
 use Rattle.comp_worlds.specs.Calls.{on, below, begins_call, performs}
 use Rattle.comp_worlds.specs.Hosts.{passed_by, hosted}
@@ -23,8 +23,6 @@ use Rattle.instance_state.specs.Shown.{config_of}
 use Rattle.instance_handles.specs.declared.owners.Owner.{Owner}
 use Rattle.instance_handles.specs.Owning.{owner_of}
 use Rattle.instance_values.specs.Passed.{needs_memory}
-use Rattle.instance_values.specs.Targets.{import_of}
-use Rattle.instance_values.specs.declared.target.Import.{Import}
 use Rattle.call_frames.specs.Grouped.{canon_in}
 use Rattle.call_frames.specs.declared.depth.Depth.{Depth}
 use Rattle.call_frames.specs.declared.end.Stop.{Stop}
@@ -66,11 +64,11 @@ module _ {S : Type 0} (h : HostStep S) where
   abbrev pub AsksHost : Moment S → Import → PlainValue → Result Value Stop → Moment S → Type 0
   AsksHost old import args (Ok value) new =
       ((d : Nesting) (go : Answer → Act (World S) (Option PlainValue)) →
-      so_far old (below ((hosted h).ask d Inside (import_of import) (passed_by (params_tuple import.ty) args)) >> go) ≡ so_far new (go (record { passed = passed_by (answer_tuple import.ty) (plain_value value); due = Nothing })))
+      so_far old (below ((hosted h).ask d Inside import (passed_by (params_tuple import.ty) args)) >> go) ≡ so_far new (go (record { passed = passed_by (answer_tuple import.ty) (plain_value value); due = Nothing })))
       × (is_of (answer_tuple import.ty) (plain_value value) ≡ true)
       × (new ≡ record old { kept = new.kept })
   AsksHost old import args (Err stop) new =
-      (G : Group) (d : Nesting) (go : Answer → Act (World S) (Option PlainValue)) → Ends h G (so_far old (below ((hosted h).ask d Inside (import_of import) (passed_by (params_tuple import.ty) args)) >> go)) new stop
+      (G : Group) (d : Nesting) (go : Answer → Act (World S) (Option PlainValue)) → Ends h G (so_far old (below ((hosted h).ask d Inside import (passed_by (params_tuple import.ty) args)) >> go)) new stop
 
   -- ---- canonical functions
 

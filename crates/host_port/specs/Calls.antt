@@ -39,7 +39,7 @@ abbrev pub fields_in : Fields → Parts
 fields_in fields = fields_of (out-Fields fields).items.items
 
 abbrev pub plain_call : HostCall → PlainCall
-plain_call c = record { interface = c.interface; function = c.function; params = fields_in c.params; args = plain_values c.args; answer = plain_result c.result }
+plain_call c = record { interface = c.func.value.interface; function = c.func.value.function; params = fields_in c.func.value.params; args = plain_values c.args; answer = plain_result c.func.value.result }
 
 abbrev pub plain_option : Option Value → Option PlainValue
 plain_option None = None

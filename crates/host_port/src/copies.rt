@@ -1,51 +1,20 @@
 #![tactic(auto, using(wit_types::proofs::ValueLemmas::values))]
 
 ghost use Rattle.std.specs.Prelude.{◌≡◌, IfOk};
-ghost use Rattle.wit_types.specs.Plain.{fields_of, plain_result};
-ghost use Rattle.host_port.specs.Calls.{plain_call, fields_in};
+ghost use Rattle.host_port.specs.Calls.{plain_call};
 
 use crate::call::{HostCall, Resource};
 use std::alloc::Global;
 use virt_base::NoMemory;
-use wit_types::{Field, Fields, WitType, copy_type, copy_values};
+use wit_types::copy_values;
 
-fn copy_fields(alloc: Global, fields: &[Field]) -> Result<Fields, NoMemory>
-    ensures { IfOk result (λ copy. fields_in copy ≡ fields_of fields.now) }
-{
-    let mut items = Vec::new(alloc);
-    for field in fields {
-        let name = field.name.copy(alloc)?;
-        let ty = copy_type(alloc, &field.ty)?;
-        items.push(Field { name, ty })?;
-    }
-    Ok(Fields { items })
-}
-
-fn copy_result(alloc: Global, ty: &Option<WitType>) -> Result<Option<WitType>, NoMemory>
-    ensures { IfOk result (λ copy. plain_result copy ≡ plain_result ty.now) }
-{
-    match ty {
-        None => Ok(None),
-        Some(ty) => Ok(Some(copy_type(alloc, ty)?)),
-    }
-}
-
-/// An equal call.
+/// An equal call, of the same function: only the arguments are copied.
 pub fn copy_call(alloc: Global, call: &HostCall) -> Result<HostCall, NoMemory>
     ensures { IfOk result (λ copy. plain_call copy ≡ plain_call call.now) }
 {
-    let interface = call.interface.copy(alloc)?;
-    let function = call.function.copy(alloc)?;
-    let params = copy_fields(alloc, &call.params.items)?;
+    let func = call.func.clone()?;
     let args = copy_values(alloc, &call.args)?;
-    let result = copy_result(alloc, &call.result)?;
-    Ok(HostCall {
-        interface,
-        function,
-        params,
-        args,
-        result,
-    })
+    Ok(HostCall { func, args })
 }
 
 /// An equal resource.

@@ -8,6 +8,6 @@ mod copies;
 mod host;
 
 pub use answer::{Answer, Observation, Observations};
-pub use call::{HostCall, Resource};
+pub use call::{HostCall, HostFunc, Resource};
 pub use copies::{copy_call, copy_resource};
 pub use host::Host;

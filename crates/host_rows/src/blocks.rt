@@ -117,7 +117,7 @@ fn act(
     }
     let call = call_of(alloc, interfaces, what)?;
     let answer = host.call(alloc, &call)?;
-    answer_in_words(alloc, answer, call.result.as_ref())
+    answer_in_words(alloc, answer, call.func.result.as_ref())
 }
 
 /// What comes of a call or a drop.

@@ -6,9 +6,10 @@
 
 use crate::interfaces::{function_in, home_of, versioned};
 use crate::texts::halves;
-use host_port::{HostCall, Resource};
+use host_port::{HostCall, HostFunc, Resource};
 use host_script::{Call, ExportType, ExportTypes, Script, ScriptFault, read_script};
 use std::alloc::Global;
+use std::rc::Rc;
 use std::test::Fail;
 use virt_base::{Items, Text};
 use wasi_table::{Interface, NamedFunc};
@@ -91,12 +92,15 @@ fn made(alloc: Global, names: (Text, Text), ty: &FuncType, args: &str) -> Result
     let args = args_of(alloc, ty, args)?;
     let FuncType { params, result } = copy_func(alloc, ty)?;
     let (interface, function) = names;
-    Ok(HostCall {
+    let func = HostFunc {
         interface,
         function,
         params,
-        args,
         result,
+    };
+    Ok(HostCall {
+        func: Rc::new(alloc, func)?,
+        args,
     })
 }
 

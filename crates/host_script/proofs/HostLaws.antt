@@ -2,9 +2,10 @@
 use Rattle.std.proofs.Common.{◌≡◌, ◌∙◌, ℕ, List, [], ◌∷◌, ◌++◌, map, ap, sym, subst}
 use Rattle.std.specs.Prelude.{Option, Result, Ok, Err, OnOk}
 use Rattle.std.proofs.lemmas.List.{map-append}
-use Rattle.wit_types.specs.Plain.{Plain}
+use Rattle.wit_types.specs.Plain.{Plain, plain_result}
 use Rattle.host_port.specs.declared.answer.Answer.{Answer}
 use Rattle.host_port.specs.declared.answer.Observation.{Observation}
+use Rattle.host_port.specs.declared.call.HostFunc.{HostFunc}
 use Rattle.host_port.specs.declared.call.Resource.{Resource}
 use Rattle.host_port.specs.Calls.{PlainCall, PlainObservation, Ended, Called, Dropped, plain_answer, plain_observation}
 use Rattle.host_port.specs.Hosts.{Kept, IsAnswerTo, answer_of, reacts, drops}
@@ -16,6 +17,9 @@ use Rattle.host_script.proofs.Textual.{item_typed}
 -- with these items left, and so much seen
 abbrev pub at_items : List ScriptItem → List Observation → Kept Script
 at_items items seen = record { state = map item_seen items; seen = map plain_observation seen }
+
+pub by_func : {f g : HostFunc} (item : ScriptItem) → f ≡ g → item_answer (plain_result f.result) (item_seen item) ≡ item_answer (plain_result g.result) (item_seen item)
+by_func item same = ap (λ (h : HostFunc). item_answer (plain_result h.result) (item_seen item)) same
 
 pub takes_item : (items rest : List ScriptItem) (seen : List Observation) (c : PlainCall) (item : ScriptItem) → items ≡ item ∷ rest
     → item_answer c.answer (item_seen item) ≡ answer_of script (at_items items seen) c

@@ -70,7 +70,7 @@ impl Host for ScriptHost {
         self.seen.push(Observation::Called(copy))?;
         match self.left.next() {
             None => Ok(Answer::Ended),
-            Some(item) => answer_by(alloc, &call.result, item),
+            Some(item) => answer_by(alloc, &call.func.result, item),
         }
     }
 

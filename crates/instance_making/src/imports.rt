@@ -177,11 +177,8 @@ fn import_of(
 ) -> Result<Target, NoMemory>
     ensures { IfOk result (λ target. target_of target ≡ Theirs (record { interface = interface.now; function = name.now; ty = ty.now.value })) }
 {
-    let import = Import {
-        interface: interface.copy(alloc)?,
-        function: name.copy(alloc)?,
-        ty: call_type(alloc, ty.clone()?)?,
-    };
+    let ty = call_type(alloc, ty.clone()?)?;
+    let import = Import::new(alloc, interface, name, ty)?;
     Ok(Target::Theirs(Rc::new(alloc, import)?))
 }
 

@@ -1,4 +1,5 @@
 pub mod Passed
 pub mod Functions
 pub mod Calls
+pub mod Imports
 pub mod Targets

@@ -1,9 +1,8 @@
 -- For which targets of the definition these stand.
 use Rattle.std.specs.Prelude.{ℕ}
-use Rattle.comp_worlds.specs.Groups.{Import as GroupImport, Lifting as GroupLifting, Target as GroupTarget, Mine as ItsOwn, Theirs as Imported, Func, LoweredFunc, ResourceNew, ResourceDrop, ResourceRep}
+use Rattle.comp_worlds.specs.Groups.{Lifting as GroupLifting, Target as GroupTarget, Mine as ItsOwn, Theirs as Imported, Func, LoweredFunc, ResourceNew, ResourceDrop, ResourceRep}
 use Rattle.instance_values.specs.Passed.{options_of}
 use Rattle.instance_values.specs.declared.target.Lifting.{Lifting}
-use Rattle.instance_values.specs.declared.target.Import.{Import}
 use Rattle.instance_values.specs.declared.target.Target.{Target}
 use Rattle.instance_values.specs.declared.target.Target.TheVariants.{Mine, Theirs}
 use Rattle.instance_values.specs.declared.canon.Canon.{Canon}
@@ -12,12 +11,9 @@ use Rattle.instance_values.specs.declared.canon.Canon.TheVariants as canons
 abbrev pub lifting_of : Lifting → GroupLifting
 lifting_of l = record { code = l.code; ty = l.ty; options = options_of l.options; post = l.post }
 
-abbrev pub import_of : Import → GroupImport
-import_of i = record { interface = i.interface; function = i.function; ty = i.ty }
-
 abbrev pub target_of : Target → GroupTarget
 target_of (Mine instance lifting) = ItsOwn instance (lifting_of lifting.value)
-target_of (Theirs import) = Imported (import_of import.value)
+target_of (Theirs import) = Imported import.value
 
 abbrev pub func_of : Canon → Func
 func_of (canons.Lowered target options) = LoweredFunc (target_of target) (options_of options)

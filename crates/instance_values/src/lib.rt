@@ -4,6 +4,7 @@
 
 mod call_type;
 mod canon;
+mod import;
 mod lifting;
 mod lowering;
 mod options;
@@ -14,9 +15,10 @@ mod target;
 
 pub use call_type::CallType;
 pub use canon::Canon;
+pub use import::Import;
 pub use lifting::lift;
 pub use lowering::{lower_params, lower_result};
 pub use options::CallOptions;
 pub use passed_func::PassedFunc;
 pub use passed_type::PassedType;
-pub use target::{Import, Lifting, Target};
+pub use target::{Lifting, Target};

@@ -4,8 +4,9 @@ ghost use Rattle.instance_values.specs.Targets.{target_of};
 
 use crate::CallOptions;
 use crate::call_type::CallType;
+use crate::import::Import;
 use std::rc::Rc;
-use virt_base::{NoMemory, Text};
+use virt_base::NoMemory;
 
 /// A lifted function (Component Model, Explainer.md, `canon lift`): its core function, its type, its options and its post-return.
 #[derive(Debug, Drop)]
@@ -14,14 +15,6 @@ pub struct Lifting {
     pub ty: CallType,
     pub options: CallOptions,
     pub post: Option<u32>,
-}
-
-/// A function that the component imports: by itself, without an interface, or in an imported instance.
-#[derive(Debug, Drop)]
-pub struct Import {
-    pub interface: Text,
-    pub function: Text,
-    pub ty: CallType,
 }
 
 /// Where a call leads: to a lifted function of an instance, or to an import.
@@ -51,7 +44,7 @@ impl Target {
     {
         match self {
             Target::Mine { lifting, .. } => &lifting.ty,
-            Target::Theirs(import) => &import.ty,
+            Target::Theirs(import) => import.ty(),
         }
     }
 }

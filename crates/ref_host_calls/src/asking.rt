@@ -31,21 +31,9 @@ fn to_host<H: Host>(
     ensures { IfOk result (λ theirs. (f : Forest) (r : Reference H.State) → plain_call theirs ≡ to_host H.step (record r { live = live_in f live.now.handles }) (listed_of request.entry) (call_of request.entry)) }
 {
     let ids = host_ids::<H>(alloc, live, request.noted)?;
-    let HostCall {
-        interface,
-        function,
-        params,
-        args,
-        result,
-    } = copy_call(alloc, request.call)?;
+    let HostCall { func, args } = copy_call(alloc, request.call)?;
     let args = renumber_arguments(args, &request.found.function.ty.params, ids.as_slice());
-    Ok(HostCall {
-        interface,
-        function,
-        params,
-        args,
-        result,
-    })
+    Ok(HostCall { func, args })
 }
 
 /// The host is asked, with its numbers of the handles.

@@ -4,7 +4,8 @@ use Rattle.std.specs.Prelude.{IfOk, OnOk}
 use Rattle.std.proofs.lemmas.Bool.Decides.{nat_tests}
 use Rattle.std.proofs.lemmas.List.{append-nil}
 use Rattle.wit_types.specs.Limits.{parts}
-use Rattle.wit_types.specs.Plain.{Plain}
+use Rattle.wit_types.specs.Plain.{Name, Plain}
+use Rattle.host_port.specs.declared.call.HostFunc.{HostFunc}
 use Rattle.host_port.specs.Calls.{PlainAnswer, PlainObservation}
 use Rattle.host_port.specs.Hosts.{Reaction}
 use Rattle.reference_step.specs.State.{Reference}
@@ -18,6 +19,13 @@ if_true false x y e = cc
 pub if_false : {A : Type 0} (b : Bool) (x y : A) → b ≡ false → (if b then x else y) ≡ y
 if_false false x y e = refl
 if_false true x y e = cc
+
+-- what is asked by the names of a call's function
+pub named_as : {A : Type 0} (ask : Name → Name → A) (f a b : HostFunc) (interface function : Name) → interface ≡ a.interface → a ≡ f → function ≡ b.function → b ≡ f
+    → ask interface function ≡ ask f.interface f.function
+named_as ask f a b interface function one is other same =
+    ap (λ (n : Name). ask n function) (one ∙ ap (λ (g : HostFunc). g.interface) is)
+    ∙ ap (ask f.interface) (other ∙ ap (λ (g : HostFunc). g.function) same)
 
 -- what holds of a value holds of it in another form
 pub ok_map : {A E : Type 0} (r : Result A E) (P Q : A → Type 0) → ((x : A) → P x → Q x) → IfOk r P → IfOk r Q

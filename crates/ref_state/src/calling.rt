@@ -222,7 +222,8 @@ fn called<H: Host>(
     ensures typed { OnOk result (AsksTyped H.step (reference_at setting.now holding.old (H.kept inner.old).state) (plain_call call.now)) }
 {
     let listed = &setting.listed;
-    match listed.function(call.interface.as_str(), call.function.as_str()) {
+    let func = &call.func;
+    match listed.function(func.interface.as_str(), func.function.as_str()) {
         None => Ok(Answer::Trap),
         Some(found) => guarded(alloc, setting, holding, inner, found, call),
     }

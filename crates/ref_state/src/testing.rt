@@ -33,7 +33,7 @@ pub fn has_types(found: Found<'_>, call: &HostCall) -> bool
     ensures { result ≡ (are_of (plain_found found.entry).function.ty.params (plain_call call.now).args && alike_results (plain_found found.entry).function.ty.answer (plain_call call.now).answer) }
 {
     are_arguments(&call.args, &found.function.ty.params)
-        && alike_results(&found.function.ty.result, &call.result)
+        && alike_results(&found.function.ty.result, &call.func.result)
 }
 
 fn is_handle<H: Host>(atom: Atom) -> bool

@@ -24,7 +24,7 @@ fn ask(
         Answer::Ended => Observation::ScriptEnded,
         Answer::Bad => Observation::BadAnswer,
     };
-    push_line(alloc, &seen, call.result.as_ref(), lines)
+    push_line(alloc, &seen, call.func.result.as_ref(), lines)
 }
 
 fn push_line(
@@ -70,7 +70,7 @@ fn act(
     lines: &mut String,
 ) -> Result<(), Fail> {
     match what.split_once(' ') {
-        Some((name, number)) => drop_handle(alloc, host, &call.interface, name, number),
+        Some((name, number)) => drop_handle(alloc, host, &call.func.interface, name, number),
         None if what == "seen" => push_seen(alloc, host, lines),
         None => ask(alloc, host, call, lines),
     }

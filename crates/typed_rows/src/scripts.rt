@@ -1,10 +1,11 @@
 //! Scripts that are read, and lines that are printed.
 
 use crate::headings::last_function;
-use host_port::{HostCall, Observation};
+use host_port::{HostCall, HostFunc, Observation};
 use host_script::{Calls, ExportType, ExportTypes, Script, ScriptFault, read_script};
 use script_lines::print_observation;
 use std::alloc::Global;
+use std::rc::Rc;
 use std::test::Fail;
 use virt_base::Items;
 use wasi_table::Interface;
@@ -62,12 +63,15 @@ pub fn call_of(alloc: Global, interface: &Interface, args: Values) -> Result<Hos
     let interface = interface.name.copy(alloc)?;
     let function = called.name.copy(alloc)?;
     let FuncType { params, result } = copy_func(alloc, &called.ty)?;
-    Ok(HostCall {
+    let func = HostFunc {
         interface,
         function,
         params,
-        args,
         result,
+    };
+    Ok(HostCall {
+        func: Rc::new(alloc, func)?,
+        args,
     })
 }
 

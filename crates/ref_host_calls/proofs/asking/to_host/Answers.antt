@@ -16,17 +16,17 @@ nowhere = record { roots = 0; rows = [] }
 pub renumber_arguments-args-requires : goal.renumber_arguments-args-requires
 renumber_arguments-args-requires g c =
     let params = fields_in c.args.request.found.function.now.ty.params in
-    let args = ap (λ (x : PlainCall). x.args) c.in_ok-interface.ensures in
+    let args = ap (λ (x : PlainCall). x.args) c.in_ok-func.ensures in
     let many : length c.as_slice.result.now ≡ length (handles (shown_all c.args.request.noted.now)) = ap length (c.as_slice.ensures.value ∙ c.in_ok-ids.ensures nowhere) ∙ ids_count g.H.Host.step _ _ in
-    let same : length (handles (atoms_of params (plain_values c.in_ok-interface.field-0.args))) ≡ length (handles (shown_all c.args.request.noted.now)) = ap (λ vs. length (handles (atoms_of params vs))) args ∙ ap (λ xs. length (handles xs)) (sym c.requires.noted) in
+    let same : length (handles (atoms_of params (plain_values c.in_ok-func.field-0.args))) ≡ length (handles (shown_all c.args.request.noted.now)) = ap (λ vs. length (handles (atoms_of params vs))) args ∙ ap (λ xs. length (handles xs)) (sym c.requires.noted) in
     omega (arith, many, same)
 
 pub returns : goal.returns
 returns g c = λ f r.
     let params = fields_in c.args.request.found.function.now.ty.params in
-    let args = ap (λ (x : PlainCall). x.args) c.in_ok-interface.ensures in
+    let args = ap (λ (x : PlainCall). x.args) c.in_ok-func.ensures in
     let ids = c.as_slice.ensures.value ∙ c.in_ok-ids.ensures f ∙ ap (λ xs. host_ids g.H.Host.step (live_in f c.args.live.now.handles) (handles xs)) c.requires.noted in
-    ap (λ (x : PlainCall). record x { args = plain_values c.renumber_arguments-args.result }) c.in_ok-interface.ensures
+    ap (λ (x : PlainCall). record x { args = plain_values c.renumber_arguments-args.result }) c.in_ok-func.ensures
     ∙ ap (λ vs. record (call_of c.args.request) { args = vs })
     (c.renumber_arguments-args.ensures
     ∙ ap (λ xs. (renumbered_of params xs c.as_slice.result.now).0) args

@@ -5,7 +5,7 @@ use Rattle.wit_types.specs.Plain.{plain_result}
 use Rattle.host_port.specs.declared.answer.Observation.TheVariants as observations
 use Rattle.host_port.specs.Calls.{Called, plain_call}
 use Rattle.script_values.proofs.Joins.{nothing_left}
-use Rattle.host_script.proofs.HostLaws.{takes_item, takes_none, next_item, next_none, answer_typed, on_ok}
+use Rattle.host_script.proofs.HostLaws.{by_func, takes_item, takes_none, next_item, next_none, answer_typed, on_ok}
 use Rattle.host_script.proofs.host.ScriptHostHost.call.Goals as goal
 
 pub returns-in-None-clause-answer : goal.returns-in-None-clause-answer
@@ -21,7 +21,7 @@ returns-in-None-clause-next c =
 
 pub returns-in-Some-clause-answer : goal.returns-in-Some-clause-answer
 returns-in-Some-clause-answer c =
-    IfOk-weaker c.answer_by.result _ _ (λ a h. h ∙ takes_item (into_iter_items c.args.self.now.left) (into_iter_items c.next.new.self) c.args.self.now.seen (plain_call c.args.call.now) c.in-Some.item c.in-Some.ensures.items) c.answer_by.ensures
+    IfOk-weaker c.answer_by.result _ _ (λ a h. h ∙ by_func c.in-Some.item c.deref.ensures ∙ takes_item (into_iter_items c.args.self.now.left) (into_iter_items c.next.new.self) c.args.self.now.seen (plain_call c.args.call.now) c.in-Some.item c.in-Some.ensures.items) c.answer_by.ensures
 
 pub returns-in-Some-clause-next : goal.returns-in-Some-clause-next
 returns-in-Some-clause-next c =
@@ -30,4 +30,4 @@ returns-in-Some-clause-next c =
 
 pub returns-in-Some-clause-typed : goal.returns-in-Some-clause-typed
 returns-in-Some-clause-typed c =
-    IfOk-weaker c.answer_by.result _ _ (λ a h. answer_typed (plain_result c.args.call.now.result) c.in-Some.item a h) c.answer_by.ensures
+    IfOk-weaker c.answer_by.result _ _ (λ a h. answer_typed (plain_result c.args.call.now.func.value.result) c.in-Some.item a (h ∙ by_func c.in-Some.item c.deref.ensures)) c.answer_by.ensures

@@ -1,6 +1,0 @@
-use Rattle.std.proofs.Common.{◌≡◌, take}
-use Rattle.wit_types.specs.Plain.{fields_of}
-use Rattle.host_port.proofs.copies.copy_fields.Given as goal
-
-abbrev pub invariant-loop-field : goal.invariant-loop-field
-invariant-loop-field l = fields_of l.items.items ≡ fields_of (take l.field-index l.fields)
