@@ -1,5 +1,5 @@
 -- What is written of a value has no float, so its text is known byte for byte.
-use Rattle.std.proofs.Common.{◌≡◌, ℕ, ℤ, zero, suc, pos, negsuc, ◌%◌, ◌/◌, List, [], ◌∷◌, refl, ap, ◌∙◌, Bool, true, false, ◌||◌, Less, Equal, Greater, Ordering, nat_cmp}
+use Rattle.std.proofs.Common.{◌≡◌, ℕ, ℤ, zero, suc, pos, negsuc, ◌%◌, ◌/◌, List, [], ◌∷◌, refl, Bool, true, false, ◌||◌, Less, Equal, Greater, Ordering, nat_cmp}
 use Rattle.std.specs.Prelude.{Option, Some, None, codes, if◌then◌else◌, ◌==◌}
 use Rattle.std.specs.Ordering.{match_ordering}
 use Rattle.std.specs.Cmp.Lexicographic.{slice_cmp}
@@ -8,9 +8,7 @@ use Rattle.serde_json.specs.Find.{of_integer, is_float}
 use Rattle.serde_json.specs.Written.{has_float, items_have_float, members_have_float}
 use Rattle.wit_types.specs.Plain.{Name, Plain, Parts, VariantForm, RecordForm, AsRecord, AsTuple, AsVariant, AsEnum, AsOption, AsResult, BoolType, SignedType, UnsignedType, CharType, StringType, ListType, RecordType, VariantType, FlagsType, OwnType, BorrowType, End, More, Bare}
 use Rattle.wit_types.specs.PlainValue.{PlainValue, PlainValues, Payload, BoolValue, IntValue, CharValue, StringValue, ListValue, RecordValue, VariantValue, FlagsValue, HandleValue, End as NoValues, More as Values, Without, With}
-use Rattle.host_port.specs.Calls.{PlainObservation, Called, Dropped, Returned, Trapped, ScriptEnded, BadAnswer, Spent, TooDeep}
-use Rattle.script_lines.specs.Lines.{value_shown, returned_shown, line}
-use Rattle.script_lines.specs.Shown.{truth_shown, number_shown, integer_shown, char_shown, text_shown, handle_shown, each_shown, list_shown, part_shown, field_shown, record_shown, one_member, labelled, label_at, payload_shown, case_or_later_shown, option_shown, result_shown, choice_shown, variant_shown, labels_set, flags_shown, shown, parts_shown, fields_shown, case_shown}
+use Rattle.script_lines.specs.Shown.{truth_shown, integer_shown, char_shown, text_shown, handle_shown, each_shown, list_shown, part_shown, field_shown, record_shown, one_member, labelled, label_at, payload_shown, case_or_later_shown, choice_shown, variant_shown, labels_set, flags_shown, shown, parts_shown, fields_shown, case_shown}
 
 abbrev HasNone : json.Data → Type 0
 HasNone d = has_float d ≡ false
@@ -223,7 +221,7 @@ mutual
   shown_exact (OwnType r) v = handle_exact v
   shown_exact (BorrowType r) v = handle_exact v
 
-  pub parts_exact : (parts : Parts) (vs : PlainValues) → items_have_float (parts_shown parts vs) ≡ false
+  parts_exact : (parts : Parts) (vs : PlainValues) → items_have_float (parts_shown parts vs) ≡ false
   parts_exact End vs = refl
   parts_exact (More name ty rest) vs = part_exact (λ v. shown ty v) (λ ws. parts_shown rest ws) (λ v. shown_exact ty v) (λ ws. parts_exact rest ws) vs
   parts_exact (Bare name rest) vs = parts_exact rest vs
@@ -239,23 +237,3 @@ mutual
   case_exact (More name ty rest) n p =
       case_or_later_exact (λ q. payload_shown (λ v. shown ty v) q) (λ m q. case_shown rest m q) (λ q. payload_exact (λ v. shown ty v) (λ v. shown_exact ty v) q) (λ m q. case_exact rest m q) n p
   case_exact (Bare name rest) n p = case_or_later_exact (λ q. json.null) (λ m q. case_shown rest m q) (λ q. refl) (λ m q. case_exact rest m q) n p
-
--- ---- lines
-
-value_exact : (ty : Option Plain) (v : PlainValue) → HasNone (value_shown ty v)
-value_exact None v = refl
-value_exact (Some ty) v = shown_exact ty v
-
-returned_exact : (ty : Option Plain) (o : Option PlainValue) → items_have_float (returned_shown ty o) ≡ false
-returned_exact ty None = refl
-returned_exact ty (Some v) = neither (has_float (value_shown ty v)) false (value_exact ty v) refl
-
-pub line_exact : (ty : Option Plain) (o : PlainObservation) → items_have_float (line ty o) ≡ false
-line_exact ty (Called c) = neither (items_have_float (parts_shown c.params c.args)) false (parts_exact c.params c.args) refl
-line_exact ty (Dropped r id) = refl
-line_exact ty (Returned v) = returned_exact ty v
-line_exact ty Trapped = refl
-line_exact ty ScriptEnded = refl
-line_exact ty BadAnswer = refl
-line_exact ty Spent = refl
-line_exact ty TooDeep = refl

@@ -1,3 +1,4 @@
+pub mod Added
 pub mod Floats
 pub mod Places
 pub mod Views

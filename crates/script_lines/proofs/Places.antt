@@ -9,9 +9,9 @@ use Rattle.wit_types.specs.declared.value.Value.{Value}
 use Rattle.wit_types.specs.declared.types.WitType.{WitType}
 use Rattle.wit_types.specs.declared.types.Field.{Field, out-Field}
 use Rattle.wit_types.specs.declared.types.Case.{Case, out-Case}
-use Rattle.wit_types.specs.Plain.{Name, Plain, Parts, End as NoParts, More as Part, Bare, AsVariant, AsResult, types_of, fields_of, cases_of, case_part, bare, plain, payload_of}
+use Rattle.wit_types.specs.Plain.{Name, Plain, Parts, End as NoParts, More as Part, AsVariant, AsResult, types_of, fields_of, cases_of, case_part, bare, plain, payload_of}
 use Rattle.wit_types.specs.PlainValue.{PlainValue, PlainValues, Payload, BoolValue, IntValue, CharValue, StringValue, ListValue, RecordValue, VariantValue, FlagsValue, HandleValue, End, More, plain_value, values_of, byte_values}
-use Rattle.script_lines.specs.Shown.{shown, parts_shown, fields_shown, case_shown, label_at, labels_set, each_shown, one_member, labelled, choice_shown, variant_shown}
+use Rattle.script_lines.specs.Shown.{shown, parts_shown, fields_shown, case_shown, label_at, each_shown, one_member, labelled, choice_shown, variant_shown}
 use Rattle.script_lines.specs.Shows.{payload_shown_by, case_number, end_shown, value_count, value_at, values_from, items_then, label_if}
 
 -- ---- values by their places
@@ -227,12 +227,6 @@ types_end types vs i done past =
     ap (λ ws. items_then (items_view done) (parts_shown (types_of types) ws)) (values_past vs i past)
     ∙ (ap (items_then (items_view done)) (parts_past types) ∙ items_end (items_view done))
 
-pub args_end : (fields : List Field) (vs : PlainValues) (i : ℕ) (done : List Json) → value_count vs ≤ i
-    → items_then (items_view done) (parts_shown (fields_of fields) (values_from i vs)) ≡ items_view done
-args_end fields vs i done past =
-    ap (λ ws. items_then (items_view done) (parts_shown (fields_of fields) ws)) (values_past vs i past)
-    ∙ (ap (items_then (items_view done)) (args_past fields) ∙ items_end (items_view done))
-
 pub parts_end : (parts : Parts) (vs : PlainValues) (done : List Json) → parts ≡ NoParts → items_then (items_view done) (parts_shown parts vs) ≡ items_view done
 parts_end parts vs done ends = ap (λ p. items_then (items_view done) (parts_shown p vs)) ends ∙ items_end (items_view done)
 
@@ -259,3 +253,12 @@ types_at types i t h = ap types_of (drop_more types i t h)
 pub fields_at : (fields : List Field) (i : ℕ) (f : Field) → i < length fields
     → fields_of (drop i fields) ≡ Part (out-Field (get_or fields i f)).name (plain (out-Field (get_or fields i f)).ty) (fields_of (drop (i + 1) fields))
 fields_at fields i f h = ap fields_of (drop_more fields i f h)
+
+pub arg_cut : (fields : List Field) (f : Field) (vs : PlainValues) (i : ℕ) → i < length fields → i < value_count vs
+    → parts_shown (fields_of (drop i fields)) (values_from i vs) ≡ item (shown (plain (out-Field (get_or fields i f)).ty) (value_at i vs)) (parts_shown (fields_of (drop (i + 1) fields)) (values_from (i + 1) vs))
+arg_cut fields f vs i h within =
+    let x = out-Field (get_or fields i f) in
+    ap (λ p. parts_shown p (values_from i vs)) (fields_at fields i f h) ∙ ap (λ ws. parts_shown (Part x.name (plain x.ty) (fields_of (drop (i + 1) fields))) ws) (values_next vs i within)
+
+pub args_done : (fields : List Field) (vs : PlainValues) (i : ℕ) → value_count vs ≤ i → parts_shown (fields_of (drop i fields)) (values_from i vs) ≡ no_items
+args_done fields vs i past = ap (λ ws. parts_shown (fields_of (drop i fields)) ws) (values_past vs i past) ∙ args_past (drop i fields)

@@ -1,3 +1,4 @@
+pub mod Added
 pub mod Lines
 pub mod Shown
 pub mod Shows

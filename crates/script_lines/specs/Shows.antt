@@ -1,5 +1,5 @@
 -- Words of private clauses on what is written.
-use Rattle.std.specs.Prelude.{ℕ, zero, suc, pos, Option, Some, None, Bool, if◌then◌else◌, List}
+use Rattle.std.specs.Prelude.{ℕ, zero, suc, pos, Option, Some, None, Bool, if◌then◌else◌}
 use Rattle.serde_json.specs.Data.{Data, null, string, Items, no_items, item}
 use Rattle.wit_types.specs.Plain.{Name, Plain}
 use Rattle.wit_types.specs.PlainValue.{PlainValue, PlainValues, Payload, IntValue, VariantValue, End, More}

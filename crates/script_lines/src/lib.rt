@@ -5,7 +5,8 @@
 mod lines;
 mod showing;
 mod texts;
+mod trees;
 mod values;
+mod writing;
 
 pub use lines::print_observation;
-pub use showing::{show_args, show_value};

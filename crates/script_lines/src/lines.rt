@@ -1,95 +1,113 @@
-ghost use Rattle.std.specs.Prelude.{◌≡◌, None, IfOk};
-ghost use Rattle.serde_json.specs.Data.{item, no_items, string};
-ghost use Rattle.serde_json.specs.View.{items_view, view};
+ghost use Rattle.std.specs.Prelude.{◌≡◌, [], ◌∷◌, None, IfOk, OnOk};
+ghost use Rattle.json.specs.Token.{Token, string as text_token, end_array};
 ghost use Rattle.host_port.specs.Calls.{Called, Dropped, Returned, plain_call, plain_observation, plain_option};
 ghost use Rattle.wit_types.specs.PlainValue.{plain_value};
 ghost use Rattle.script_lines.specs.Lines.{line, line_text, value_shown, type_of};
+ghost use Rattle.script_lines.specs.Added.{Adds, AddsData, AddsItems};
 
-use crate::showing::{show_args, show_value};
-use crate::texts::text_of;
+use crate::writing::{write_args, write_value};
 use host_port::{HostCall, Observation, Resource};
-use serde_json::Value as Json;
+use json::Writer;
 use std::alloc::Global;
 use virt_base::NoMemory;
 use wit_types::{Value, WitType};
 
-fn line_of_call(alloc: Global, call: &HostCall) -> Result<Vec<Json>, NoMemory>
-    ensures { IfOk result (λ items. items_view items.items ≡ line None (Called (plain_call call.now))) }
+/// Most lines are shorter.
+const ROOM: usize = 256;
+
+fn write_call(alloc: Global, call: &HostCall, out: &mut Writer) -> Result<(), NoMemory>
+    ensures { OnOk result (AddsItems out.old out.new (line None (Called (plain_call call.now)))) }
 {
-    let mut items = Vec::with_capacity(alloc, 4)?;
-    items.push(text_of(alloc, "call")?)?;
-    items.push(text_of(alloc, call.interface.as_str())?)?;
-    items.push(text_of(alloc, call.function.as_str())?)?;
-    items.push(Json::Array(show_args(alloc, &call.params, &call.args)?))?;
-    Ok(items)
+    out.string("call")?;
+    out.string(call.func.interface.as_str())?;
+    out.string(call.func.function.as_str())?;
+    out.begin_array()?;
+    write_args(alloc, &call.func.params, &call.args, out)?;
+    out.end_array()?;
+    Ok(())
 }
 
-fn line_of_drop(alloc: Global, resource: &Resource, id: u32) -> Result<Vec<Json>, NoMemory>
-    ensures { IfOk result (λ items. items_view items.items ≡ line None (Dropped resource.now id)) }
+fn write_drop(resource: &Resource, id: u32, out: &mut Writer) -> Result<(), NoMemory>
+    ensures { OnOk result (AddsItems out.old out.new (line None (Dropped resource.now id))) }
 {
-    let mut items = Vec::with_capacity(alloc, 4)?;
-    items.push(text_of(alloc, "drop")?)?;
-    items.push(text_of(alloc, resource.interface.as_str())?)?;
-    items.push(text_of(alloc, resource.name.as_str())?)?;
-    items.push(Json::from(id))?;
-    Ok(items)
+    out.string("drop")?;
+    out.string(resource.interface.as_str())?;
+    out.string(resource.name.as_str())?;
+    out.u64(u64::from(id))?;
+    out.end_array()?;
+    Ok(())
 }
 
-fn value_of(alloc: Global, ty: Option<&WitType>, value: &Value) -> Result<Json, NoMemory>
-    ensures { IfOk result (λ json. view json ≡ value_shown (type_of ty.entry) (plain_value value.now)) }
+fn write_returned(
+    alloc: Global,
+    ty: Option<&WitType>,
+    value: &Value,
+    out: &mut Writer,
+) -> Result<(), NoMemory>
+    ensures { OnOk result (AddsData out.old out.new (value_shown (type_of ty.entry) (plain_value value.now))) }
 {
     match ty {
-        None => Ok(Json::Null),
-        Some(ty) => show_value(alloc, ty, value),
+        None => {
+            out.null()?;
+            Ok(())
+        }
+        Some(ty) => write_value(alloc, ty, value, out),
     }
 }
 
-fn line_of_return(
+/// A line that is one word.
+fn write_word(word: &str, out: &mut Writer) -> Result<(), NoMemory>
+    ensures { OnOk result (Adds out.old out.new (text_token word.now ∷ end_array ∷ [])) }
+{
+    out.string(word)?;
+    out.end_array()?;
+    Ok(())
+}
+
+fn write_return(
     alloc: Global,
     ty: Option<&WitType>,
     value: &Option<Value>,
-) -> Result<Vec<Json>, NoMemory>
-    ensures { IfOk result (λ items. items_view items.items ≡ line (type_of ty.entry) (Returned (plain_option value.now))) }
+    out: &mut Writer,
+) -> Result<(), NoMemory>
+    ensures { OnOk result (AddsItems out.old out.new (line (type_of ty.entry) (Returned (plain_option value.now)))) }
 {
-    let mut items = Vec::with_capacity(alloc, 2)?;
-    items.push(text_of(alloc, "return")?)?;
-    if let Some(value) = value {
-        items.push(value_of(alloc, ty, value)?)?;
+    match value {
+        None => write_word("return", out),
+        Some(value) => {
+            out.string("return")?;
+            write_returned(alloc, ty, value, out)?;
+            out.end_array()?;
+            Ok(())
+        }
     }
-    Ok(items)
 }
 
-fn line_of_word(alloc: Global, word: &str) -> Result<Vec<Json>, NoMemory>
-    ensures { IfOk result (λ items. items_view items.items ≡ item (string word.now) no_items) }
-{
-    let mut items = Vec::with_capacity(alloc, 1)?;
-    items.push(text_of(alloc, word)?)?;
-    Ok(items)
-}
-
-fn line_of(
+/// The words of a line, and the bracket behind them.
+fn write_words(
     alloc: Global,
     observation: &Observation,
     returned: Option<&WitType>,
-) -> Result<Vec<Json>, NoMemory>
-    ensures { IfOk result (λ items. items_view items.items ≡ line (type_of returned.entry) (plain_observation observation.now)) }
+    out: &mut Writer,
+) -> Result<(), NoMemory>
+    ensures { OnOk result (AddsItems out.old out.new (line (type_of returned.entry) (plain_observation observation.now))) }
 {
     match observation {
-        Observation::Called(call) => line_of_call(alloc, call),
-        Observation::Dropped(resource, id) => line_of_drop(alloc, resource, *id),
-        Observation::Returned(value) => line_of_return(alloc, returned, value),
-        Observation::Trapped => line_of_word(alloc, "trap"),
-        Observation::ScriptEnded => line_of_word(alloc, "script-ended"),
-        Observation::BadAnswer => line_of_word(alloc, "bad-answer"),
-        Observation::Spent => line_of_word(alloc, "spent"),
-        Observation::TooDeep => line_of_word(alloc, "too-deep"),
+        Observation::Called(call) => write_call(alloc, call, out),
+        Observation::Dropped(resource, id) => write_drop(resource, *id, out),
+        Observation::Returned(value) => write_return(alloc, returned, value, out),
+        Observation::Trapped => write_word("trap", out),
+        Observation::ScriptEnded => write_word("script-ended", out),
+        Observation::BadAnswer => write_word("bad-answer", out),
+        Observation::Spent => write_word("spent", out),
+        Observation::TooDeep => write_word("too-deep", out),
     }
 }
 
 /// The line of what is seen: one compact JSON array (RFC 8259) with an LF behind it. A call is `["call",INTERFACE,FUNCTION,[V, ..]]`,
 /// a drop `["drop",INTERFACE,RESOURCE,ID]`, a return `["return",V]` or `["return"]`; an end is `["trap"]`, `["script-ended"]`,
 /// `["bad-answer"]`, `["spent"]` or `["too-deep"]`. A returned value has the type that is given. Keys of objects stand in byte
-/// order, and in place of what is not of its type stands null.
+/// order, and in place of what is not of its type stands null. The line has no more room than it needs.
 pub fn print_observation(
     alloc: Global,
     observation: &Observation,
@@ -97,8 +115,10 @@ pub fn print_observation(
 ) -> Result<Vec<u8>, NoMemory>
     ensures { IfOk result (λ bytes. bytes.items ≡ line_text (type_of returned.entry) (plain_observation observation.now)) }
 {
-    let line = Json::Array(line_of(alloc, observation, returned)?);
-    let mut bytes = line.to_vec(alloc)?;
+    let mut out = Writer::new(Vec::with_capacity(alloc, ROOM)?);
+    out.begin_array()?;
+    write_words(alloc, observation, returned, &mut out)?;
+    let mut bytes = out.into_inner();
     bytes.push(b'\n')?;
-    Ok(bytes)
+    Ok(Vec::from_slice(alloc, bytes.as_slice())?)
 }

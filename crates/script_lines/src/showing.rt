@@ -5,7 +5,6 @@ ghost use Rattle.serde_json.specs.Data.{no_members, string};
 ghost use Rattle.serde_json.specs.View.{view, items_view, members_view};
 ghost use Rattle.wit_types.specs.Plain.{plain, payload_of as type_of_payload, fields_of, types_of, cases_of, bare, Bare, More, End, AsRecord, AsTuple, AsVariant, AsEnum, AsOption};
 ghost use Rattle.wit_types.specs.PlainValue.{plain_value, plain_values, payload_of};
-ghost use Rattle.host_port.specs.Calls.{fields_in};
 ghost use Rattle.script_lines.specs.Shown.{shown, parts_shown, fields_shown, case_shown, each_shown, list_shown, record_shown, variant_shown, choice_shown, payload_shown, labelled, label_at};
 ghost use Rattle.script_lines.specs.Shows.{payload_shown_by, value_count, value_at, end_shown};
 
@@ -17,7 +16,7 @@ use serde_json::{Map, Value as Json, put};
 use std::alloc::Global;
 use std::rc::Rc;
 use virt_base::{NoMemory, Text};
-use wit_types::{Case, Field, Fields, Value, Values, WitType};
+use wit_types::{Case, Field, Value, Values, WitType};
 
 /// The value at a place.
 #[cycle(show_value)]
@@ -299,25 +298,4 @@ pub fn show_value(alloc: Global, ty: &WitType, value: &Value) -> Result<Json, No
         },
         WitType::Own(_) | WitType::Borrow(_) => Ok(show_handle(value)),
     }
-}
-
-fn show_each_arg(alloc: Global, params: &[Field], args: &Values) -> Result<Vec<Json>, NoMemory>
-    ensures { IfOk result (λ items. items_view items.items ≡ parts_shown (fields_of params.now) (plain_values args.now)) }
-{
-    let mut items = Vec::new(alloc);
-    let count = count(args);
-    for place in 0..params.len() {
-        if place >= count {
-            return Ok(items);
-        }
-        items.push(show_nth(alloc, &params[place].ty, args, place)?)?;
-    }
-    Ok(items)
-}
-
-/// Arguments as JSON, in order: one for each parameter.
-pub fn show_args(alloc: Global, params: &Fields, args: &Values) -> Result<Vec<Json>, NoMemory>
-    ensures { IfOk result (λ items. items_view items.items ≡ parts_shown (fields_in params.now) (plain_values args.now)) }
-{
-    show_each_arg(alloc, &params.items, args)
 }

@@ -1,17 +1,17 @@
 use Rattle.std.proofs.Common.{◌≡◌, ◌∙◌, ◌+◌, ◌<◌, ◌≤◌, [], drop, length, get_or, ap, sym, subst, rules, arith}
 use Rattle.std.specs.Prelude.{IfOk}
 use Rattle.std.proofs.lemmas.List.{drop_all, get_or_default}
-use Rattle.serde_json.specs.Data.{Data, no_members, put}
-use Rattle.serde_json.specs.View.{view, items_view, members_view}
+use Rattle.serde_json.specs.Data.{Data, put}
+use Rattle.serde_json.specs.View.{view, members_view}
 use Rattle.wit_types.specs.declared.types.Field.{out-Field}
 use Rattle.wit_types.specs.declared.types.Case.{out-Case}
-use Rattle.wit_types.specs.Plain.{plain, fields_of, types_of, cases_of, AsVariant, More as Part}
+use Rattle.wit_types.specs.Plain.{plain, fields_of, types_of, cases_of, More as Part}
 use Rattle.wit_types.specs.PlainValue.{PlainValue, plain_value, plain_values, payload_of}
-use Rattle.wit_types.proofs.ValueLemmas.{plain_values-Each, plain_values-Bytes}
-use Rattle.script_lines.specs.Shown.{shown, choice_shown, case_shown, labelled, one_member}
+use Rattle.wit_types.proofs.ValueLemmas.{plain_values-Each}
+use Rattle.script_lines.specs.Shown.{shown, case_shown, labelled, one_member}
 use Rattle.script_lines.specs.Shows.{value_at, value_count, values_from}
 use Rattle.script_lines.proofs.Views.{view-Null}
-use Rattle.script_lines.proofs.Places.{types_at, fields_at, count_each, count_bytes, at_each, at_bytes, each_next, each_end, part_next, types_end, parts_end, field_next, fields_end, no_fields_end, case_written, label_past}
+use Rattle.script_lines.proofs.Places.{types_at, fields_at, count_each, at_each, each_next, each_end, part_next, types_end, parts_end, field_next, fields_end, case_written, label_past}
 use Rattle.script_lines.proofs.showing.+show_value.Goals as goal
 
 pub show_case-returns-then-number-cases : goal.show_case-returns-then-number-cases

@@ -1,7 +1,6 @@
-use Rattle.std.proofs.Common.{◌≡◌, ◌∙◌, ◌++◌, ◌∷◌, [], sym, ap}
+use Rattle.std.proofs.Common.{◌∙◌, ◌++◌, ◌∷◌, [], sym, ap}
 use Rattle.serde_json.specs.Data.{string, no_items}
 use Rattle.serde_json.specs.View.{items_view}
-use Rattle.script_lines.specs.Shows.{items_then, label_if}
 use Rattle.script_lines.proofs.Places.{item_more, items_end}
 use Rattle.script_lines.proofs.texts.push_label.Goals as goal
 

@@ -3,7 +3,7 @@ use Rattle.std.specs.Prelude.{◌==◌}
 use Rattle.std.proofs.lemmas.List.{drop_more, drop_all}
 use Rattle.serde_json.specs.View.{items_view}
 use Rattle.script_lines.specs.Shown.{labels_set}
-use Rattle.script_lines.specs.Shows.{items_then, label_if}
+use Rattle.script_lines.specs.Shows.{items_then}
 use Rattle.script_lines.proofs.Places.{label_more, items_end}
 use Rattle.script_lines.proofs.texts.show_labels.Goals as goal
 

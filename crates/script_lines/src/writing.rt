@@ -1,0 +1,126 @@
+#![tactic(auto, using(wit_types::proofs::PlainLemmas::plains, wit_types::proofs::ValueLemmas::values, crate::proofs::Views::views, crate::proofs::Places::counts))]
+
+ghost use Rattle.std.specs.Prelude.{◌<◌, length, OnOk};
+ghost use Rattle.wit_types.specs.Plain.{plain, fields_of};
+ghost use Rattle.wit_types.specs.PlainValue.{plain_value, plain_values, byte_values};
+ghost use Rattle.host_port.specs.Calls.{fields_in};
+ghost use Rattle.script_lines.specs.Shown.{shown, text_shown, parts_shown};
+ghost use Rattle.script_lines.specs.Shows.{value_count, value_at};
+ghost use Rattle.script_lines.specs.Added.{AddsData, AddsItems};
+
+use crate::showing::show_value;
+use crate::trees::write_tree;
+use crate::values::{count, show_nth_byte};
+use json::Writer;
+use std::alloc::Global;
+use virt_base::NoMemory;
+use wit_types::{Field, Fields, Value, Values, WitType};
+
+fn write_text(value: &Value, out: &mut Writer) -> Result<(), NoMemory>
+    ensures { OnOk result (AddsData out.old out.new (text_shown (plain_value value.now))) }
+{
+    match value {
+        Value::Str(text) => {
+            out.string(text.as_str())?;
+            Ok(())
+        }
+        Value::Bool(_)
+        | Value::Int(_)
+        | Value::Char(_)
+        | Value::List(_)
+        | Value::Record(_)
+        | Value::Variant(_, _)
+        | Value::Flags(_)
+        | Value::Handle(_) => {
+            out.null()?;
+            Ok(())
+        }
+    }
+}
+
+/// A value that is no text goes by a tree, which takes no memory for truth values, numbers and handles.
+fn write_shown(alloc: Global, ty: &WitType, value: &Value, out: &mut Writer) -> Result<(), NoMemory>
+    ensures { OnOk result (AddsData out.old out.new (shown (plain ty.now) (plain_value value.now))) }
+{
+    let tree = show_value(alloc, ty, value)?;
+    write_tree(&tree, out)?;
+    Ok(())
+}
+
+/// Writes a value by its type. In place of what is not of its type stands null.
+pub fn write_value(
+    alloc: Global,
+    ty: &WitType,
+    value: &Value,
+    out: &mut Writer,
+) -> Result<(), NoMemory>
+    ensures { OnOk result (AddsData out.old out.new (shown (plain ty.now) (plain_value value.now))) }
+{
+    match ty {
+        WitType::Str => write_text(value, out),
+        _ => write_shown(alloc, ty, value, out),
+    }
+}
+
+fn write_nth_byte(
+    ty: &WitType,
+    bytes: &[u8],
+    place: usize,
+    out: &mut Writer,
+) -> Result<(), NoMemory>
+    requires { place < length bytes.now }
+    ensures { OnOk result (AddsData out.old out.new (shown (plain ty.now) (value_at place (byte_values bytes.now)))) }
+{
+    let tree = show_nth_byte(ty, bytes, place);
+    write_tree(&tree, out)?;
+    Ok(())
+}
+
+/// The value at a place.
+fn write_nth(
+    alloc: Global,
+    ty: &WitType,
+    values: &Values,
+    place: usize,
+    out: &mut Writer,
+) -> Result<(), NoMemory>
+    requires { place < value_count (plain_values values.now) }
+    ensures { OnOk result (AddsData out.old out.new (shown (plain ty.now) (value_at place (plain_values values.now)))) }
+{
+    match values {
+        Values::Each(items) => write_value(alloc, ty, &items[place], out),
+        Values::Bytes(bytes) => write_nth_byte(ty, bytes.as_slice(), place, out),
+    }
+}
+
+fn write_each_arg(
+    alloc: Global,
+    params: &[Field],
+    args: &Values,
+    out: &mut Writer,
+) -> Result<(), NoMemory>
+    ensures { OnOk result (AddsItems out.old out.new (parts_shown (fields_of params.now) (plain_values args.now))) }
+{
+    let count = count(args);
+    for place in 0..params.len() {
+        if place >= count {
+            out.end_array()?;
+            return Ok(());
+        }
+        write_nth(alloc, &params[place].ty, args, place, out)?;
+    }
+    out.end_array()?;
+    Ok(())
+}
+
+/// Writes arguments in order, one for each parameter, and the bracket behind them.
+pub fn write_args(
+    alloc: Global,
+    params: &Fields,
+    args: &Values,
+    out: &mut Writer,
+) -> Result<(), NoMemory>
+    ensures { OnOk result (AddsItems out.old out.new (parts_shown (fields_in params.now) (plain_values args.now))) }
+{
+    write_each_arg(alloc, &params.items, args, out)
+}
