@@ -21,7 +21,7 @@ use Rattle.abi_load.specs.Lifted.{words as numbers}
 use Rattle.abi_store.specs.Plan.{Plan, is_due}
 use Rattle.host_port.specs.Hosts.{HostStep}
 use Rattle.comp_worlds.specs.Passing.{params_tuple, answer_tuple, blank, handles_of, most_params}
-use Rattle.comp_worlds.specs.Groups.{Theirs, type_of, LoweredFunc}
+use Rattle.comp_worlds.specs.Groups.{Theirs, type_of, LoweredFunc, Import}
 use Rattle.comp_worlds.specs.Locals.{done, is_open, lifts, adds_handles}
 use Rattle.comp_worlds.specs.Hosts.{passed_by}
 use Rattle.instance_state.specs.declared.instance.Instance.{Instance}
@@ -31,10 +31,9 @@ use Rattle.instance_handles.specs.Loans.{indexes_of, IsLentAs, AreLent}
 use Rattle.instance_handles.specs.Owning.{plain_for}
 use Rattle.instance_values.specs.Functions.{IsPassedAs}
 use Rattle.instance_values.specs.Passed.{options_of, needs_memory, IsInStore, params_plan, result_plan}
-use Rattle.instance_values.specs.Targets.{target_of, lifting_of, import_of}
+use Rattle.instance_values.specs.Targets.{target_of, lifting_of}
 use Rattle.instance_values.specs.declared.options.CallOptions.{CallOptions}
 use Rattle.instance_values.specs.declared.passed_func.PassedFunc.{PassedFunc}
-use Rattle.instance_values.specs.declared.target.Import.{Import}
 use Rattle.instance_values.specs.declared.target.Lifting.{Lifting}
 use Rattle.instance_values.specs.declared.target.Target.{Target}
 use Rattle.instance_values.specs.declared.target.Target.TheVariants as targets
@@ -195,8 +194,8 @@ module _ {S : Type 0} (h : HostStep S) (old : Moment S) (k : ℕ) (depth : Depth
           calls_own h old k depth target options args i found opened j code call refl refl there_so value (lifted typed) all_lent typed_so callee rc (sym shared ∙ ap target_of e) new result leads G waiting w inner fits typed
 
       module _ (rc : Rc Import Global) (import : Import) (e : same ≡ targets.Theirs rc) (at : import ≡ rc.value) where
-        theirs : target_of target ≡ Theirs (import_of import)
-        theirs = sym shared ∙ ap target_of e ∙ ap (λ (x : Import). Theirs (import_of x)) (sym at)
+        theirs : target_of target ≡ Theirs import
+        theirs = sym shared ∙ ap target_of e ∙ ap Theirs (sym at)
 
         pub host_ends : (new : Moment S) (stop : Stop) (result : Result Flow Stop) → AsksHost h mid import (plain_value value) (Err stop) new → IsErrAnd result (λ s. s ≡ stop) → Calls result new
         host_ends new stop result asks err = λ G waiting w inner fits typed.

@@ -5,9 +5,9 @@ use Rattle.wit_types.specs.PlainValue.{PlainValue, PlainValues, plain_value}
 use Rattle.wit_types.specs.declared.value.Value.{Value}
 use Rattle.host_port.specs.Calls.{PlainCall, PlainAnswer, Gives, Trap, Ended, Bad}
 use Rattle.host_port.specs.Hosts.{HostStep, Kept, IsAnswerTo, answer_of, reacts}
+use Rattle.comp_worlds.specs.Groups.{Import}
 use Rattle.comp_worlds.specs.Passing.{in_tuple}
 use Rattle.instance_values.specs.Targets.{target_of}
-use Rattle.instance_values.specs.declared.target.Import.{Import}
 use Rattle.instance_values.specs.declared.target.Target.{Target}
 use Rattle.call_frames.specs.Asking.{called, GivesTuple}
 use Rattle.call_frames.specs.declared.end.Stop.{Stop}

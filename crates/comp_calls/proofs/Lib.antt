@@ -4,3 +4,4 @@ pub mod Begun
 pub mod Hosts
 pub mod Visiting
 pub mod Popped
+pub mod NoResult

@@ -1,10 +1,13 @@
 #![tactic(auto, using(crate::proofs::Working::works))]
 
-ghost use Rattle.std.specs.Prelude.{◌≡◌, ◌≤◌, ◌<◌, ◌+◌, OnOk};
+ghost use Rattle.std.specs.Prelude.{◌≡◌, ◌≤◌, ◌<◌, ◌+◌, OnOk, IsTrue, None};
 ghost use Rattle.comp_calls.specs.Work.{work, weight_behind};
 ghost use Rattle.comp_calls.specs.Moments.{at};
-ghost use Rattle.wit_types.specs.PlainValue.{plain_value};
+ghost use Rattle.wit_types.specs.PlainValue.{PlainValue, plain_value};
+ghost use Rattle.call_frames.specs.declared.depth.Depth.{Depth};
 ghost use Rattle.call_moments.specs.Functions.{AsksFor, IsStored, ParamsLead, ResultLeads, Stores, IsGranted};
+ghost use Rattle.comp_worlds.specs.Groups.{type_of};
+ghost use Rattle.instance_values.specs.Targets.{target_of};
 
 use crate::world::World;
 use abi_store::StoreStep;
@@ -14,8 +17,17 @@ use call_frames::{
 };
 use core_slots::CoreValues;
 use host_port::Host;
+use instance_values::Target;
 use std::alloc::Global;
+use virt_base::Items;
 use wit_types::Value;
+
+/// A function has no result.
+fn answers_nothing(target: &Target) -> bool
+    ensures { IsTrue result → (type_of (target_of target.now)).answer ≡ None }
+{
+    target.ty().func().ty().result.is_none()
+}
 
 impl<H: Host> World<H> {
     /// The parameters of a lifted function are lowered into its instance, and then it runs.
@@ -67,6 +79,9 @@ impl<H: Host> World<H> {
         ensures less { OnOk result (work self.new.budget self.new.frames.items ≤ work self.old.budget self.old.frames.items) }
         ensures leads { ResultLeads H.step (at H.kept self.old) number call due depth (plain_value value) result (at H.kept self.new) }
     {
+        if answers_nothing(&call.target) {
+            return self.end_call(alloc, number, call, due);
+        }
         let Some(instance) = self.instances.get_mut(number as usize) else {
             return Err(Stop::Trapped);
         };
@@ -90,6 +105,20 @@ impl<H: Host> World<H> {
             then: Stored::Result(due),
         };
         self.store(alloc, storing, None)
+    }
+
+    /// A call of a function that has no result is left: no value is stored.
+    fn end_call(&mut self, alloc: Global, number: u32, call: Call, due: Due) -> Result<Flow, Stop>
+        requires { (type_of (target_of call.target)).answer ≡ None }
+        ensures less { OnOk result (work self.new.budget self.new.frames.items ≤ work self.old.budget self.old.frames.items) }
+        ensures leads { (depth : Depth) (value : PlainValue) → ResultLeads H.step (at H.kept self.old) number call due depth value result (at H.kept self.new) }
+    {
+        let Some(instance) = self.instances.get_mut(number as usize) else {
+            return Err(Stop::Trapped);
+        };
+        instance.handles.end_loans(&call.loans)?;
+        instance.reopen();
+        self.leave(alloc, due, Back::Inside(Items::empty(alloc)))
     }
 
     /// Storing goes on, with the answer to the last request.

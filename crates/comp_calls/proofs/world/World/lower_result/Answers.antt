@@ -9,6 +9,9 @@ use Rattle.call_moments.proofs.Following.{with_instance}
 use Rattle.call_moments.proofs.Lowered.{result_there}
 use Rattle.comp_calls.proofs.world.World.lower_result.Goals as goal
 
+pub returns-then-answers_nothing-clause-leads : goal.returns-then-answers_nothing-clause-leads
+returns-then-answers_nothing-clause-leads g c = c.end_call.ensures.leads c.args.depth (plain_value c.args.value)
+
 pub returns-in_default-clause-leads : goal.returns-in_default-clause-leads
 returns-in_default-clause-leads g c = result_there g.H.Host.step (at g.H.Host.kept c.args.self.now) c.args.number c.args.call c.args.due c.args.depth (plain_value c.args.value) c.in_default.ensures.item.3 (Err stops.Trapped) (at g.H.Host.kept c.args.self.now)
 
