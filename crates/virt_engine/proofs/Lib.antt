@@ -20,3 +20,6 @@ pub mod Legal
 pub mod Coming
 pub mod Following
 pub mod ComponentRuns
+pub mod InOrder
+pub mod TreesOnce
+pub mod Alike

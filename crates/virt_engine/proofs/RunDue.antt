@@ -63,8 +63,8 @@ same_some : (a b : List ℕ) → Some a ≡ Some b → a ≡ b
 same_some a b e = cc
 
 -- how refusals speak of bytes
-record AreOnes (Refuses : Refusing) : Type 0 where
-  one : (bytes : List ℕ) (a b : RunRefusal) → a ≢ refusals.NoMemory → b ≢ refusals.NoMemory → Refuses bytes a → Refuses bytes b → a ≡ b
+pub record AreOnes (Refuses : Refusing) : Type 0 where
+  pub one : (bytes : List ℕ) (a b : RunRefusal) → a ≢ refusals.NoMemory → b ≢ refusals.NoMemory → Refuses bytes a → Refuses bytes b → a ≡ b
 
 one_file : (Refuses : Refusing) → AreOnes Refuses → (file : Option (List ℕ)) (name : List ℕ) (a b : Status) → IsVerdictBy Refuses file name a → IsVerdictBy Refuses file name b → a ≡ b
 one_file Refuses ones None name a b h g = h ∙ sym g
@@ -87,17 +87,17 @@ script_file_stands held name exports status h v =
 -- ---- a component and its script
 
 -- how what will do and what is refused speak of bytes
-record IsKind (Refuses : Refusing) (Fits : Fitting) : Type 0 where
-  ones : AreOnes Refuses
-  stands : (bytes : List ℕ) (tree : Tree) (refusal : RunRefusal) → Fits bytes tree → refusal ≢ refusals.NoMemory → Refuses bytes refusal → ⊥
-  one_tree : (bytes : List ℕ) (a b : Tree) → Fits bytes a → Fits bytes b → a ≡ b
+pub record IsKind (Refuses : Refusing) (Fits : Fitting) : Type 0 where
+  pub ones : AreOnes Refuses
+  pub stands : (bytes : List ℕ) (tree : Tree) (refusal : RunRefusal) → Fits bytes tree → refusal ≢ refusals.NoMemory → Refuses bytes refusal → ⊥
+  pub one_tree : (bytes : List ℕ) (a b : Tree) → Fits bytes a → Fits bytes b → a ≡ b
 
 module _ (Refuses : Refusing) (Fits : Fitting) (kind : IsKind Refuses Fits) (held : Held) (c : RunCommand) where
   component_stands : (tree : Tree) (status : Status) → HoldsComponent Fits held c.component tree → IsVerdictBy Refuses (held.file c.component) c.component status → ⊥
   component_stands tree status h v =
       file_stands Refuses (held.file c.component) c.component h.bytes status h.there (λ refusal some r. kind.stands h.bytes tree refusal h.fits some r) v
 
-  one_component : (a b : Tree) → HoldsComponent Fits held c.component a → HoldsComponent Fits held c.component b → a ≡ b
+  pub one_component : (a b : Tree) → HoldsComponent Fits held c.component a → HoldsComponent Fits held c.component b → a ≡ b
   one_component a b h g =
       let same : h.bytes ≡ g.bytes = same_some h.bytes g.bytes (sym h.there ∙ g.there) in
       kind.one_tree g.bytes a b (subst (λ (bytes : List ℕ). Fits bytes a) same h.fits) g.fits
@@ -118,14 +118,14 @@ module _ (Refuses : Refusing) (Fits : Fitting) (kind : IsKind Refuses Fits) (hel
       let same : v.0 ≡ tree = one_component v.0 tree v.1 h in
       script_file_stands held c.script (type_of tree).exports status s (subst (λ (u : Tree). IsVerdictBy (RefusesScript (type_of u).exports) (held.file c.script) c.script status) same v.2)
 
-alone : IsKind IsRefusal IsRunnable
+pub alone : IsKind IsRefusal IsRunnable
 alone = record {
   ones = record { one = one_refusal };
   stands = λ bytes tree refusal fits some h. one_verdict bytes tree refusal fits some h;
   one_tree = λ bytes a b h g. g.sound.small.spelled.1 a h.sound.small.spelled.0.0;
 }
 
-listed : IsKind IsApplicationRefusal IsListedBy
+pub listed : IsKind IsApplicationRefusal IsListedBy
 listed = record {
   ones = record { one = one_application_refusal };
   stands = λ bytes tree refusal fits some h. one_application bytes tree fits.0 refusal fits.1 some h;

@@ -30,11 +30,11 @@ use Rattle.virt_engine.specs.PolicyTrees.{IsTreesVerdict, TreesCause}
 use Rattle.virt_engine.specs.Report.{Puts}
 use Rattle.virt_engine.specs.RunDue.{HoldsComponent, Refusing, IsVerdictBy, AreInputsRefused, IsRefusedBy, IsRunRefused, AreAccepted, IsAcceptedUnder}
 use Rattle.virt_engine.specs.Runs.{ended_as, BeginsUnder, BeginsBy, ShowsWhat, EndsBy, CauseBy, RunCause, RunsBy, RunCompletes, RunAccepts}
-use Rattle.virt_engine.proofs.Planning.{policy_file}
+use Rattle.virt_engine.proofs.Planning.{policy_absent, policy_file}
 use Rattle.virt_engine.proofs.Showing.{script_held, application_held}
 use Rattle.virt_engine.proofs.RunDue.{runs_stand}
 
--- ---- a cause without a fault that was counted is due
+-- ---- a cause is due, where files are steady or no fault was counted
 
 -- bytes that are refused, unless memory ran out
 verdict_of : (Refuses : Refusing) (file : Option (List ℕ)) (name bytes : List ℕ) (refusal : RunRefusal) → file ≡ Some bytes → Refuses bytes refusal
@@ -47,11 +47,16 @@ verdict_of Refuses file name bytes (refusals.OverLimit what value) there h =
 verdict_of Refuses file name bytes (refusals.BadScript path) there h =
     inl (subst (λ (o : Option (List ℕ)). IsVerdictBy Refuses o name (ScriptRefused path)) (sym there) (refusals.BadScript path, λ e. cc, h, refl))
 
-module _ (s t : FilesState) (told : s.told ≡ true) (quiet : ¬ (Rose s.faults t.faults)) where
+module _ (s t : FilesState) (told : s.told ≡ true) (calm : (s.steady ≡ true) ⊎ ¬ (Rose s.faults t.faults)) where
+  -- a fault that was counted is one of steady files
+  steadily : {A : Type 0} → Rose s.faults t.faults → (s.steady ≡ true → A) → A
+  steadily rose so = elim calm [ inl steady ↦ so steady | inr quiet ↦ absurd (quiet rose) ]
+
   file_due : (name what : List ℕ) (limit : ℕ) (Refuses : Refusing) (e : Unready)
       → ((bytes : List ℕ) (value : ℕ) → limit < value → length bytes ≡ value → Refuses bytes (refusals.OverLimit what value))
       → Cause name what limit Refuses s t e → IsVerdictBy Refuses (s.held.file name) name (unready_as e) ⊎ (unready_as e ≡ NoMemory)
-  file_due name what limit Refuses (Faulted kept) long h = absurd (quiet h.counted)
+  file_due name what limit Refuses (Faulted kept) long h =
+      steadily h.counted (λ steady. inl (subst (λ (o : Option (List ℕ)). IsVerdictBy Refuses o name (FileFault kept)) (sym (h.absent told steady)) (ap FileFault h.asked)))
   file_due name what limit Refuses (Refused refusal) long (inl none) = inr (ap (λ r. unready_as (Refused r)) none)
   file_due name what limit Refuses (Refused refusal) long (inr (inl h)) =
       let found = h.there told in
@@ -93,7 +98,8 @@ module _ (s t : FilesState) (told : s.told ≡ true) (quiet : ¬ (Rose s.faults 
   ]
 
   policy_due : (name : List ℕ) (status : Status) → PolicyCause name s t status → IsPolicyVerdict s.held name status ⊎ (status ≡ NoMemory)
-  policy_due name (FileFault kept) h = absurd (quiet h.1)
+  policy_due name (FileFault kept) h =
+      steadily h.1 (λ steady. inl (subst (λ (x : List ℕ). IsPolicyVerdict s.held name (FileFault x)) (sym h.0) (policy_absent s.held name (h.2 told steady))))
   policy_due name NoMemory h = inr refl
   policy_due name (OverLimit what value) h = inl (h.1 told)
   policy_due name (PolicyRefused fault) h = inl (h.1 told)
@@ -109,7 +115,7 @@ module _ (s t : FilesState) (told : s.told ≡ true) (quiet : ¬ (Rose s.faults 
   policy_due name Usage h = absurd h
 
   trees_are_due : (policy : Policy) (status : Status) → TreesCause policy s t status → IsTreesVerdict s.held policy status ⊎ (status ≡ NoMemory)
-  trees_are_due policy (FileFault kept) h = absurd (quiet h.0)
+  trees_are_due policy (FileFault kept) h = steadily h.0 (λ steady. inl (h.2 told steady))
   trees_are_due policy NoMemory h = inr refl
   trees_are_due policy (OverLimit what value) h = inl (h.1 told)
   trees_are_due policy (PolicyRefused fault) h = inl (h told)
@@ -127,7 +133,7 @@ module _ (s t : FilesState) (told : s.told ≡ true) (quiet : ¬ (Rose s.faults 
   due_as : (c : RunCommand) (policy : Option (List ℕ)) (a b : Status) → a ≡ b → IsRefusedBy s.held c policy b ⊎ (b ≡ NoMemory) → IsRefusedBy s.held c policy a ⊎ (a ≡ NoMemory)
   due_as c policy a b is h = subst (λ (x : Status). IsRefusedBy s.held c policy x ⊎ (x ≡ NoMemory)) (sym is) h
 
-  cause_due : (c : RunCommand) (policy : Option (List ℕ)) (status : Status) → CauseBy c policy s t status → IsRefusedBy s.held c policy status ⊎ (status ≡ NoMemory)
+  pub cause_due : (c : RunCommand) (policy : Option (List ℕ)) (status : Status) → CauseBy c policy s t status → IsRefusedBy s.held c policy status ⊎ (status ≡ NoMemory)
   cause_due c None status h = due_as c None status (unready_as h.0) h.2 (alone_due c h.0 h.1)
   cause_due c (Some name) status (inl h) = elim (policy_due name status h) [ inl v ↦ inl (inl v) | inr none ↦ inr none ]
   cause_due c (Some name) status (inr (policy, has, inl h)) =
@@ -152,14 +158,14 @@ module _ (s t : FilesState) (told : s.told ≡ true) (quiet : ¬ (Rose s.faults 
 -- ---- what files begin a run with is what can be run
 
 module _ (s : FilesState) (told : s.told ≡ true) where
-  abbrev alone_accepted : (c : RunCommand) (inputs : Inputs) → AreReady c.component c.script s inputs → AreAccepted IsRunnable s.held c
+  abbrev pub alone_accepted : (c : RunCommand) (inputs : Inputs) → AreReady c.component c.script s inputs → AreAccepted IsRunnable s.held c
   alone_accepted c inputs h = record {
     tree = plain inputs.judged.component;
     component = record { bytes = h.runnable.bytes; there = h.runnable.there told; fits = h.runnable.judges.0 };
     script = script_held inputs.judged c.script s inputs.script h.runnable.judges.1 h.scripted told;
   }
 
-  abbrev under_accepted : (c : RunCommand) (name : List ℕ) → BeginsUnder c name s → IsAcceptedUnder s.held c name
+  abbrev pub under_accepted : (c : RunCommand) (name : List ℕ) → BeginsUnder c name s → IsAcceptedUnder s.held c name
   under_accepted c name h = record {
     policy = h.policy;
     policy_file = policy_file name s h.policy h.has_policy told;
@@ -184,7 +190,7 @@ put_of due text k l result p quiet = elim p.put [ inl w ↦ w.status | inr b ↦
 
 refused_so : (c : RunCommand) (s t : FilesState) (result why : Status) → s.told ≡ true → ¬ (Rose s.faults t.faults) → RunCause c s t why → result ≡ why → IsRunRefused s.held c result ⊎ (result ≡ NoMemory)
 refused_so c s t result why told files (inl none) is = inr (is ∙ none)
-refused_so c s t result why told files (inr h) is = elim (cause_due s t told files c c.policy why h) [
+refused_so c s t result why told files (inr h) is = elim (cause_due s t told (inr files) c c.policy why h) [
   | inl due ↦ inl (subst (λ (x : Status). IsRunRefused s.held c x) (sym is) due)
   | inr none ↦ inr (is ∙ none)
 ]

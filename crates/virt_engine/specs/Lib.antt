@@ -16,3 +16,4 @@ pub mod Shown
 pub mod Told
 pub mod Calling
 pub mod Runners
+pub mod Alike

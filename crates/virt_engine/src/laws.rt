@@ -2,9 +2,11 @@
 
 ghost use Rattle.std.specs.Prelude.{◌≡◌, ℕ, List};
 ghost use Rattle.outside.specs.Files.{Held};
+ghost use Rattle.virt_engine.specs.Alike.{CameTo};
 ghost use Rattle.virt_engine.specs.Command.{RunCommand};
 ghost use Rattle.virt_engine.specs.Plan.{IsDue};
 ghost use Rattle.virt_engine.specs.RunDue.{CanBeRun, IsRunRefused};
+ghost use Rattle.virt_engine.specs.Runs.{Ends};
 ghost use Rattle.virt_engine.specs.declared.status.Status.{Status};
 
 /// The law that files with some contents and words call for one status at most: of several causes of a refusal, one comes
@@ -17,4 +19,11 @@ pub fn one_status_is_due()
 pub fn one_refusal_is_due()
     ensures one { (held : Held) → (c : RunCommand) → (a b : Status) → IsRunRefused held c a → IsRunRefused held c b → a ≡ b }
     ensures none { (held : Held) → (c : RunCommand) → (status : Status) → CanBeRun held c → ¬ (IsRunRefused held c status) }
+{}
+
+/// The law that runs with the same words over files with the same contents end alike: of contents that can be run the end is one,
+/// and two calls answer the same status and put the same text, line by line.
+pub fn runs_end_alike()
+    ensures ends { (held : Held) → (c : RunCommand) → (a b : Status) → Ends held c a → Ends held c b → a ≡ b }
+    ensures calls { (held : Held) → (words : List (List ℕ)) → (a b : Status) → (x y : List ℕ) → CameTo held words a x → CameTo held words b y → (a ≡ b) × (x ≡ y) }
 {}

@@ -19,7 +19,7 @@ mod trees;
 mod write_out;
 
 pub use engine::wasi_virt;
-pub use laws::{one_refusal_is_due, one_status_is_due};
+pub use laws::{one_refusal_is_due, one_status_is_due, runs_end_alike};
 pub use lines::Lines;
 pub use runner::{Shown, run_component};
 pub use status::{PolicyFault, Status, code};
