@@ -12,3 +12,4 @@ pub mod Answered
 pub mod Resuming
 pub mod Plans
 pub mod CoreLists
+pub mod Only

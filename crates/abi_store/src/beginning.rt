@@ -208,8 +208,6 @@ pub fn begin(
     match ty {
         WitType::Bool | WitType::S8 | WitType::U8 => store_number(store, memory, value, at, 1),
         WitType::S16 | WitType::U16 => store_number(store, memory, value, at, 2),
-        WitType::S32 | WitType::U32 | WitType::Char => store_number(store, memory, value, at, 4),
-        WitType::Own(_) | WitType::Borrow(_) => store_number(store, memory, value, at, 4),
         WitType::S64 | WitType::U64 => store_number(store, memory, value, at, 8),
         WitType::Flags(labels) => {
             store_number(store, memory, value, at, flags_width(labels.len()))
@@ -221,5 +219,6 @@ pub fn begin(
         WitType::Variant(_) | WitType::Enum(_) | WitType::Option(_) | WitType::Result(_, _) => {
             begin_variant(store, memory, ty, value, at)
         }
+        _ => store_number(store, memory, value, at, 4),
     }
 }

@@ -25,11 +25,7 @@ pub fn number_width(ty: &WitType) -> u8
         WitType::Variant(cases) => discriminant_width(cases.items.len()),
         WitType::Enum(labels) => discriminant_width(labels.len()),
         WitType::Option(_) | WitType::Result(_, _) => discriminant_width(2),
-        WitType::Bool | WitType::S8 | WitType::U8 | WitType::S16 | WitType::U16 => 1,
-        WitType::S32 | WitType::U32 | WitType::S64 | WitType::U64 => 1,
-        WitType::Char | WitType::Str | WitType::Flags(_) => 1,
-        WitType::Own(_) | WitType::Borrow(_) | WitType::List(_) => 1,
-        WitType::Record(_) | WitType::Tuple(_) => 1,
+        _ => 1,
     }
 }
 
@@ -49,11 +45,7 @@ pub fn payload_place(ty: &WitType) -> u32
             let align = u32::max(layout_of_payload(ok).align, layout_of_payload(err).align);
             payload_offset(2, align)
         }
-        WitType::Bool | WitType::S8 | WitType::U8 | WitType::S16 | WitType::U16 => 1,
-        WitType::S32 | WitType::U32 | WitType::S64 | WitType::U64 => 1,
-        WitType::Char | WitType::Str | WitType::Flags(_) => 1,
-        WitType::Own(_) | WitType::Borrow(_) | WitType::List(_) => 1,
-        WitType::Record(_) | WitType::Tuple(_) => 1,
+        _ => 1,
     }
 }
 
@@ -109,11 +101,6 @@ pub fn payload_type(ty: &WitType, number: u32) -> Result<Option<Rc<WitType>>, No
         WitType::Variant(cases) => case_payload(&cases.items, number),
         WitType::Option(some) => some_payload(some, number),
         WitType::Result(ok, err) => result_payload(ok, err, number),
-        WitType::Enum(_) => Ok(None),
-        WitType::Bool | WitType::S8 | WitType::U8 | WitType::S16 | WitType::U16 => Ok(None),
-        WitType::S32 | WitType::U32 | WitType::S64 | WitType::U64 => Ok(None),
-        WitType::Char | WitType::Str | WitType::Flags(_) => Ok(None),
-        WitType::Own(_) | WitType::Borrow(_) | WitType::List(_) => Ok(None),
-        WitType::Record(_) | WitType::Tuple(_) => Ok(None),
+        _ => Ok(None),
     }
 }

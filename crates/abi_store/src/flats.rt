@@ -197,12 +197,7 @@ pub fn lower(
     ensures { IfOk result (λ _. Appends slots.old.items slots.new.items (lower_flat (plain ty.now) (plain_value value))) }
 {
     match ty {
-        WitType::Bool | WitType::S8 | WitType::U8 => lower_number(slots, SHORT, value),
-        WitType::S16 | WitType::U16 => lower_number(slots, SHORT, value),
-        WitType::S32 | WitType::U32 | WitType::Char => lower_number(slots, SHORT, value),
-        WitType::Own(_) | WitType::Borrow(_) => lower_number(slots, SHORT, value),
         WitType::S64 | WitType::U64 => lower_number(slots, LONG, value),
-        WitType::Flags(_) => lower_number(slots, SHORT, value),
         WitType::Str => lower_string(slots, value),
         WitType::List(item) => lower_list(slots, item, value),
         WitType::Record(fields) => {
@@ -212,5 +207,6 @@ pub fn lower(
         WitType::Variant(_) | WitType::Enum(_) | WitType::Option(_) | WitType::Result(_, _) => {
             lower_variant(alloc, slots, ty, value)
         }
+        _ => lower_number(slots, SHORT, value),
     }
 }

@@ -8,6 +8,7 @@ use Rattle.abi_store.proofs.PartLemmas.{record_whole, tuple_whole}
 use Rattle.abi_store.specs.Works.{Took, begun_lowered, value_lowered}
 use Rattle.abi_store.proofs.Stores.{took_pure}
 use Rattle.abi_store.proofs.Begins.{pure_result, variant_result, variant_form}
+use Rattle.abi_store.proofs.Only.{four_bytes}
 use Rattle.abi_store.proofs.TurnLemmas.{turns_some, ends_fewer}
 use Rattle.abi_store.proofs.beginning.begin.Goals as goal
 
@@ -36,11 +37,14 @@ returns-in-Flags-clause-fewer c = ends_fewer c.store_number.result (plain_value 
 pub returns-in-S64-clause-fewer : goal.returns-in-S64-clause-fewer
 returns-in-S64-clause-fewer c = ends_fewer c.store_number-in-S64.result (plain_value c.args.value) c.store_number-in-S64.ensures.ends
 
-pub returns-in-Own-clause-fewer : goal.returns-in-Own-clause-fewer
-returns-in-Own-clause-fewer c = ends_fewer c.store_number-in-Own.result (plain_value c.args.value) c.store_number-in-Own.ensures.ends
+pub returns-in_default-clause-fewer : goal.returns-in_default-clause-fewer
+returns-in_default-clause-fewer c = ends_fewer c.store_number-in_default.result (plain_value c.args.value) c.store_number-in_default.ensures.ends
 
-pub returns-in-S32-clause-fewer : goal.returns-in-S32-clause-fewer
-returns-in-S32-clause-fewer c = ends_fewer c.store_number-in-S32.result (plain_value c.args.value) c.store_number-in-S32.ensures.ends
+pub returns-in_default-clause-took : goal.returns-in_default-clause-took
+returns-in_default-clause-took c =
+    four_bytes c.args.store.now c.store_number-in_default.new.store c.args.memory c.args.at c.store_number-in_default.result (plain_value c.args.value) c.args.ty.now
+    c.in_default.not-Bool c.in_default.not-S8 c.in_default.not-U8 c.in_default.not-S16 c.in_default.not-U16 c.in_default.not-S64 c.in_default.not-U64 c.in_default.not-Str c.in_default.not-Record c.in_default.not-Tuple c.in_default.not-Variant c.in_default.not-List c.in_default.not-Flags c.in_default.not-Enum c.in_default.not-Option c.in_default.not-Result
+    c.store_number-in_default.ensures.took
 
 pub returns-in-S16-clause-fewer : goal.returns-in-S16-clause-fewer
 returns-in-S16-clause-fewer c = ends_fewer c.store_number-in-S16.result (plain_value c.args.value) c.store_number-in-S16.ensures.ends

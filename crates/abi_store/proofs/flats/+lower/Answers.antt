@@ -10,6 +10,7 @@ use Rattle.abi_store.specs.Parts.{parts_from, cases_in, IsNext}
 use Rattle.abi_store.specs.Flows.{chain}
 use Rattle.abi_store.specs.Slots.{slots_lowered}
 use Rattle.abi_store.proofs.Lowers.{variant_appends, variant_parts, variant_flat, flat_count, payload_small, payload_short, fields_more, fields_stop, next_parts, next_flat}
+use Rattle.abi_store.proofs.Only.{short_number}
 use Rattle.abi_store.proofs.flats.+lower.Goals as goal
 
 pub lower_parts-loop-value-preserved : goal.lower_parts-loop-value-preserved
@@ -61,3 +62,9 @@ lower_variant-returns-in_ok-pad-in-Some t c =
     variant_appends c.args.slots.now.items c.push_number.new.slots.items c.lower_payload.new.slots.items c.pad.new.slots.items (cases_in (plain c.args.ty.now)) (plain_value c.args.value) c.in-Some.number
     (c.len.result + c.flatten.result.count) (value_payload_of c.in-Some.payload) (payload_of c.in_ok-payload_ty-in-Some.payload_ty) c.in-Some.ensures.some c.in_ok-push_number-in-Some.ensures.flats c.in_ok-push_number-in-Some.ensures.count
     c.in_ok-payload_ty-in-Some.ensures c.in_ok-lower_payload-in-Some.ensures c.in_ok-pad-in-Some.ensures ends
+
+pub lower-returns-in_default : goal.lower-returns-in_default
+lower-returns-in_default t c =
+    short_number c.args.slots.now.items c.lower_number.new.slots.items c.lower_number.result (plain_value c.args.value) c.args.ty.now
+    c.in_default.not-S64 c.in_default.not-U64 c.in_default.not-Str c.in_default.not-Record c.in_default.not-Tuple c.in_default.not-Variant c.in_default.not-List c.in_default.not-Enum c.in_default.not-Option c.in_default.not-Result
+    c.lower_number.ensures

@@ -1,0 +1,5 @@
+use Rattle.abi_store.proofs.Only.{other_width}
+use Rattle.abi_store.proofs.cases.number_width.Goals as goal
+
+pub returns-in_default-clause-value : goal.returns-in_default-clause-value
+returns-in_default-clause-value c = other_width _ c.in_default.not-Variant c.in_default.not-Enum c.in_default.not-Option c.in_default.not-Result
