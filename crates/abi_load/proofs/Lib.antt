@@ -6,3 +6,4 @@ pub mod Steps
 pub mod Payloads
 pub mod Sizes
 pub mod Lifts
+pub mod Only

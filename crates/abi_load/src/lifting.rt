@@ -225,9 +225,6 @@ fn lift_at(
     ensures trap { IsErrOf result LoadFault.Trap → lifted (bytes_at store.now memory) (plain ty.now) (words flat.now) k ≡ None }
 {
     match ty {
-        WitType::Bool | WitType::S8 | WitType::U8 | WitType::S16 => lift_short(ty, flat, k),
-        WitType::U16 | WitType::S32 | WitType::U32 | WitType::Char => lift_short(ty, flat, k),
-        WitType::Flags(_) | WitType::Own(_) | WitType::Borrow(_) => lift_short(ty, flat, k),
         WitType::S64 => {
             let bits = wide_word(flat, k);
             Ok(Value::Int(with_sign(bits, 0x8000_0000_0000_0000)))
@@ -264,6 +261,7 @@ fn lift_at(
                 lift_case(alloc, store, memory, number, err, flat, k + 1)
             }
         }
+        _ => lift_short(ty, flat, k),
     }
 }
 

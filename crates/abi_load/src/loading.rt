@@ -322,8 +322,6 @@ fn load_at(
     match ty {
         WitType::Bool | WitType::S8 | WitType::U8 => load_number(store, memory, ty, at, 1),
         WitType::S16 | WitType::U16 => load_number(store, memory, ty, at, 2),
-        WitType::S32 | WitType::U32 | WitType::Char => load_number(store, memory, ty, at, 4),
-        WitType::Own(_) | WitType::Borrow(_) => load_number(store, memory, ty, at, 4),
         WitType::Flags(labels) => load_number(store, memory, ty, at, flags_width(labels.len())),
         WitType::S64 => {
             let bits = long_number(store, memory, at)?;
@@ -351,6 +349,7 @@ fn load_at(
                 load_case(alloc, store, memory, case.number, err, case.place)
             }
         }
+        _ => load_number(store, memory, ty, at, 4),
     }
 }
 

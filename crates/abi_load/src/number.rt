@@ -86,8 +86,7 @@ pub fn short_value(ty: &WitType, number: u32) -> Option<Value>
         WitType::Char => char_value(number),
         WitType::Flags(labels) => Some(Value::Flags(known_flags(number, labels.len()))),
         WitType::Own(_) | WitType::Borrow(_) => Some(Value::Handle(number)),
-        WitType::Str | WitType::Record(_) | WitType::Tuple(_) | WitType::Variant(_) => None,
-        WitType::List(_) | WitType::Enum(_) | WitType::Option(_) | WitType::Result(_, _) => None,
+        _ => None,
     }
 }
 

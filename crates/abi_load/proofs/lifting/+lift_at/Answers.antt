@@ -18,6 +18,7 @@ use Rattle.abi_load.proofs.Chains.{fields_cut, types_cut}
 use Rattle.abi_load.proofs.Payloads.{other_named, payload_parts}
 use Rattle.abi_load.proofs.Sizes.{plain_is-Record, plain_is-Tuple, plain_is-Variant, plain_is-Option, plain_is-Result}
 use Rattle.abi_load.proofs.Lifts.{case_is, case_none, case_some, variant_chosen, variant_past, enum_is, option_none, option_some, result_is, lifts_more, lifts_end, flats_more, payload_flats, payload_ranges, or_second, flat_ranges, ok_ranges, err_ranges, ok_flats, err_flats, one_flat}
+use Rattle.abi_load.proofs.Only.{short}
 use Rattle.abi_load.proofs.lifting.+lift_at.Goals as goal
 
 -- ---- variants
@@ -87,6 +88,10 @@ lift_types-returns-clause-ok t c =
     (ap (λ (v : List WitType). types_of v) (drop_of_length-le c.args.types.now {i = c.loop-ty.ty-index} c.loop-ty-test.false))
 
 -- ---- calls
+
+pub lift_at-lift_short-requires : goal.lift_at-lift_short-requires
+lift_at-lift_short-requires t c =
+    short _ c.in_default.not-S64 c.in_default.not-U64 c.in_default.not-Str c.in_default.not-List c.in_default.not-Record c.in_default.not-Tuple c.in_default.not-Variant c.in_default.not-Enum c.in_default.not-Option c.in_default.not-Result
 
 pub lift_at-lift_fields-requires : goal.lift_at-lift_fields-requires
 lift_at-lift_fields-requires t c =

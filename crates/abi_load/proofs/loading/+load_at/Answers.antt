@@ -18,6 +18,7 @@ use Rattle.abi_layout.proofs.LayoutLemmas.{all_parts-two}
 use Rattle.wit_types.proofs.ValueLemmas.{plain_value-Variant}
 use Rattle.wit_types.specs.declared.value.Value.{Value}
 use Rattle.abi_load.proofs.Sizes.{parts-Record, parts-Tuple, parts-Variant, parts-Option, parts-List, parts-Result}
+use Rattle.abi_load.proofs.Only.{four_bytes}
 use Rattle.abi_load.proofs.loading.+load_at.Goals as goal
 
 pub load_at-load_list-requires : goal.load_at-load_list-requires
@@ -46,6 +47,20 @@ load_at-load_option-requires t c =
     let same : parts (plain c.deref-in-Option.result.now) ≡ parts (plain c.in-Option.some.value) = ap (λ (w : WitType). parts (plain w)) c.deref-in-Option.ensures in
     let whole = parts-Option c.args.ty.now c.in-Option.some c.in-Option.is in
     (search (rules, the_lemmas), (c.requires.memory, (omega arith, omega arith)))
+
+pub load_at-returns-in_default-clause-ok : goal.load_at-returns-in_default-clause-ok
+load_at-returns-in_default-clause-ok t c =
+    let same =
+    four_bytes (bytes_at c.args.store.now c.args.memory) c.args.at c.args.ty.now c.in_default.not-Bool c.in_default.not-S8 c.in_default.not-U8 c.in_default.not-S16 c.in_default.not-U16 c.in_default.not-S64 c.in_default.not-U64 c.in_default.not-Str
+    c.in_default.not-Flags c.in_default.not-List c.in_default.not-Record c.in_default.not-Tuple c.in_default.not-Variant c.in_default.not-Enum c.in_default.not-Option c.in_default.not-Result in
+    subst (λ (o : Option PlainValue). IfOk c.load_number-in_default.result (λ v. o ≡ Some (plain_value v))) (sym same) c.load_number-in_default.ensures.ok
+
+pub load_at-returns-in_default-clause-trap : goal.load_at-returns-in_default-clause-trap
+load_at-returns-in_default-clause-trap t c =
+    let same =
+    four_bytes (bytes_at c.args.store.now c.args.memory) c.args.at c.args.ty.now c.in_default.not-Bool c.in_default.not-S8 c.in_default.not-U8 c.in_default.not-S16 c.in_default.not-U16 c.in_default.not-S64 c.in_default.not-U64 c.in_default.not-Str
+    c.in_default.not-Flags c.in_default.not-List c.in_default.not-Record c.in_default.not-Tuple c.in_default.not-Variant c.in_default.not-Enum c.in_default.not-Option c.in_default.not-Result in
+    λ h. same ∙ c.load_number-in_default.ensures.trap h
 
 pub load_at-returns-in-Enum-clause-ok : goal.load_at-returns-in-Enum-clause-ok
 load_at-returns-in-Enum-clause-ok t c =
