@@ -123,7 +123,7 @@ impl<H: Host> World<H> {
         ensures work { OnOk result (work self.new.budget self.new.frames.items ≡ work self.old.budget self.old.frames.items) }
     {
         let call = host_call(alloc, import, args)?;
-        match self.host.call(alloc, &call)? {
+        match self.host.call(alloc, call)? {
             Answer::Value(value) => Ok(in_tuple(alloc, value)?),
             Answer::Trap => Err(Stop::Trapped),
             Answer::Ended => Err(Stop::ScriptEnded),

@@ -19,12 +19,12 @@ pub trait Host {
     /// The state, and what was seen so far.
     ghost kept: { Self → Kept State };
 
-    /// Calls a function of the host.
-    fn call(&mut self, alloc: Global, call: &HostCall) -> Result<Answer, NoMemory>
-        ensures answer { IfOk result (λ a. plain_answer a ≡ answer_of step (kept self.old) (plain_call call.now)) }
-        ensures next { OnOk result (kept self.new ≡ reacts step (kept self.old) (plain_call call.now)) }
+    /// Calls a function of the host, which may keep the call.
+    fn call(&mut self, alloc: Global, call: HostCall) -> Result<Answer, NoMemory>
+        ensures answer { IfOk result (λ a. plain_answer a ≡ answer_of step (kept self.old) (plain_call call)) }
+        ensures next { OnOk result (kept self.new ≡ reacts step (kept self.old) (plain_call call)) }
         // A value has the call's result type, and there is none exactly where the call has no result type.
-        ensures typed { IfOk result (λ a. IsAnswerTo (plain_call call.now).answer (plain_answer a)) };
+        ensures typed { IfOk result (λ a. IsAnswerTo (plain_call call).answer (plain_answer a)) };
 
     /// Drops a handle of the host.
     fn drop_handle(&mut self, alloc: Global, resource: &Resource, id: u32) -> Result<(), NoMemory>

@@ -116,8 +116,9 @@ fn act(
         return Ok(String::from_str(alloc, "done")?);
     }
     let call = call_of(alloc, interfaces, what)?;
-    let answer = host.call(alloc, &call)?;
-    answer_in_words(alloc, answer, call.func.result.as_ref())
+    let func = call.func.clone()?;
+    let answer = host.call(alloc, call)?;
+    answer_in_words(alloc, answer, func.result.as_ref())
 }
 
 /// What comes of a call or a drop.

@@ -6,9 +6,7 @@ ghost use Rattle.host_script.specs.Script.{item_seen};
 ghost use Rattle.host_script.specs.Hosts.{kept_by};
 
 use crate::script::{Answers, ScriptItem};
-use host_port::{
-    Answer, Host, HostCall, Observation, Observations, Resource, copy_call, copy_resource,
-};
+use host_port::{Answer, Host, HostCall, Observation, Observations, Resource, copy_resource};
 use script_values::{ReadValueFault, read_value};
 use std::alloc::Global;
 use std::vec::IntoIter;
@@ -65,12 +63,12 @@ impl Host for ScriptHost {
 
     ghost kept = { kept_by };
 
-    fn call(&mut self, alloc: Global, call: &HostCall) -> Result<Answer, NoMemory> {
-        let copy = copy_call(alloc, call)?;
-        self.seen.push(Observation::Called(copy))?;
+    fn call(&mut self, alloc: Global, call: HostCall) -> Result<Answer, NoMemory> {
+        let func = call.func.clone()?;
+        self.seen.push(Observation::Called(call))?;
         match self.left.next() {
             None => Ok(Answer::Ended),
-            Some(item) => answer_by(alloc, &call.func.result, item),
+            Some(item) => answer_by(alloc, &func.result, item),
         }
     }
 

@@ -49,7 +49,7 @@ pub fn ask<H: Host>(
     ensures typed { OnOk result ((f : Forest) (r : Reference H.State) → HostIsTyped H.step (state_at r f request.entry.policy.now live.now (H.kept inner.old).state) (listed_of request.entry) (call_of request.entry)) }
 {
     let theirs = to_host::<H>(alloc, live, request)?;
-    inner.call(alloc, &theirs)
+    inner.call(alloc, theirs)
 }
 
 /// The host is asked, and own handles of its answer enter.

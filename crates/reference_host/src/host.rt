@@ -79,12 +79,12 @@ impl<H: Host> Host for Referenced<H> {
 
     ghost kept = { λ r. kept_by H.kept r };
 
-    fn call(&mut self, alloc: Global, call: &HostCall) -> Result<Answer, NoMemory> {
+    fn call(&mut self, alloc: Global, call: HostCall) -> Result<Answer, NoMemory> {
         if self.is_lost {
             return Err(NoMemory);
         }
         self.is_lost = true;
-        let answer = answer_call(alloc, &mut self.state, &mut self.inner, call)?;
+        let answer = answer_call(alloc, &mut self.state, &mut self.inner, &call)?;
         self.is_lost = false;
         Ok(answer)
     }

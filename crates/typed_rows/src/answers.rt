@@ -3,7 +3,7 @@
 use crate::rows::{Kind, hold, same};
 use crate::scripts::{args_in, call_of, line, script_of};
 use crate::texts::halves;
-use host_port::{Answer, Host, HostCall, Observation, Resource};
+use host_port::{Answer, Host, HostCall, Observation, Resource, copy_call};
 use host_script::{Script, ScriptHost};
 use std::alloc::Global;
 use std::test::Fail;
@@ -15,16 +15,17 @@ use wit_types::WitType;
 fn ask(
     alloc: Global,
     host: &mut ScriptHost,
-    call: &HostCall,
+    call: HostCall,
     lines: &mut String,
 ) -> Result<(), Fail> {
+    let func = call.func.clone()?;
     let seen = match host.call(alloc, call)? {
         Answer::Value(value) => Observation::Returned(value),
         Answer::Trap => Observation::Trapped,
         Answer::Ended => Observation::ScriptEnded,
         Answer::Bad => Observation::BadAnswer,
     };
-    push_line(alloc, &seen, call.func.result.as_ref(), lines)
+    push_line(alloc, &seen, func.result.as_ref(), lines)
 }
 
 fn push_line(
@@ -72,7 +73,7 @@ fn act(
     match what.split_once(' ') {
         Some((name, number)) => drop_handle(alloc, host, &call.func.interface, name, number),
         None if what == "seen" => push_seen(alloc, host, lines),
-        None => ask(alloc, host, call, lines),
+        None => ask(alloc, host, copy_call(alloc, call)?, lines),
     }
 }
 
