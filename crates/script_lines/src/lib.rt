@@ -9,4 +9,4 @@ mod trees;
 mod values;
 mod writing;
 
-pub use lines::print_observation;
+pub use lines::{append_line, print_observation};

@@ -1,4 +1,4 @@
-ghost use Rattle.std.specs.Prelude.{◌≡◌, [], ◌∷◌, None, IfOk, OnOk};
+ghost use Rattle.std.specs.Prelude.{◌≡◌, [], ◌∷◌, ◌++◌, None, IfOk, OnOk};
 ghost use Rattle.json.specs.Token.{Token, string as text_token, end_array};
 ghost use Rattle.host_port.specs.Calls.{Called, Dropped, Returned, plain_call, plain_observation, plain_option};
 ghost use Rattle.wit_types.specs.PlainValue.{plain_value};
@@ -104,11 +104,8 @@ fn write_words(
     }
 }
 
-/// The line of what is seen: one compact JSON array (RFC 8259) with an LF behind it. A call is `["call",INTERFACE,FUNCTION,[V, ..]]`,
-/// a drop `["drop",INTERFACE,RESOURCE,ID]`, a return `["return",V]` or `["return"]`; an end is `["trap"]`, `["script-ended"]`,
-/// `["bad-answer"]`, `["spent"]` or `["too-deep"]`. A returned value has the type that is given. Keys of objects stand in byte
-/// order, and in place of what is not of its type stands null. The line has no more room than it needs.
-pub fn print_observation(
+/// The line of what is seen, with room behind it.
+fn fresh_line(
     alloc: Global,
     observation: &Observation,
     returned: Option<&WitType>,
@@ -120,5 +117,36 @@ pub fn print_observation(
     write_words(alloc, observation, returned, &mut out)?;
     let mut bytes = out.into_inner();
     bytes.push(b'\n')?;
-    Ok(Vec::from_slice(alloc, bytes.as_slice())?)
+    Ok(bytes)
+}
+
+/// Adds the line of what is seen to a text: one compact JSON array (RFC 8259) with an LF behind it. A call is
+/// `["call",INTERFACE,FUNCTION,[V, ..]]`, a drop `["drop",INTERFACE,RESOURCE,ID]`, a return `["return",V]` or `["return"]`; an end is
+/// `["trap"]`, `["script-ended"]`, `["bad-answer"]`, `["spent"]` or `["too-deep"]`. A returned value has the type that is given. Keys
+/// of objects stand in byte order, and in place of what is not of its type stands null.
+pub fn append_line(
+    alloc: Global,
+    text: Vec<u8>,
+    observation: &Observation,
+    returned: Option<&WitType>,
+) -> Result<Vec<u8>, NoMemory>
+    ensures { IfOk result (λ longer. longer.items ≡ text.items ++ line_text (type_of returned.entry) (plain_observation observation.now)) }
+{
+    // A writer fills room ahead by what stands in front of it, so it does not write behind a long text.
+    let line = fresh_line(alloc, observation, returned)?;
+    let mut longer = text;
+    longer.extend_from_slice(line.as_slice())?;
+    Ok(longer)
+}
+
+/// The line of what is seen, as `append_line` writes it. It has no more room than it needs.
+pub fn print_observation(
+    alloc: Global,
+    observation: &Observation,
+    returned: Option<&WitType>,
+) -> Result<Vec<u8>, NoMemory>
+    ensures { IfOk result (λ bytes. bytes.items ≡ line_text (type_of returned.entry) (plain_observation observation.now)) }
+{
+    let line = fresh_line(alloc, observation, returned)?;
+    Ok(Vec::from_slice(alloc, line.as_slice())?)
 }
