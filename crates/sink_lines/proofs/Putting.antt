@@ -1,13 +1,12 @@
 -- Texts that are put one after another.
-use Rattle.std.proofs.Common.{◌≡◌, ℕ, ◌+◌, ◌≤◌, ◌<◌, List, [], ◌∷◌, ◌++◌, length, take, drop, get_or, min, true, false, Result, Ok, Err, refl, ap, sym, subst, ◌∙◌, append_assoc, append-nil, arith}
-use Rattle.std.specs.Prelude.{IsErr, OnOk, OnErr, Vec}
-use Rattle.std.specs.declared.alloc.Global.{Global}
+use Rattle.std.proofs.Common.{◌≡◌, ℕ, ◌+◌, ◌≤◌, ◌<◌, List, [], ◌++◌, length, take, drop, get_or, min, true, false, Result, Ok, Err, refl, ap, sym, subst, ◌∙◌, append_assoc, append-nil, arith}
+use Rattle.std.specs.Prelude.{IsErr, OnOk, OnErr}
 use Rattle.std.proofs.lemmas.Bool.{ltb-false, le-ltb}
-use Rattle.std.proofs.lemmas.List.{take_min, take-append-le, length-append, take_all, take_more, drop_more, drop_all, take-append-drop}
+use Rattle.std.proofs.lemmas.List.{take_min, take-append-le, length-append, drop_more, drop_all}
 use Rattle.std.proofs.Math.Seq.{take-append-add}
 use Rattle.outside.specs.Sink.{SinkState, is_full, Puts}
 use Rattle.outside.specs.declared.sink.PutFailed.{PutFailed}
-use Rattle.sink_lines.specs.Lines.{text_of, PutsAll}
+use Rattle.sink_lines.specs.Lines.{cut, text_of, PutsAll}
 
 -- nothing was put yet
 pub puts_nothing : (s : SinkState) → PutsAll [] s s (Ok tt)
@@ -85,31 +84,36 @@ puts_broken a b s t e (Err f) h p = record {
   quiet = λ told steady fits. absurd (true_false (p.quiet told steady (front_fits s a b fits)).1);
 }
 
--- ---- lines by their places
+-- ---- lines that are cut off a text, one after another
 
-text_append : (a b : List (Vec ℕ Global)) → text_of (a ++ b) ≡ text_of a ++ text_of b
-text_append [] b = refl
-text_append (l ∷ ls) b = ap (λ z. l.items ++ z) (text_append ls b) ∙ sym (append_assoc l.items (text_of ls) (text_of b))
+pub cut_next : (sizes : List ℕ) (i : ℕ) (rest : List ℕ) → i < length sizes
+    → text_of (cut (drop i sizes) rest) ≡ take (get_or sizes i 0) rest ++ text_of (cut (drop (i + 1) sizes) (drop (get_or sizes i 0) rest))
+cut_next sizes i rest h = ap (λ xs. text_of (cut xs rest)) (drop_more sizes i 0 h)
 
-next_text : (lines : List (Vec ℕ Global)) (i : ℕ) (line : Vec ℕ Global) → i < length lines → line ≡ get_or lines i line
-    → text_of (take (i + 1) lines) ≡ text_of (take i lines) ++ line.items
-next_text lines i line h is =
-    ap text_of (take_more lines i line h ∙ ap (λ x. take i lines ++ x ∷ []) (sym is)) ∙ text_append (take i lines) (line ∷ []) ∙ ap (λ z. text_of (take i lines) ++ z) (append-nil line.items)
+-- no line is left
+pub cut_end : (sizes : List ℕ) (i : ℕ) (rest : List ℕ) → length sizes ≤ i → text_of (cut (drop i sizes) rest) ≡ []
+cut_end sizes i rest h = ap (λ xs. text_of (cut xs rest)) (drop_all i sizes h)
 
-pub next_line : (lines : List (Vec ℕ Global)) (i : ℕ) (line : Vec ℕ Global) (bytes : List ℕ) (s t u : SinkState) → i < length lines → line ≡ get_or lines i line → bytes ≡ line.items
-    → PutsAll (text_of (take i lines)) s t (Ok tt) → Puts bytes t u (Ok tt) → PutsAll (text_of (take (i + 1) lines)) s u (Ok tt)
-next_line lines i line bytes s t u h is same p q =
-    subst (λ z. PutsAll z s u (Ok tt)) (ap (λ z. text_of (take i lines) ++ z) same ∙ sym (next_text lines i line h is))
-    (puts_then (text_of (take i lines)) bytes s t u (Ok tt) p q)
+-- So much of a text was put, and this is left of it.
+pub record PutSoFar (all : List ℕ) (s t : SinkState) (left : List ℕ) : Type 0 where
+  pub done : List ℕ
+  pub put : PutsAll done s t (Ok tt)
+  pub is : all ≡ done ++ left
 
-pub broken_line : (lines : List (Vec ℕ Global)) (i : ℕ) (line : Vec ℕ Global) (bytes : List ℕ) (s t u : SinkState) (e : PutFailed) (r : Result (Unit {0}) PutFailed)
-    → i < length lines → line ≡ get_or lines i line → bytes ≡ line.items → IsErr r
-    → PutsAll (text_of (take i lines)) s t (Ok tt) → Puts bytes t u (Err e) → PutsAll (text_of lines) s u r
-broken_line lines i line bytes s t u e r h is same bad p q =
-    let front = ap (λ z. text_of (take i lines) ++ z) same ∙ sym (next_text lines i line h is) in
-    let first = subst (λ z. PutsAll z s u (Err e)) front (puts_then (text_of (take i lines)) bytes s t u (Err e) p q) in
-    let all = sym (text_append (take (i + 1) lines) (drop (i + 1) lines)) ∙ ap text_of (take-append-drop (i + 1) lines) in
-    subst (λ z. PutsAll z s u r) all (puts_broken (text_of (take (i + 1) lines)) (text_of (drop (i + 1) lines)) s u e r bad first)
+pub put_nothing : (all : List ℕ) (s : SinkState) → PutSoFar all s s all
+put_nothing all s = record { done = []; put = puts_nothing s; is = refl }
 
-pub all_lines : (lines : List (Vec ℕ Global)) (i : ℕ) (s t : SinkState) → length lines ≤ i → PutsAll (text_of (take i lines)) s t (Ok tt) → PutsAll (text_of lines) s t (Ok tt)
-all_lines lines i s t h p = subst (λ z. PutsAll (text_of z) s t (Ok tt)) (take_all i lines h) p
+pub put_next : (all line bytes left : List ℕ) (s t u : SinkState) → bytes ≡ line → PutSoFar all s t (line ++ left) → Puts bytes t u (Ok tt) → PutSoFar all s u left
+put_next all line bytes left s t u same p q = record {
+  done = p.done ++ line;
+  put = subst (λ z. PutsAll (p.done ++ z) s u (Ok tt)) same (puts_then p.done bytes s t u (Ok tt) p.put q);
+  is = p.is ∙ sym (append_assoc p.done line left);
+}
+
+pub put_broken : (all line bytes left : List ℕ) (s t u : SinkState) (e : PutFailed) (r : Result (Unit {0}) PutFailed) → bytes ≡ line → IsErr r → PutSoFar all s t (line ++ left) → Puts bytes t u (Err e) → PutsAll all s u r
+put_broken all line bytes left s t u e r same bad p q =
+    let first = subst (λ z. PutsAll (p.done ++ z) s u (Err e)) same (puts_then p.done bytes s t u (Err e) p.put q) in
+    subst (λ z. PutsAll z s u r) (append_assoc p.done line left ∙ sym p.is) (puts_broken (p.done ++ line) left s u e r bad first)
+
+pub put_all : (all left : List ℕ) (s t : SinkState) → left ≡ [] → PutSoFar all s t left → PutsAll all s t (Ok tt)
+put_all all left s t none p = subst (λ z. PutsAll z s t (Ok tt)) (sym (p.is ∙ ap (λ z. p.done ++ z) none ∙ append-nil p.done)) p.put

@@ -1,13 +1,21 @@
 -- Lines that are put one after another.
-use Rattle.std.specs.Prelude.{ℕ, ◌≡◌, ◌≤◌, List, [], ◌∷◌, ◌++◌, true, false, Result, is_err, OnOk, OnErr, take, Vec}
-use Rattle.std.specs.declared.alloc.Global.{Global}
+use Rattle.std.specs.Prelude.{ℕ, ◌≡◌, ◌≤◌, ◌+◌, List, [], ◌∷◌, ◌++◌, true, false, Result, is_err, OnOk, OnErr, take, drop}
 use Rattle.outside.specs.Fault.{Rose}
 use Rattle.outside.specs.Sink.{SinkState, is_full}
 use Rattle.outside.specs.declared.sink.PutFailed.{PutFailed}
 
-abbrev pub text_of : List (Vec ℕ Global) → List ℕ
+-- a text cut into lines of these sizes, one after another
+abbrev pub cut : List ℕ → List ℕ → List (List ℕ)
+cut [] text = []
+cut (size ∷ sizes) text = take size text ∷ cut sizes (drop size text)
+
+abbrev pub total : List ℕ → ℕ
+total [] = 0
+total (size ∷ sizes) = size + total sizes
+
+abbrev pub text_of : List (List ℕ) → List ℕ
 text_of [] = []
-text_of (line ∷ lines) = line.items ++ text_of lines
+text_of (line ∷ lines) = line ++ text_of lines
 
 -- All of a text was put, or a prefix of it and a fault came; over a steady sink with room for it no put fails.
 pub record PutsAll (text : List ℕ) (s t : SinkState) (r : Result (Unit {0}) PutFailed) : Type 0 where

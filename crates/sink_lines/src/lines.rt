@@ -1,13 +1,16 @@
-ghost use Rattle.sink_lines.specs.Lines.{PutsAll, text_of};
+ghost use Rattle.sink_lines.specs.Lines.{PutsAll, cut, text_of};
 
 use outside::{PutFailed, Sink};
 
-/// Puts lines, each by one `put`. After a failure a prefix of their text was written.
-pub fn put_lines<S: Sink>(lines: &[Vec<u8>], out: &mut S) -> Result<(), PutFailed>
-    ensures { PutsAll (text_of lines.now) (S.state out.old) (S.state out.new) result }
+/// Puts the lines of a text, which are so long, each by one `put`. After a failure a prefix of their text was written.
+pub fn put_lines<S: Sink>(text: &[u8], sizes: &[usize], out: &mut S) -> Result<(), PutFailed>
+    ensures { PutsAll (text_of (cut sizes.now text.now)) (S.state out.old) (S.state out.new) result }
 {
-    for line in lines {
-        out.put(line.as_slice())?;
+    let mut rest = text;
+    for size in sizes {
+        let (line, behind) = rest.split_at((*size).min(rest.len()));
+        out.put(line)?;
+        rest = behind;
     }
     Ok(())
 }

@@ -1,5 +1,5 @@
 -- Two runs with the same words over files with the same contents end alike.
-use Rattle.std.proofs.Common.{◌≡◌, ◌∙◌, refl, sym, ap, subst, ℕ, List, [], ◌∷◌, ◌++◌, true, inl, inr, Ok, Vec, Global}
+use Rattle.std.proofs.Common.{◌≡◌, ◌∙◌, refl, sym, ap, subst, ℕ, List, [], ◌∷◌, ◌++◌, true, inl, inr, Ok}
 use Rattle.std.specs.Prelude.{◌⊎◌, Option, Some, None, Result}
 use Rattle.outside.specs.Files.{FilesState, Held}
 use Rattle.policy_data.specs.declared.policy.Policy.{Policy}
@@ -31,7 +31,6 @@ use Rattle.virt_engine.specs.declared.status.Status.{Status}
 use Rattle.virt_engine.specs.Alike.{CameTo}
 use Rattle.virt_engine.specs.Command.{RunCommand}
 use Rattle.virt_engine.specs.Line.{status_text}
-use Rattle.virt_engine.specs.Lines.{texts}
 use Rattle.virt_engine.specs.Report.{Puts}
 use Rattle.virt_engine.specs.RunDue.{HoldsScript, IsRunRefused, AreAccepted, IsAcceptedUnder, IsAcceptedBy}
 use Rattle.virt_engine.specs.Runs.{ended_as, BeginsBy, ShowsWhat, RanOn, EndsBy, Ends, RunCause}
@@ -120,18 +119,6 @@ one_end held c a b h g =
 
 -- ---- and one text
 
-abbrev Lines : Type 0
-Lines = List (Vec ℕ Global)
-
-same_text : (xs ys : Lines) → texts xs ≡ texts ys → text_of xs ≡ text_of ys
-same_text [] [] e = refl
-same_text [] (y ∷ ys) e = cc
-same_text (x ∷ xs) [] e = cc
-same_text (x ∷ xs) (y ∷ ys) e =
-    let first : x.items ≡ y.items = cc in
-    let rest : texts xs ≡ texts ys = cc in
-    ap (λ line. line ++ text_of xs) first ∙ ap (λ text. y.items ++ text) (same_text xs ys rest)
-
 same_back : (front a b : List ℕ) → front ++ a ≡ front ++ b → a ≡ b
 same_back [] a b e = e
 same_back (x ∷ front) a b e = let rest : front ++ a ≡ front ++ b = cc in same_back front a b rest
@@ -140,8 +127,8 @@ same_back (x ∷ front) a b e = let rest : front ++ a ≡ front ++ b = cc in sam
 record IsShownBy (held : Held) (c : RunCommand) (status : Status) (text : List ℕ) : Type 0 where
   whole : Told
   tells : TellsBy held c c.policy whole
-  lines : Lines
-  told : texts lines ≡ item_texts whole.items
+  lines : List (List ℕ)
+  told : lines ≡ item_texts whole.items
   end : status ≡ ended_as whole.end
   put : text ≡ text_of lines
 
@@ -153,7 +140,7 @@ one_shown : (held : Held) (c : RunCommand) (a b : Status) (x y : List ℕ) → I
 one_shown held c a b x y h g =
     let whole : h.whole ≡ g.whole = one_told held c c.policy h.whole g.whole h.tells g.tells in (
       h.end ∙ ap (λ (w : Told). ended_as w.end) whole ∙ sym g.end,
-      h.put ∙ same_text h.lines g.lines (h.told ∙ ap (λ (w : Told). item_texts w.items) whole ∙ sym g.told) ∙ sym g.put,
+      h.put ∙ ap text_of (h.told ∙ ap (λ (w : Told). item_texts w.items) whole ∙ sym g.told) ∙ sym g.put,
     )
 
 shown_stands : (held : Held) (c : RunCommand) (a b : Status) (x : List ℕ) → IsShownBy held c a x → IsRunRefused held c b → ⊥

@@ -1,7 +1,6 @@
 -- A run whose lines are made goes on as what is to be told of it.
-use Rattle.std.proofs.Common.{◌≡◌, ◌∙◌, refl, sym, ap, subst, ℕ, zero, suc, ◌+◌, ◌<◌, ◌≤◌, List, [], ◌∷◌, ◌++◌, length, drop, get_or, map, Vec, append_assoc, append-nil, Option, Some, None}
+use Rattle.std.proofs.Common.{◌≡◌, ◌∙◌, refl, sym, ap, subst, ℕ, zero, suc, ◌+◌, ◌<◌, ◌≤◌, List, [], ◌∷◌, ◌++◌, length, drop, get_or, map, append_assoc, append-nil, Option, Some, None}
 use Rattle.std.specs.Prelude.{Result, Ok, Err, IfOk}
-use Rattle.std.specs.declared.alloc.Global.{Global}
 use Rattle.std.proofs.lemmas.List.{drop_at, drop_more, drop_all}
 use Rattle.wit_types.specs.Plain.{Plain}
 use Rattle.wit_types.specs.PlainValue.{PlainValue, PlainValues}
@@ -34,33 +33,26 @@ use Rattle.comp_interp.specs.Runs.{host_in}
 use Rattle.comp_interp.specs.Outcomes.{group_in, moment_in, IfReturned, CanServe, Left, Instantiates, calls_target, export_named, MayCall, CallsExport}
 use Rattle.virt_engine.specs.declared.runner.Runner.{Runner}
 use Rattle.virt_engine.specs.Calling.{call_of, typed_call, typed_calls}
-use Rattle.virt_engine.specs.Lines.{texts, Adds, end_by, seen_by}
+use Rattle.virt_engine.specs.Lines.{Adds, end_by, seen_by}
 use Rattle.virt_engine.specs.Told.{Item, Told, TypedCall, untyped, last, before, told_after, at_most, result_item, nothing_more, calls_export, told_calls, told}
 use Rattle.virt_engine.specs.Shown.{item_texts, IsTold}
 use Rattle.virt_engine.specs.Runners.{ShowsHost, ShowsEnd, RunStands, Stands, AllMay, ComesOn, IsFresh, told_of, Came, Makes, CallsOn, Goes}
 use Rattle.virt_engine.proofs.Coming.{told_by, Tells, it_tells, told_before}
 
--- ---- texts of lines
-
-pub texts_more : (a b : List (Vec ℕ Global)) → texts (a ++ b) ≡ texts a ++ texts b
-texts_more [] b = refl
-texts_more (x ∷ a) b = ap (λ z. x.items ∷ z) (texts_more a b)
-
-pub text_added : (old new : List (Vec ℕ Global)) (text : List ℕ) → Adds old new text → texts new ≡ texts old ++ text ∷ []
-text_added old new text h = ap texts h.1 ∙ texts_more old (h.0 ∷ []) ∙ ap (λ z. texts old ++ z ∷ []) h.2
+-- ---- of lines
 
 -- one more of what was seen has its line
-pub seen_more : (old new : List (Vec ℕ Global)) (whole : List (List ℕ)) (seen : List Observation) (i : ℕ) (o : Observation) → i < length seen → o ≡ get_or seen i o
-    → texts old ++ map (line_text None) (map plain_observation (drop i seen)) ≡ whole → Adds old new (line_text None (plain_observation o)) → texts new ++ map (line_text None) (map plain_observation (drop (i + 1) seen)) ≡ whole
+pub seen_more : (old new : List (List ℕ)) (whole : List (List ℕ)) (seen : List Observation) (i : ℕ) (o : Observation) → i < length seen → o ≡ get_or seen i o
+    → old ++ map (line_text None) (map plain_observation (drop i seen)) ≡ whole → Adds old new (line_text None (plain_observation o)) → new ++ map (line_text None) (map plain_observation (drop (i + 1) seen)) ≡ whole
 seen_more old new whole seen i o lt is so_far added =
     let rest : List (List ℕ) = map (line_text None) (map plain_observation (drop (i + 1) seen)) in
-    ap (λ z. z ++ rest) (text_added old new (line_text None (plain_observation o)) added)
-    ∙ append_assoc (texts old) (line_text None (plain_observation o) ∷ []) rest
-    ∙ ap (λ xs. texts old ++ map (line_text None) (map plain_observation xs)) (sym (drop_more seen i o lt ∙ ap (λ y. y ∷ drop (i + 1) seen) (sym is)))
+    ap (λ z. z ++ rest) added
+    ∙ append_assoc old (line_text None (plain_observation o) ∷ []) rest
+    ∙ ap (λ xs. old ++ map (line_text None) (map plain_observation xs)) (sym (drop_more seen i o lt ∙ ap (λ y. y ∷ drop (i + 1) seen) (sym is)))
     ∙ so_far
 
-pub seen_all_lines : (old : List (Vec ℕ Global)) (whole : List (List ℕ)) (seen : List Observation) (i : ℕ) → length seen ≤ i → texts old ++ map (line_text None) (map plain_observation (drop i seen)) ≡ whole → texts old ≡ whole
-seen_all_lines old whole seen i le so_far = sym (append-nil (texts old)) ∙ ap (λ xs. texts old ++ map (line_text None) (map plain_observation xs)) (sym (drop_all i seen le)) ∙ so_far
+pub seen_all_lines : (old : List (List ℕ)) (whole : List (List ℕ)) (seen : List Observation) (i : ℕ) → length seen ≤ i → old ++ map (line_text None) (map plain_observation (drop i seen)) ≡ whole → old ≡ whole
+seen_all_lines old whole seen i le so_far = sym (append-nil old) ∙ ap (λ xs. old ++ map (line_text None) (map plain_observation xs)) (sym (drop_all i seen le)) ∙ so_far
 
 item_texts_more : (a b : List Item) → item_texts (a ++ b) ≡ item_texts a ++ item_texts b
 item_texts_more [] b = refl
@@ -121,18 +113,18 @@ module _ {H S : Type 0} (h : HostStep S) (kept : H → Kept S) where
       → ShowsEnd h kept end ty old how new
   shows_end end ty old new how seen is same run shown added = record {
     run = run;
-    lines = text_added old.lines new.lines (line_text ty seen) added ∙ ap (λ (o : PlainObservation). texts old.lines ++ line_text ty o ∷ []) same;
+    lines = added ∙ ap (λ (o : PlainObservation). old.lines ++ line_text ty o ∷ []) same;
     shown = shown;
     end = is;
   }
 
-  pub shows_host : (old : Runner H) (lines : List (Vec ℕ Global)) (host : H) (obs seen later : List Observation) → host ≡ host_in old.run → map plain_observation obs ≡ (kept host).seen → seen ≡ obs → later ≡ drop old.shown seen
-      → texts lines ≡ texts old.lines ++ map (line_text None) (map plain_observation later) → ShowsHost h kept old (record { run = old.run; lines = lines; shown = length seen })
+  pub shows_host : (old : Runner H) (lines : List (List ℕ)) (host : H) (obs seen later : List Observation) → host ≡ host_in old.run → map plain_observation obs ≡ (kept host).seen → seen ≡ obs → later ≡ drop old.shown seen
+      → lines ≡ old.lines ++ map (line_text None) (map plain_observation later) → ShowsHost h kept old (record { run = old.run; lines = lines; shown = length seen })
   shows_host old lines host obs seen later is all same behind put =
       let now : map plain_observation seen ≡ (kept (host_in old.run)).seen = ap (map plain_observation) same ∙ all ∙ ap (λ (x : H). (kept x).seen) is in
       record {
         run = refl;
-        lines = put ∙ ap (λ (xs : List PlainObservation). texts old.lines ++ map (line_text None) xs) (ap (map plain_observation) behind ∙ seen_behind old.shown seen ∙ ap (drop old.shown) now);
+        lines = put ∙ ap (λ (xs : List PlainObservation). old.lines ++ map (line_text None) xs) (ap (map plain_observation) behind ∙ seen_behind old.shown seen ∙ ap (drop old.shown) now);
         shown = sym (seen_count seen) ∙ ap length now;
       }
 
@@ -156,7 +148,7 @@ module _ {H S : Type 0} (h : HostStep S) (kept : H → Kept S) where
   -- ---- lines behind others
 
   -- those of the host, which had seen so much
-  host_lines : (done : List Item) (k o : List PlainObservation) (r1 r2 : Runner H) → texts r1.lines ≡ item_texts done → r1.shown ≡ length k → (kept (host_in r1.run)).seen ≡ k ++ o → ShowsHost h kept r1 r2 → texts r2.lines ≡ item_texts (done ++ untyped o)
+  host_lines : (done : List Item) (k o : List PlainObservation) (r1 r2 : Runner H) → r1.lines ≡ item_texts done → r1.shown ≡ length k → (kept (host_in r1.run)).seen ≡ k ++ o → ShowsHost h kept r1 r2 → r2.lines ≡ item_texts (done ++ untyped o)
   host_lines done k o r1 r2 lines shown seen s =
       s.lines
       ∙ (λ i. lines i ++ map (line_text None) (drop (shown i) (seen i)))
@@ -165,11 +157,11 @@ module _ {H S : Type 0} (h : HostStep S) (kept : H → Kept S) where
       ∙ sym (item_texts_more done (untyped o))
 
   -- and that of an end
-  end_lines : (items : List Item) (ty : Option Plain) (end : CallEnd) (r2 r3 : Runner H) (how : RunEnd) → texts r2.lines ≡ item_texts items → ShowsEnd h kept end ty r2 how r3 → texts r3.lines ≡ item_texts (items ++ record { ty = ty; seen = seen_by end } ∷ [])
+  end_lines : (items : List Item) (ty : Option Plain) (end : CallEnd) (r2 r3 : Runner H) (how : RunEnd) → r2.lines ≡ item_texts items → ShowsEnd h kept end ty r2 how r3 → r3.lines ≡ item_texts (items ++ record { ty = ty; seen = seen_by end } ∷ [])
   end_lines items ty end r2 r3 how lines s = s.lines ∙ ap (λ z. z ++ line_text ty (seen_by end) ∷ []) lines ∙ sym (item_texts_more items (record { ty = ty; seen = seen_by end } ∷ []))
 
-  over_lines : (done : List Item) (o : List PlainObservation) (ty : Option Plain) (end : CallEnd) (r2 r3 : Runner H) (how : RunEnd) → IsOver end → texts r2.lines ≡ item_texts (done ++ untyped o) → ShowsEnd h kept end ty r2 how r3
-      → texts r3.lines ≡ item_texts (done ++ untyped (o ++ seen_by end ∷ []))
+  over_lines : (done : List Item) (o : List PlainObservation) (ty : Option Plain) (end : CallEnd) (r2 r3 : Runner H) (how : RunEnd) → IsOver end → r2.lines ≡ item_texts (done ++ untyped o) → ShowsEnd h kept end ty r2 how r3
+      → r3.lines ≡ item_texts (done ++ untyped (o ++ seen_by end ∷ []))
   over_lines done o ty end r2 r3 how e lines s =
       s.lines
       ∙ (λ i. lines i ++ plain_line end ty e i ∷ [])
@@ -218,8 +210,8 @@ module _ {H S : Type 0} (h : HostStep S) (kept : H → Kept S) where
       seen_all : (kept (host_in r1.run)).seen ≡ tells.o
       seen_all = tells.seen_so ∙ ap (λ (k : List PlainObservation). k ++ tells.o) (ap (λ (k : Kept S). k.seen) host_first ∙ f.unseen)
 
-      lines_so : texts r2.lines ≡ item_texts (untyped tells.o)
-      lines_so = host_lines [] [] tells.o r1 r2 (ap texts (same_lines ∙ f.lines)) (same_shown ∙ f.shown) seen_all s
+      lines_so : r2.lines ≡ item_texts (untyped tells.o)
+      lines_so = host_lines [] [] tells.o r1 r2 (same_lines ∙ f.lines) (same_shown ∙ f.shown) seen_all s
 
       -- the run itself, where all is made
       run_so : (v : Option Value) → end ≡ calls.Returned v → RunStands h kept G (told_of h kept exports cs first budget r0) (typed_calls exports cs) (untyped tells.o) r1.run
@@ -288,8 +280,8 @@ module _ {H S : Type 0} (h : HostStep S) (kept : H → Kept S) where
         ∙ tells_by.tells Later))
         ∙ st.run.is
 
-    lines_by : texts r2.lines ≡ item_texts (st.done ++ untyped tells_by.o)
-    lines_by = host_lines st.done (kept (host_in r0.run)).seen tells_by.o r1 r2 (ap texts same_lines ∙ st.lines) (same_shown ∙ st.shown) tells_by.seen_so s
+    lines_by : r2.lines ≡ item_texts (st.done ++ untyped tells_by.o)
+    lines_by = host_lines st.done (kept (host_in r0.run)).seen tells_by.o r1 r2 (same_lines ∙ st.lines) (same_shown ∙ st.shown) tells_by.seen_so s
 
     same_run : r3.run ≡ r1.run
     same_run = shows.run ∙ s.run
@@ -300,7 +292,7 @@ module _ {H S : Type 0} (h : HostStep S) (kept : H → Kept S) where
         record {
           done = st.done ++ items;
           lines =
-              subst (λ (e : CallEnd). texts r3.lines ≡ item_texts ((st.done ++ untyped tells_by.o) ++ record { ty = Type'; seen = seen_by e } ∷ [])) is (end_lines (st.done ++ untyped tells_by.o) Type' end r2 r3 how lines_by shows)
+              subst (λ (e : CallEnd). r3.lines ≡ item_texts ((st.done ++ untyped tells_by.o) ++ record { ty = Type'; seen = seen_by e } ∷ [])) is (end_lines (st.done ++ untyped tells_by.o) Type' end r2 r3 how lines_by shows)
               ∙ ap item_texts (append_assoc st.done (untyped tells_by.o) (result_item Type' (plain_option v)));
           shown = shows.shown ∙ seen_length r1 r2 s ∙ ap (λ (run : Run H). length (kept (host_in run)).seen) (sym shows.run);
           run = subst (λ (run : Run H). RunStands h kept Own whole (typed_calls exports rest) (st.done ++ items) run) (sym same_run) (record {

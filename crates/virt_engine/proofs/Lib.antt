@@ -11,6 +11,7 @@ pub mod Showing
 pub mod RunDue
 pub mod RunLaws
 pub mod Ending
+pub mod Cutting
 pub mod Making
 pub mod StatusLaws
 pub mod Telling

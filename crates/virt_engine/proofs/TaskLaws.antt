@@ -1,7 +1,6 @@
 -- A call of `run`, by what its parts did.
 use Rattle.std.proofs.Common.{◌≡◌, ◌∙◌, refl, sym, subst, ℕ, List, true, false, inl, inr, arith, Ok, Err}
-use Rattle.std.specs.Prelude.{All, Vec}
-use Rattle.std.specs.declared.alloc.Global.{Global}
+use Rattle.std.specs.Prelude.{All}
 use Rattle.outside.specs.Files.{FilesState}
 use Rattle.outside.specs.Sink.{SinkState}
 use Rattle.outside.specs.declared.sink.PutFailed.{PutFailed}
@@ -19,8 +18,8 @@ use Rattle.virt_engine.specs.Runs.{ended_as, PutsShown, ShowsTask, RunsBy}
 
 -- ---- lines that were put
 
-pub all_put : (shown : Shown) (lines : List (Vec ℕ Global)) (due : Status) (k l : SinkState) → lines ≡ shown.lines → All IsLine shown.lines → due ≡ ended_as shown.end → PutsAll (text_of lines) k l (Ok tt) → PutsShown shown k l due
-all_put shown lines due k l same seen is q = let p = subst (λ x. PutsAll (text_of x) k l (Ok tt)) same q in record {
+pub all_put : (shown : Shown) (due : Status) (k l : SinkState) → All IsLine shown.lines → due ≡ ended_as shown.end → PutsAll (text_of shown.lines) k l (Ok tt) → PutsShown shown k l due
+all_put shown due k l seen is p = record {
   seen = seen;
   puts = record {
     put = inl (record { status = is; bytes = p.ok });
@@ -31,8 +30,8 @@ all_put shown lines due k l same seen is q = let p = subst (λ x. PutsAll (text_
 true_false : true ≡ false → ⊥
 true_false h = cc
 
-pub put_broken : (shown : Shown) (lines : List (Vec ℕ Global)) (k l : SinkState) (e : PutFailed) → lines ≡ shown.lines → All IsLine shown.lines → PutsAll (text_of lines) k l (Err e) → PutsShown shown k l SinkFault
-put_broken shown lines k l e same seen q = let p = subst (λ x. PutsAll (text_of x) k l (Err e)) same q in record {
+pub put_broken : (shown : Shown) (k l : SinkState) (e : PutFailed) → All IsLine shown.lines → PutsAll (text_of shown.lines) k l (Err e) → PutsShown shown k l SinkFault
+put_broken shown k l e seen p = record {
   seen = seen;
   puts = record {
     put = inr (record { status = refl; cause = p.cause; bytes = p.failed });

@@ -1,6 +1,5 @@
 -- Lines of what is seen of a run, and how it ended.
-use Rattle.std.specs.Prelude.{ℕ, ◌≡◌, List, [], ◌∷◌, ◌++◌, map, Option, Some, None, Vec}
-use Rattle.std.specs.declared.alloc.Global.{Global}
+use Rattle.std.specs.Prelude.{ℕ, ◌≡◌, List, [], ◌∷◌, ◌++◌, All, length, Option, Some, None}
 use Rattle.wit_types.specs.Plain.{Plain}
 use Rattle.host_port.specs.Calls as port
 use Rattle.host_port.specs.Calls.{PlainObservation, plain_option}
@@ -9,10 +8,15 @@ use Rattle.call_frames.specs.declared.end.RunEnd.TheVariants as calls
 use Rattle.run_judge.specs.declared.ends.RunEnd.{RunEnd}
 use Rattle.run_judge.specs.declared.ends.RunEnd.TheVariants.{Done, Trapped, ScriptEnded, StepsSpent, BadAnswer, TooDeep}
 use Rattle.script_lines.specs.Lines.{line_text}
+use Rattle.sink_lines.specs.Lines.{cut, total}
 
 -- the line of something seen
-abbrev pub IsLine : Vec ℕ Global → Type 0
-IsLine line = (ty : Option Plain) × (seen : PlainObservation) × (line.items ≡ line_text ty seen)
+abbrev pub IsLine : List ℕ → Type 0
+IsLine line = (ty : Option Plain) × (seen : PlainObservation) × (line ≡ line_text ty seen)
+
+-- sizes by which a text is cut into such lines, with nothing behind them
+abbrev pub AreLines : List ℕ → List ℕ → Type 0
+AreLines sizes text = (total sizes ≡ length text) × All IsLine (cut sizes text)
 
 -- what a run shows that did not end well
 abbrev pub named : RunEnd → Option PlainObservation
@@ -23,22 +27,18 @@ named StepsSpent = Some port.Spent
 named BadAnswer = Some port.BadAnswer
 named TooDeep = Some port.TooDeep
 
-abbrev pub LastIs : List (Vec ℕ Global) → Option PlainObservation → Type 0
+abbrev pub LastIs : List (List ℕ) → Option PlainObservation → Type 0
 LastIs lines None = Unit {0}
-LastIs lines (Some seen) = (before : List (Vec ℕ Global)) × (last : Vec ℕ Global) × (lines ≡ before ++ last ∷ []) × (last.items ≡ line_text None seen)
+LastIs lines (Some seen) = (before : List (List ℕ)) × (lines ≡ before ++ line_text None seen ∷ [])
 
 -- the last line names the end, unless each call returned
-abbrev pub EndsBy : List (Vec ℕ Global) → RunEnd → Type 0
+abbrev pub EndsBy : List (List ℕ) → RunEnd → Type 0
 EndsBy lines end = LastIs lines (named end)
 
 -- ---- for private clauses
 
--- the texts of lines
-abbrev pub texts : List (Vec ℕ Global) → List (List ℕ)
-texts lines = map (λ (line : Vec ℕ Global). line.items) lines
-
-abbrev pub Adds : List (Vec ℕ Global) → List (Vec ℕ Global) → List ℕ → Type 0
-Adds old new text = (line : Vec ℕ Global) × (new ≡ old ++ line ∷ []) × (line.items ≡ text)
+abbrev pub Adds : List (List ℕ) → List (List ℕ) → List ℕ → Type 0
+Adds old new text = new ≡ old ++ text ∷ []
 
 abbrev pub end_by : CallEnd → RunEnd
 end_by (calls.Returned value) = Done

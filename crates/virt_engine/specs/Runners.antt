@@ -1,6 +1,5 @@
 -- How far a run has come whose lines are made, against what is to be told of it. For private clauses.
-use Rattle.std.specs.Prelude.{◌≡◌, ℕ, List, [], ◌∷◌, ◌++◌, Vec, length, drop, map, Option, Some, None}
-use Rattle.std.specs.declared.alloc.Global.{Global}
+use Rattle.std.specs.Prelude.{◌≡◌, ℕ, List, [], ◌∷◌, ◌++◌, length, drop, map, Option, Some, None}
 use Rattle.wit_types.specs.Plain.{Plain}
 use Rattle.host_port.specs.Calls.{PlainObservation}
 use Rattle.host_port.specs.Hosts.{HostStep, Kept}
@@ -17,7 +16,7 @@ use Rattle.comp_interp.specs.Runs.{host_in, IsNew}
 use Rattle.comp_interp.specs.Outcomes.{group_in, moment_in, CanServe, MayCall, export_named}
 use Rattle.virt_engine.specs.declared.runner.Runner.{Runner}
 use Rattle.virt_engine.specs.Calling.{typed_call, typed_calls}
-use Rattle.virt_engine.specs.Lines.{texts, end_by, seen_by}
+use Rattle.virt_engine.specs.Lines.{end_by, seen_by}
 use Rattle.virt_engine.specs.Told.{Item, Told, TypedCall, before, told_calls, told}
 use Rattle.virt_engine.specs.Shown.{item_texts, IsTold}
 
@@ -25,13 +24,13 @@ module _ {H S : Type 0} (h : HostStep S) (kept : H → Kept S) where
   -- lines of what was seen of the host since then are added
   pub record ShowsHost (old new : Runner H) : Type 0 where
     pub run : new.run ≡ old.run
-    pub lines : texts new.lines ≡ texts old.lines ++ map (line_text None) (drop old.shown (kept (host_in old.run)).seen)
+    pub lines : new.lines ≡ old.lines ++ map (line_text None) (drop old.shown (kept (host_in old.run)).seen)
     pub shown : new.shown ≡ length (kept (host_in old.run)).seen
 
   -- the line of a call's end is added
   pub record ShowsEnd (came : CallEnd) (ty : Option Plain) (old : Runner H) (how : RunEnd) (new : Runner H) : Type 0 where
     pub run : new.run ≡ old.run
-    pub lines : texts new.lines ≡ texts old.lines ++ line_text ty (seen_by came) ∷ []
+    pub lines : new.lines ≡ old.lines ++ line_text ty (seen_by came) ∷ []
     pub shown : new.shown ≡ old.shown
     pub end : how ≡ end_by came
 
@@ -45,7 +44,7 @@ module _ {H S : Type 0} (h : HostStep S) (kept : H → Kept S) where
     -- the lines so far are of what was told so far
     pub record Stands (whole : Told) (rest : List TypedCall) (r : Runner H) : Type 0 where
       pub done : List Item
-      pub lines : texts r.lines ≡ item_texts done
+      pub lines : r.lines ≡ item_texts done
       pub shown : r.shown ≡ length (kept (host_in r.run)).seen
       pub run : RunStands whole rest done r.run
 

@@ -1,6 +1,5 @@
 -- What is shown of a run.
-use Rattle.std.specs.Prelude.{◌≡◌, ℕ, List, [], map, Vec, Ok}
-use Rattle.std.specs.declared.alloc.Global.{Global}
+use Rattle.std.specs.Prelude.{◌≡◌, ℕ, List, [], map, Ok}
 use Rattle.comp_grammar.specs.Trees.{Tree, plain}
 use Rattle.comp_types.specs.Added.{type_of}
 use Rattle.host_port.specs.Hosts.{HostStep}
@@ -13,7 +12,7 @@ use Rattle.run_judge.specs.declared.component.Judged.{Judged}
 use Rattle.run_judge.specs.declared.ends.RunEnd.{RunEnd}
 use Rattle.run_judge.specs.Components.{Judges}
 use Rattle.virt_engine.specs.Calling.{call_of, typed_calls}
-use Rattle.virt_engine.specs.Lines.{texts, EndsBy}
+use Rattle.virt_engine.specs.Lines.{EndsBy}
 use Rattle.virt_engine.specs.Told.{Item, Told, told}
 use Rattle.virt_engine.specs.declared.runner.Shown.{Shown}
 
@@ -31,8 +30,8 @@ IsShown shown = EndsBy shown.lines shown.end
 abbrev pub item_texts : List Item → List (List ℕ)
 item_texts items = map (λ (i : Item). line_text i.ty i.seen) items
 
-pub record IsTold (whole : Told) (put : List (Vec ℕ Global)) (how : RunEnd) : Type 0 where
-  pub lines : texts put ≡ item_texts whole.items
+pub record IsTold (whole : Told) (put : List (List ℕ)) (how : RunEnd) : Type 0 where
+  pub lines : put ≡ item_texts whole.items
   pub end : how ≡ whole.end
 
 -- what is to be told of a component over a host in this state, with the calls of a script and so many steps

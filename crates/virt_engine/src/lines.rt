@@ -1,28 +1,38 @@
-ghost use Rattle.std.specs.Prelude.{◌≡◌, ◌++◌, [], List, ℕ, All, None, OnOk, Vec, map};
-ghost use Rattle.std.specs.declared.alloc.Global.{Global};
+ghost use Rattle.std.specs.Prelude.{◌≡◌, ◌++◌, [], All, None, OnOk, map};
 ghost use Rattle.host_port.specs.Calls.{plain_observation};
 ghost use Rattle.script_lines.specs.Lines.{line_text, type_of};
-ghost use Rattle.virt_engine.specs.Lines.{IsLine, Adds, texts};
+ghost use Rattle.sink_lines.specs.Lines.{PutsAll, text_of};
+ghost use Rattle.virt_engine.specs.Lines.{IsLine, Adds};
 
 use host_port::Observation;
-use script_lines::print_observation;
+use outside::{PutFailed, Sink};
+use script_lines::append_line;
+use sink_lines::put_lines;
 use std::alloc::Global;
 use std::marker::Model;
+use std::mem;
 use virt_base::NoMemory;
 use wit_types::WitType;
 
 /// Lines of what is seen of a run, each with an LF at its end.
 #[derive(Drop)]
 pub struct Lines {
-    lines: Vec<Vec<u8>>,
+    /// One behind the other.
+    text: Vec<u8>,
+    /// How many bytes each has.
+    sizes: Vec<usize>,
 }
 
 impl Model for Lines {
-    ghost Value = { List (Vec ℕ Global) };
+    ghost use Rattle.std.specs.Prelude.{List, ℕ};
+    ghost use Rattle.sink_lines.specs.Lines.{cut};
+    ghost use Rattle.virt_engine.specs.Lines.{AreLines};
 
-    ghost view = { λ s. s.lines.items };
+    ghost Value = { List (List ℕ) };
 
-    ghost invariant = { λ s. All IsLine s.lines.items };
+    ghost view = { λ s. cut s.sizes.items s.text.items };
+
+    ghost invariant = { λ s. AreLines s.sizes.items s.text.items };
 }
 
 impl Lines {
@@ -30,11 +40,12 @@ impl Lines {
         ensures { result ≡ [] }
     {
         Lines {
-            lines: Vec::new(alloc),
+            text: Vec::new(alloc),
+            sizes: Vec::new(alloc),
         }
     }
 
-    /// Adds the line of what is seen, where a returned value has this type.
+    /// Adds the line of what is seen, where a returned value has this type. None is left after want of memory.
     pub fn add(
         &mut self,
         alloc: Global,
@@ -43,14 +54,21 @@ impl Lines {
     ) -> Result<(), NoMemory>
         ensures { OnOk result (Adds self.old self.new (line_text (type_of ty.entry) (plain_observation observation.now))) }
     {
-        let line = print_observation(alloc, observation, ty)?;
-        self.lines.push(line)?;
+        let Lines { text, sizes } = mem::replace(self, Lines::none(alloc));
+        let mut sizes = sizes;
+        let before = text.len();
+        let longer = append_line(alloc, text, observation, ty)?;
+        sizes.push(longer.len() - before)?;
+        *self = Lines {
+            text: longer,
+            sizes,
+        };
         Ok(())
     }
 
     /// Adds the lines of what is seen of a host.
     pub fn add_all(&mut self, alloc: Global, seen: &[Observation]) -> Result<(), NoMemory>
-        ensures { OnOk result (texts self.new ≡ texts self.old ++ map (line_text None) (map plain_observation seen.now)) }
+        ensures { OnOk result (self.new ≡ self.old ++ map (line_text None) (map plain_observation seen.now)) }
     {
         for observation in seen {
             self.add(alloc, observation, None)?;
@@ -58,10 +76,11 @@ impl Lines {
         Ok(())
     }
 
-    pub fn as_slice(&self) -> &[Vec<u8>]
-        ensures lines { result.now ≡ self.now }
+    /// Puts the lines, each by one `put`.
+    pub fn put<S: Sink>(&self, out: &mut S) -> Result<(), PutFailed>
+        ensures puts { PutsAll (text_of self.now) (S.state out.old) (S.state out.new) result }
         ensures seen { All IsLine self.now }
     {
-        self.lines.as_slice()
+        put_lines(self.text.as_slice(), self.sizes.as_slice(), out)
     }
 }

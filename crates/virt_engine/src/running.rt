@@ -12,7 +12,6 @@ use outside::{Files, Sink};
 use reference_host::Referenced;
 use run_inputs::{Inputs, ListedInputs, fetch_inputs, fetch_listed};
 use run_judge::RunEnd;
-use sink_lines::put_lines;
 use std::alloc::Global;
 use virt_base::Text;
 use virt_words::RunWords;
@@ -35,7 +34,7 @@ fn ended_as(end: RunEnd) -> Status
 fn put_shown<S: Sink>(shown: &Shown, out: &mut S) -> Status
     ensures { PutsShown shown.now (S.state out.old) (S.state out.new) result }
 {
-    match put_lines(shown.lines.as_slice(), out) {
+    match shown.lines.put(out) {
         Ok(()) => ended_as(shown.end),
         Err(_) => Status::SinkFault,
     }
