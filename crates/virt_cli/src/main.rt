@@ -6,6 +6,7 @@ mod real_sink;
 
 use real_files::RealFiles;
 use real_sink::RealSink;
+use std::io::BufWriter;
 use std::process::ExitCode;
 use std::{env, io};
 use thiserror::Error;
@@ -37,14 +38,28 @@ fn words_of(rt: &HostRuntime) -> Result<Vec<Text>, WordsError> {
     Ok(texts)
 }
 
-fn main(rt: HostRuntime) -> ExitCode {
-    let words = match words_of(&rt) {
-        Ok(words) => words,
-        Err(WordsError::NotUtf8) => return ExitCode::from(code(&Status::Usage)),
-        Err(WordsError::NoMemory) => return ExitCode::from(code(&Status::NoMemory)),
+/// So many bytes of lines wait at most, so that a line takes no call of the system.
+const ROOM: usize = 65_536;
+
+/// What the words ask for, over the machine's files and standard output.
+fn run_words(rt: &HostRuntime, words: &[Text]) -> Status {
+    let Ok(writer) = BufWriter::with_capacity(rt.alloc(), ROOM, io::writer(rt)) else {
+        return Status::NoMemory;
     };
-    let mut files = RealFiles::new(&rt);
-    let mut out = RealSink::new(io::writer(&rt));
-    let status = wasi_virt(rt.alloc(), words.as_slice(), &mut files, &mut out);
+    let mut files = RealFiles::new(rt);
+    let mut out = RealSink::new(writer);
+    let status = wasi_virt(rt.alloc(), words, &mut files, &mut out);
+    match out.finish() {
+        Ok(()) => status,
+        Err(_) => Status::SinkFault,
+    }
+}
+
+fn main(rt: HostRuntime) -> ExitCode {
+    let status = match words_of(&rt) {
+        Ok(words) => run_words(&rt, words.as_slice()),
+        Err(WordsError::NotUtf8) => Status::Usage,
+        Err(WordsError::NoMemory) => Status::NoMemory,
+    };
     ExitCode::from(code(&status))
 }

@@ -1,12 +1,12 @@
 ghost use Rattle.std.specs.Prelude.{ℕ, IfErr};
 ghost use Rattle.outside.specs.Files.{IsWithin, IsListing};
 
-use crate::real_sink::{one_more, write_whole};
+use crate::real_sink::one_more;
 use outside::{Entries, Entry, EntryKind, FileFail, Files, WriteFailed, are_in_order};
 use std::alloc::Global;
 use std::cmp::Ordering;
 use std::fs::{DirEntry, OpenFile, OpenOptions};
-use std::io::{ErrorKind, Read};
+use std::io::{ErrorKind, Read, Write};
 use std::{fs, io, rt};
 use virt_base::{Items, Text};
 
@@ -119,6 +119,19 @@ fn list_folder<R: rt::Files + Alloc + Clone + Drop>(
         return Err(FileFail::Failed);
     }
     Ok(Items::new(entries))
+}
+
+/// Writes all of the bytes, or fails. A write that takes nothing of them is a failure.
+fn write_whole<W: Write>(writer: &mut W, bytes: &[u8]) -> io::Result<()> {
+    let mut rest = bytes;
+    while !rest.is_empty() {
+        match writer.write(rest) {
+            Ok(0) => return Err(io::Error::from(ErrorKind::WriteZero)),
+            Ok(count) => rest = &rest[count..],
+            Err(e) => return Err(e),
+        }
+    }
+    writer.flush()
 }
 
 /// The machine's files, with their faults counted.
