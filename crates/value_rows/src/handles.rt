@@ -1,6 +1,6 @@
+use crate::rows::{is_printed, number_in, parts, printed, same};
 use handle_space::{HandleTable, Taken};
 use std::alloc::Global;
-use std::process::Abort;
 use std::test::Fail;
 use virt_base::Trap;
 
@@ -34,40 +34,24 @@ fn answer(alloc: Global, table: &mut HandleTable, call: &str, a: u32, b: u32) ->
     }
 }
 
-fn number(word: &str) -> Result<u32, Fail> {
-    match word.parse::<u32>() {
-        Ok(number) => Ok(number),
-        Err(_) => Err(Fail::from("no number")),
-    }
-}
-
 fn in_words(alloc: Global, answer: Answer) -> Result<String, Fail> {
-    match answer {
-        Some((what, number)) => Ok(format!(in alloc; "{what} {number}")?),
-        None => Ok(String::from_str(alloc, "trap")?),
-    }
+    let Some((what, number)) = answer else {
+        return Ok(String::from_str(alloc, "trap")?);
+    };
+    let mut line = String::from_str(alloc, what)?;
+    line.push(' ')?;
+    line.push_str(printed(alloc, &number)?.as_str())?;
+    Ok(line)
 }
 
 /// Each row: a call, its two numbers, and what it answers.
-fn answers(
-    rt: &impl Abort,
-    alloc: Global,
-    table: &mut HandleTable,
-    rows: &str,
-) -> Result<(), Fail> {
+fn answers(alloc: Global, table: &mut HandleTable, rows: &str) -> Result<(), Fail> {
     for row in rows.lines() {
-        let Some((call, rest)) = row.split_once(", ") else {
-            return Err(Fail::from("no call"));
-        };
-        let Some((numbers, wanted)) = rest.split_once(" => ") else {
-            return Err(Fail::from("no answer"));
-        };
-        let Some((a, b)) = numbers.split_once(' ') else {
-            return Err(Fail::from("no numbers"));
-        };
-        let found = answer(alloc, table, call, number(a)?, number(b)?);
-        let found = in_words(alloc, found)?;
-        assert_eq!(rt; found.as_str(), wanted, "{row}");
+        let (asked, wanted) = parts(row, " => ")?;
+        let (call, numbers) = parts(asked, ", ")?;
+        let (a, b) = parts(numbers, " ")?;
+        let found = answer(alloc, table, call, number_in(a)?, number_in(b)?);
+        same(row, in_words(alloc, found)?.as_str(), wanted)?;
     }
     Ok(())
 }
@@ -90,26 +74,38 @@ add borrow, 8 82 => index 1
 rep, 1 8 => rep 82
 add borrow, 8 83 => index 4
 rep, 4 8 => rep 83";
-    answers(&rt, rt.alloc(), &mut table, rows)
+    answers(rt.alloc(), &mut table, rows)
 }
 
 // A lent handle stays until its loans ended.
 #[test]
 fn lent_handles_stay(rt: HostRuntime) -> Result<(), Fail> {
-    let mut table = HandleTable::new(rt.alloc());
-    assert_eq!(rt; table.add_own(rt.alloc(), 7, 70)?, 1);
-    assert_eq!(rt; table.add_own(rt.alloc(), 7, 71)?, 2);
-    assert_eq!(rt; table.add_borrow(rt.alloc(), 7, 72)?, 3);
-    assert_eq!(rt; table.lend(2, 7), Ok(Taken::Own(71)));
-    assert_eq!(rt; table.take(2, 7), Err(Trap));
-    assert_eq!(rt; table.take_own(2, 7), Err(Trap));
-    assert_eq!(rt; table.rep_of(2, 7), Ok(71));
+    let alloc = rt.alloc();
+    let mut table = HandleTable::new(alloc);
+    let added = (
+        table.add_own(alloc, 7, 70)?,
+        table.add_own(alloc, 7, 71)?,
+        table.add_borrow(alloc, 7, 72)?,
+    );
+    is_printed(alloc, "added", &added, "(1, 2, 3)")?;
+    let Ok(lent) = table.lend(2, 7) else {
+        return Err(Fail::new("the handle is not lent"));
+    };
+    let Err(Trap) = table.take(2, 7) else {
+        return Err(Fail::new("a lent handle is taken"));
+    };
+    let Err(Trap) = table.take_own(2, 7) else {
+        return Err(Fail::new("a lent handle is taken"));
+    };
+    let rep = table.rep_of(2, 7);
+    is_printed(alloc, "lent", &(lent, rep), "(Own(71), Ok(71))")?;
     table.unlend(2);
-    assert_eq!(rt; table.lend(3, 7), Ok(Taken::Borrow(72)));
-    assert_eq!(rt; table.take_own(3, 7), Err(Trap));
-    assert_eq!(rt; table.take(3, 7), Ok(Taken::Borrow(72)));
-    assert_eq!(rt; table.take(2, 7), Ok(Taken::Own(71)));
-    Ok(())
+    let rows = "\
+lend, 3 7 => borrow 72
+take own, 3 7 => trap
+take, 3 7 => borrow 72
+take, 2 7 => own 71";
+    answers(alloc, &mut table, rows)
 }
 
 // No index is 0, beyond the last, or of another resource.
@@ -136,5 +132,5 @@ take, 4294967295 7 => trap
 take own, 4294967295 7 => trap
 take, 1 7 => own 70
 take, 1 7 => trap";
-    answers(&rt, rt.alloc(), &mut table, rows)
+    answers(rt.alloc(), &mut table, rows)
 }

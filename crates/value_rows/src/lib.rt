@@ -1,8 +1,10 @@
-//! Rows for types and values, their layout, handles, places and trees.
+//! Rows for types and values, their layout, handles, places and trees; the listed interfaces of WASI 0.2; and types of items.
 #![tactic(auto)]
 
 #[cfg(test)]
 mod handles;
+#[cfg(test)]
+mod items;
 #[cfg(test)]
 mod layouts;
 #[cfg(test)]
@@ -10,6 +12,10 @@ mod named;
 #[cfg(test)]
 mod places;
 #[cfg(test)]
+mod rows;
+#[cfg(test)]
 mod trees;
 #[cfg(test)]
 mod types;
+#[cfg(test)]
+mod wasi;

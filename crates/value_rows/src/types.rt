@@ -1,8 +1,8 @@
 //! Which values are of which types.
 
 use crate::named::read;
+use crate::rows::{is_printed, number_in, parts, same};
 use std::alloc::Global;
-use std::process::Abort;
 use std::test::Fail;
 use virt_base::Text;
 use wasi_table::{Meaning, NamedType};
@@ -32,17 +32,19 @@ fn types_of(alloc: Global, types: &[NamedType], value: &Value) -> Result<String,
 }
 
 /// A truth or an integer.
-fn scalar(word: &str) -> Result<Value, Fail> {
+fn scalar(word: &str) -> Value {
     match word.parse::<i128>() {
-        Ok(number) => Ok(Value::Int(number)),
-        Err(_) => Ok(Value::Bool(word == "true")),
+        Ok(number) => Value::Int(number),
+        Err(_) => Value::Bool(word == "true"),
     }
 }
 
+/// Two values, or none.
 fn scalars(alloc: Global, words: &str) -> Result<Values, Fail> {
     let mut all = Vec::new(alloc);
-    for word in words.split_whitespace() {
-        all.push(scalar(word)?)?;
+    if let Some((first, second)) = words.split_once(' ') {
+        all.push(scalar(first))?;
+        all.push(scalar(second))?;
     }
     Ok(Values::Each(all))
 }
@@ -51,33 +53,35 @@ fn scalars(alloc: Global, words: &str) -> Result<Values, Fail> {
 fn case(alloc: Global, words: &str) -> Result<Value, Fail> {
     match words.split_once(' ') {
         Some((number, payload)) => {
-            let payload = Box::new(alloc, scalar(payload)?)?;
+            let payload = Box::new(alloc, scalar(payload))?;
             Ok(Value::Variant(number_in(number)?, Some(payload)))
         }
         None => Ok(Value::Variant(number_in(words)?, None)),
     }
 }
 
-fn number_in(word: &str) -> Result<u32, Fail> {
-    match word.parse::<u32>() {
-        Ok(number) => Ok(number),
-        Err(_) => Err(Fail::from("no number")),
+/// A value that is one number.
+fn numbered(form: &str, number: u32) -> Result<Value, Fail> {
+    match form {
+        "flags" => Ok(Value::Flags(number)),
+        "handle" => Ok(Value::Handle(number)),
+        _ => match char::from_u32(number) {
+            Some(c) => Ok(Value::Char(c)),
+            None => Err(Fail::new("no character")),
+        },
     }
 }
 
 fn value_of(alloc: Global, text: &str) -> Result<Value, Fail> {
-    match text.split_once(": ") {
-        Some(("text", chars)) => Ok(Value::Str(Text::from_str(alloc, chars)?)),
-        Some(("char", word)) => match char::from_u32(number_in(word)?) {
-            Some(c) => Ok(Value::Char(c)),
-            None => Err(Fail::from("no character")),
-        },
-        Some(("list", words)) => Ok(Value::List(scalars(alloc, words)?)),
-        Some(("record", words)) => Ok(Value::Record(scalars(alloc, words)?)),
-        Some(("case", words)) => case(alloc, words),
-        Some(("flags", word)) => Ok(Value::Flags(number_in(word)?)),
-        Some(("handle", word)) => Ok(Value::Handle(number_in(word)?)),
-        _ => scalar(text),
+    let Some((form, words)) = text.split_once(": ") else {
+        return Ok(scalar(text));
+    };
+    match form {
+        "text" => Ok(Value::Str(Text::from_str(alloc, words)?)),
+        "list" => Ok(Value::List(scalars(alloc, words)?)),
+        "record" => Ok(Value::Record(scalars(alloc, words)?)),
+        "case" => case(alloc, words),
+        _ => numbered(form, number_in(words)?),
     }
 }
 
@@ -132,22 +136,19 @@ flags: 512 =>
 handle: 4294967295 => own borrow
 record:  =>";
 
-fn row_holds(rt: &impl Abort, alloc: Global, types: &[NamedType], row: &str) -> Result<(), Fail> {
-    let Some((text, wanted)) = row.split_once(" =>") else {
-        return Err(Fail::from("no row"));
-    };
+fn row_holds(alloc: Global, types: &[NamedType], row: &str) -> Result<(), Fail> {
+    let (text, wanted) = parts(row, " =>")?;
     let value = value_of(alloc, text)?;
     let copy = copy_value(alloc, &value)?;
     let names = types_of(alloc, types, &copy)?;
-    assert_eq!(rt; names.as_str(), wanted, "{text}");
-    Ok(())
+    same(row, names.as_str(), wanted)
 }
 
 #[test]
 fn values_of_types(rt: HostRuntime) -> Result<(), Fail> {
     let interface = read(rt.alloc(), TYPES)?;
     for row in VALUES.lines() {
-        row_holds(&rt, rt.alloc(), interface.types.as_slice(), row)?;
+        row_holds(rt.alloc(), interface.types.as_slice(), row)?;
     }
     Ok(())
 }
@@ -162,6 +163,5 @@ fn copied_functions(rt: HostRuntime) -> Result<(), Fail> {
         let copy = copy_func(alloc, &func.ty)?;
         params = params.saturating_add(copy.params.items.len());
     }
-    assert_eq!(rt; params, 4);
-    Ok(())
+    is_printed(alloc, "parameters", &params, "4")
 }

@@ -59,8 +59,7 @@ fn is_folder(node: &Node) -> bool
 {
     match node {
         Node::Folder => true,
-        Node::File(_) => false,
-        Node::Link(_) => false,
+        _ => false,
     }
 }
 
@@ -71,8 +70,7 @@ fn are_before(entries: &[Entry], path: &[Text]) -> bool
     for entry in entries {
         match path_order(entry.path.as_slice(), path) {
             Ordering::Less => {}
-            Ordering::Equal => return false,
-            Ordering::Greater => return false,
+            _ => return false,
         }
     }
     true

@@ -4,7 +4,7 @@ use Rattle.wit_types.specs.declared.types.WitType.TheVariants.{Record}
 use Rattle.wit_types.specs.Plain.{AsRecord, Plain, RecordType, fields_of, plain}
 use Rattle.wit_types.proofs.PlainLemmas.{plain-Record}
 use Rattle.comp_facts.specs.Facts.{IsFactsOf}
-use Rattle.type_rows.proofs.builders.record.Goals as goal
+use Rattle.value_rows.proofs.items.record.Goals as goal
 
 pub new-requires-2 : goal.new-requires-2
 new-requires-2 c =

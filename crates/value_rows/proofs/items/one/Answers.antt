@@ -1,8 +1,8 @@
 use Rattle.std.proofs.Common.{◌∙◌, ap, sym, subst}
 use Rattle.wit_types.specs.Plain.{End, Parts, Plain, fields_of}
 use Rattle.comp_facts.specs.Facts.{AreFactsOf, IsFactsOf}
-use Rattle.type_rows.proofs.BuiltLemmas.{one-field}
-use Rattle.type_rows.proofs.builders.one.Goals as goal
+use Rattle.value_rows.proofs.BuiltLemmas.{one-field}
+use Rattle.value_rows.proofs.items.one.Goals as goal
 
 pub returns : goal.returns
 returns c =
