@@ -1,38 +1,77 @@
-//! A call of `wasi_virt` over files that answer what a row says.
+//! The top call over files in memory, of words that stand in one text.
 
-use crate::saying::{Answers, Saying};
-use crate::top::exit_of;
-use outside::{MemSink, Places};
+use outside::{Contents, Files, MemFiles, MemSink, Named, Places, Sink};
 use std::alloc::Global;
-use std::process::Abort;
-use std::test::Fail;
 use virt_base::{Items, NoMemory, Text};
+use virt_engine::{code, wasi_virt};
 
-/// A sink whose calls of these numbers fail.
-pub fn sink_of(alloc: Global, failing: &[u64]) -> Result<MemSink, NoMemory> {
-    let failing: Places = Items::new(Vec::from_slice(alloc, failing)?);
-    let mut sink = MemSink::new(alloc, failing);
-    sink.reserve(alloc, 200)?;
-    Ok(sink)
+/// The exit status of these words. Its callers name their files and their sink, and what the call promises of any is not written out
+/// for each.
+fn exit_of<F: Files, S: Sink>(alloc: Global, words: &[Text], files: &mut F, out: &mut S) -> u8 {
+    code(&wasi_virt(alloc, words, files, out))
 }
 
-/// The exit status of these words over such files is this one, and this is put.
-pub fn says(
-    rt: &impl Abort,
-    alloc: Global,
-    words: &str,
-    answers: Answers<'_>,
-    exit: u8,
-    lines: &str,
-) -> Result<(), Fail> {
+fn words_of(alloc: Global, words: &str) -> Result<Vec<Text>, NoMemory> {
     let mut texts = Vec::new(alloc);
     for word in words.split_whitespace() {
         texts.push(Text::from_str(alloc, word)?)?;
     }
-    let mut files = Saying::new(answers);
-    let mut sink = sink_of(alloc, &[])?;
-    let status = exit_of(alloc, texts.as_slice(), &mut files, &mut sink);
-    assert_eq!(rt; status, exit);
-    assert_eq!(rt; sink.bytes(), lines.as_bytes());
-    Ok(())
+    Ok(texts)
+}
+
+/// The exit status of words in one text.
+fn status_of<F: Files>(alloc: Global, words: &str, files: &mut F, out: &mut MemSink) -> Option<u8> {
+    let words = words_of(alloc, words).ok()?;
+    Some(exit_of(alloc, words.as_slice(), files, out))
+}
+
+/// A status and a text, with a space between where there is a text.
+pub fn joined(alloc: Global, status: u8, text: &str) -> Option<String> {
+    let space = if text.is_empty() { "" } else { " " };
+    format!(in alloc; "{status}{space}{text}").ok()
+}
+
+/// The exit status of these words, and the text that is put.
+pub fn said<F: Files>(
+    alloc: Global,
+    words: &str,
+    files: &mut F,
+    out: &mut MemSink,
+) -> Option<String> {
+    let status = status_of(alloc, words, files, out)?;
+    joined(alloc, status, str::from_utf8(out.bytes()).ok()?)
+}
+
+pub fn no_contents(alloc: Global) -> Contents {
+    Contents {
+        files: Items::empty(alloc),
+        folders: Items::empty(alloc),
+    }
+}
+
+/// Adds a file.
+pub fn add_file(
+    alloc: Global,
+    name: &str,
+    bytes: Vec<u8>,
+    contents: &mut Contents,
+) -> Result<(), NoMemory> {
+    let name = Text::from_str(alloc, name)?;
+    let value = Items::new(bytes);
+    contents.files.push(Named { name, value })
+}
+
+/// Files of which calls of these numbers fail.
+pub fn files_of(alloc: Global, contents: Contents, failing: Places) -> Option<MemFiles> {
+    if !contents.is_in_order() {
+        return None;
+    }
+    MemFiles::new(alloc, contents, failing).ok()
+}
+
+/// A sink with room for so many bytes, of whose calls those of these numbers fail.
+pub fn sink_of(alloc: Global, room: usize, failing: Places) -> Option<MemSink> {
+    let mut sink = MemSink::new(alloc, failing);
+    sink.reserve(alloc, room).ok()?;
+    Some(sink)
 }

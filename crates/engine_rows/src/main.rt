@@ -1,18 +1,11 @@
-//! Runs the components of tables over their scripts, and says of each whether its status and its lines are those that stand beside
-//! them. Its tests are the rows for the top call: the files that it writes, the text that it puts and its exit status; which words give a
-//! run, and why nothing is run; and each exit status over files that tell nothing and answer what a row says, where a file of any length
+//! Calls the engine with the words of tables, and says of each row whether its status and its lines are those that stand beside it. Its
+//! tests are rows too, over files in memory, and over files that tell nothing and answer what a row says, where a file of any length
 //! costs nothing.
 #![tactic(auto)]
 
-#[cfg(test)]
 mod calling;
 #[cfg(test)]
-mod calls;
-mod cases;
-#[cfg(test)]
-mod fixtures;
-#[cfg(test)]
-mod policy_fixtures;
+mod memory;
 #[cfg(test)]
 mod policy_limits;
 #[cfg(test)]
@@ -20,38 +13,36 @@ mod policy_refusals;
 #[cfg(test)]
 mod policy_runs;
 #[cfg(test)]
-mod puts;
+mod rows;
 #[cfg(test)]
-mod refusals;
-#[cfg(test)]
-mod run_fixtures;
-#[cfg(test)]
-mod run_refusals;
+mod run_statuses;
 #[cfg(test)]
 mod runs;
 #[cfg(test)]
-mod saying;
-#[cfg(test)]
-mod statuses;
+mod settings;
 mod stored;
-mod top;
 #[cfg(test)]
-mod usage;
+mod texts;
+#[cfg(test)]
+mod untold;
+#[cfg(test)]
+mod virt_calls;
+#[cfg(test)]
+mod virt_refusals;
+#[cfg(test)]
+mod virt_statuses;
 
-use cases::case_in;
 use std::process::ExitCode;
 use std::{env, fs, io};
 use stored::comes_out;
 
 /// Whether a row of a table comes out.
 fn run_row(rt: &HostRuntime, row: &str) -> io::Result<bool> {
-    let Some(case) = case_in(row) else {
-        println!(rt; "no row: {row}")?;
-        return Ok(false);
-    };
-    let good = comes_out(rt, &case);
+    let (status, rest) = row.split_once(' ').unwrap_or((row, ""));
+    let (name, words) = rest.split_once(' ').unwrap_or((rest, ""));
+    let good = comes_out(rt, status, name, words);
     let said = if good { "as written" } else { "otherwise" };
-    println!(rt; "{}: {said}", case.name)?;
+    println!(rt; "{name}: {said}")?;
     Ok(good)
 }
 

@@ -1,0 +1,100 @@
+//! Files in memory, of which settings say what they hold.
+
+use crate::calling::{add_file, files_of, no_contents, said, sink_of};
+use crate::settings::{failing, number, setting};
+use crate::texts::{bytes_of, halves};
+use outside::{Contents, Entries, Entry, EntryKind, MemFiles, MemSink, Named};
+use std::alloc::Global;
+use virt_base::{Items, NoMemory, Text};
+
+/// Adds an entry of a folder, which is a folder where a `/` stands behind its name.
+fn add_entry(alloc: Global, word: &str, entries: &mut Entries) -> Result<(), NoMemory> {
+    let (name, kind) = match word.strip_suffix("/") {
+        Some(name) => (name, EntryKind::Folder),
+        None => (word, EntryKind::File),
+    };
+    let name = Text::from_str(alloc, name)?;
+    entries.push(Entry { name, kind })
+}
+
+fn add_folder(
+    alloc: Global,
+    name: &str,
+    words: &str,
+    contents: &mut Contents,
+) -> Result<(), NoMemory> {
+    let mut value = Items::empty(alloc);
+    for word in words.split_whitespace() {
+        add_entry(alloc, word, &mut value)?;
+    }
+    let name = Text::from_str(alloc, name)?;
+    contents.folders.push(Named { name, value })
+}
+
+/// Adds what a setting says, if it is of a file or a folder.
+fn add(alloc: Global, setting: &str, contents: &mut Contents) -> Result<(), NoMemory> {
+    let (name, to) = halves(setting, " ");
+    let (kind, text) = halves(to, " ");
+    if kind == "/" {
+        return add_folder(alloc, name, text, contents);
+    }
+    match bytes_of(alloc, kind, text) {
+        Some(bytes) => add_file(alloc, name, bytes, contents),
+        None => Ok(()),
+    }
+}
+
+// Of files with one name the first counts.
+fn files_for(alloc: Global, settings: &[&str]) -> Option<MemFiles> {
+    let failing = failing(alloc, settings, "fails")?;
+    let mut contents = no_contents(alloc);
+    for setting in settings.iter().rev() {
+        add(alloc, setting, &mut contents).ok()?;
+    }
+    files_of(alloc, contents, failing)
+}
+
+/// A sink with the room that is set, of whose calls one may fail.
+pub fn sink_for(alloc: Global, settings: &[&str]) -> Option<MemSink> {
+    let failing = failing(alloc, settings, "puts")?;
+    sink_of(alloc, number(settings, "room", 1000) as usize, failing)
+}
+
+/// The digits of what a file holds.
+fn shown(alloc: Global, name: &str, bytes: &[u8]) -> Option<String> {
+    let digits = hex::encode(alloc, bytes).ok()?;
+    format!(in alloc; " {name}={digits}").ok()
+}
+
+/// Adds what a file holds, if it is there.
+fn show(alloc: Global, files: &MemFiles, name: &str, all: &mut String) -> Option<()> {
+    match files.file(&Text::from_str(alloc, name).ok()?) {
+        Some(bytes) => all.push_str(shown(alloc, name, bytes)?.as_str()).ok(),
+        None => Some(()),
+    }
+}
+
+/// What comes of the words, and what OUT holds then, or the files that are to be shown.
+fn comes(
+    alloc: Global,
+    settings: &[&str],
+    files: &mut MemFiles,
+    out: &mut MemSink,
+) -> Option<String> {
+    let room = number(settings, "out", 200) as usize;
+    files
+        .reserve(alloc, &Text::from_str(alloc, "o").ok()?, room)
+        .ok()?;
+    let mut all = said(alloc, setting(settings, "$")?, files, out)?;
+    for name in setting(settings, "show").unwrap_or("o").split_whitespace() {
+        show(alloc, files, name, &mut all)?;
+    }
+    Some(all)
+}
+
+/// What comes of a row over files in memory.
+pub fn outcome(alloc: Global, settings: &[&str]) -> Option<String> {
+    let mut out = sink_for(alloc, settings)?;
+    let mut files = files_for(alloc, settings)?;
+    comes(alloc, settings, &mut files, &mut out)
+}
