@@ -3,6 +3,9 @@ pub mod Opens
 pub mod Steps
 pub mod Complete
 pub mod StackLemmas
+pub mod NameLemmas
+pub mod PieceLemmas
+pub mod PlaceLemmas
 pub mod LevelLemmas
 pub mod ConditionLemmas
 pub mod RunLemmas

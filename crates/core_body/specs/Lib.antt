@@ -8,6 +8,8 @@ pub mod Groups
 pub mod Signatures
 pub mod Machine
 pub mod Views
+pub mod Sources
+pub mod Pieces
 pub mod Levels
 pub mod Stack
 pub mod Faults

@@ -1,51 +1,57 @@
 //! One step of the pass over code.
 
-ghost use Rattle.std.specs.Prelude.{◌≡◌, ◌≤◌, ◌∷◌, ◌++◌, ◌↔◌, length, IsTrue, IfOk, List, [], Some, None, OnOk, reverse, false, MatchOption, slice_get, All, if◌then◌else◌};
+ghost use Rattle.std.specs.Prelude.{◌≡◌, ◌≤◌, ◌∷◌, ◌++◌, length, IsTrue, IfOk, List, [], Some, None, OnOk, reverse, false, MatchOption, slice_get, All, if◌then◌else◌, ◌&&◌};
 ghost use Rattle.std.specs.Bool.{OnTrue, OnFalse};
-ghost use Rattle.std.specs.Option.{option_to_list, option_map, option_copied};
+ghost use Rattle.std.specs.Option.{option_to_list, option_map};
 ghost use Rattle.core_body.specs.Context.{block_type, arrow};
 ghost use Rattle.core_body.specs.Shapes.{Missing, AnyOperand, TwoNumbers, OneReference, Fixed, select_shape, indirect_shape};
 ghost use Rattle.core_body.specs.Signatures.{taken, shape_at};
 ghost use Rattle.core_body.specs.Typing.{operands, label_at as at_label};
-ghost use Rattle.core_body.specs.Machine.{pops, State, Running, Finished, Stuck, step, start, next, applied, Goes, Dies, needs_none, same_list, of_shape, of_table, takes_them, each_takes, like, under};
+ghost use Rattle.core_body.specs.Machine.{pops, State, Running, Finished, Stuck, step, start, next, applied, Goes, Dies, needs_none, same_list, of_shape, of_table, takes_them, each_takes, like, under, all_below};
 ghost use Rattle.core_body.specs.Views.{context_of};
 ghost use Rattle.core_body.specs.Levels.{results_of, label_of, state_of, Says, level_at, levels_at, other_of, labels_at, params_at, results_at, state_at};
+ghost use Rattle.core_body.specs.Sources.{listed, spelled};
 ghost use Rattle.core_body.specs.Stack.{level_of, below_of};
 ghost use Rattle.core_body.specs.Groups.{IsOpening};
 
 use crate::levels::{Frame, Kind, Progress, Verdict};
 use crate::operand::{Operand, is_number, known_of, reference_of};
 use crate::shapes::{Signature, Takes, same_ref, signature_of};
-use crate::spaces::{Arrow, Scope};
+use crate::source::{Named, Source};
+use crate::spaces::Scope;
 use crate::stack::Stack;
 use std::alloc::Global;
 use virt_base::{CoreType, CoreTypes, NoMemory};
 use wasm_ast::{BlockType, BranchTable, Instr, Op, RefType};
 
-fn block_results<'a>(scope: &Scope<'a>, ty: BlockType) -> &'a [CoreType]
-    ensures { operands result.now ≡ results_at (block_type (context_of scope.now) ty) }
+/// The results of a block's type.
+fn block_results(scope: &Scope<'_>, ty: BlockType) -> Source
+    ensures { spelled (context_of scope.now) result ≡ results_at (block_type (context_of scope.now) ty) }
 {
-    match scope.spaces.block_type(ty) {
-        Some(arrow) => arrow.results,
-        None => &[],
+    let _ = scope;
+    match ty {
+        BlockType::Empty => Source::Nothing,
+        BlockType::Value(t) => Source::Only(t),
+        BlockType::Index(n) => Source::Results(n),
     }
 }
 
-fn block_params<'a>(scope: &Scope<'a>, ty: BlockType) -> &'a [CoreType]
-    ensures { operands result.now ≡ params_at (block_type (context_of scope.now) ty) }
+fn block_params(scope: &Scope<'_>, ty: BlockType) -> Source
+    ensures { spelled (context_of scope.now) result ≡ params_at (block_type (context_of scope.now) ty) }
 {
-    match scope.spaces.block_type(ty) {
-        Some(arrow) => arrow.params,
-        None => &[],
+    let _ = scope;
+    match ty {
+        BlockType::Empty | BlockType::Value(_) => Source::Nothing,
+        BlockType::Index(n) => Source::Params(n),
     }
 }
 
 /// The results of a level.
-fn results<'a>(scope: &Scope<'a>, kind: Kind) -> &'a [CoreType]
-    ensures { operands result.now ≡ results_of (context_of scope.now) kind }
+fn results(scope: &Scope<'_>, kind: Kind) -> Source
+    ensures { spelled (context_of scope.now) result ≡ results_of (context_of scope.now) kind }
 {
     match kind {
-        Kind::Whole => scope.due,
+        Kind::Whole => Source::Due,
         Kind::Block(ty) | Kind::Loop(ty) | Kind::Then(ty) | Kind::Otherwise(ty) => block_results(
             scope, ty,
         ),
@@ -53,11 +59,15 @@ fn results<'a>(scope: &Scope<'a>, kind: Kind) -> &'a [CoreType]
 }
 
 /// What a branch to a level takes; none where the level is no target of branches.
-fn label<'a>(scope: &Scope<'a>, kind: Kind) -> Option<&'a [CoreType]>
-    ensures { option_map operands (option_copied result) ≡ label_of (context_of scope.now) kind }
+fn label(scope: &Scope<'_>, kind: Kind) -> Option<Source>
+    ensures { option_map (spelled (context_of scope.now)) result ≡ label_of (context_of scope.now) kind }
 {
     match kind {
-        Kind::Whole => if scope.in_body { Some(scope.due) } else { None },
+        Kind::Whole => if scope.in_body {
+            Some(Source::Due)
+        } else {
+            None
+        },
         Kind::Loop(ty) => Some(block_params(scope, ty)),
         Kind::Block(ty) | Kind::Then(ty) | Kind::Otherwise(ty) => Some(block_results(scope, ty)),
     }
@@ -67,14 +77,13 @@ fn label<'a>(scope: &Scope<'a>, kind: Kind) -> Option<&'a [CoreType]>
 fn exchange(
     scope: &Scope<'_>,
     p: &mut Progress,
-    takes: &[CoreType],
-    leaves: &[CoreType],
+    takes: Source,
+    leaves: Source,
 ) -> Result<Verdict, NoMemory>
-    ensures { IfOk result (λ v. Says v (state_of (context_of scope.now) p.new) (applied (context_of scope.now) (Goes (operands takes.now) (operands leaves.now)) (state_of (context_of scope.now) p.old))) }
+    ensures { IfOk result (λ v. Says v (state_of (context_of scope.now) p.new) (applied (context_of scope.now) (Goes (spelled (context_of scope.now) takes) (spelled (context_of scope.now) leaves)) (state_of (context_of scope.now) p.old))) }
 {
-    let _ = scope;
     let dead = p.current.dead;
-    if p.stack.exchange(dead, takes, leaves)? {
+    if p.stack.exchange(scope, dead, takes, leaves)? {
         Ok(Verdict::Goes)
     } else {
         Ok(Verdict::Refused)
@@ -85,13 +94,13 @@ fn exchange(
 fn exchange_indexed(
     scope: &Scope<'_>,
     p: &mut Progress,
-    takes: &[CoreType],
-    leaves: &[CoreType],
+    takes: Source,
+    leaves: Source,
 ) -> Result<Verdict, NoMemory>
-    ensures { IfOk result (λ v. Says v (state_of (context_of scope.now) p.new) (applied (context_of scope.now) (Goes (Operand.Known CoreType.I32 ∷ operands takes.now) (operands leaves.now)) (state_of (context_of scope.now) p.old))) }
+    ensures { IfOk result (λ v. Says v (state_of (context_of scope.now) p.new) (applied (context_of scope.now) (Goes (Operand.Known CoreType.I32 ∷ spelled (context_of scope.now) takes) (spelled (context_of scope.now) leaves)) (state_of (context_of scope.now) p.old))) }
 {
     let dead = p.current.dead;
-    if p.stack.take(dead, Operand::Known(CoreType::I32)) {
+    if p.stack.take(scope, dead, Operand::Known(CoreType::I32)) {
         exchange(scope, p, takes, leaves)
     } else {
         Ok(Verdict::Refused)
@@ -106,10 +115,9 @@ fn exchange_few(
 ) -> Result<Verdict, NoMemory>
     ensures { IfOk result (λ v. Says v (state_of (context_of scope.now) p.new) (applied (context_of scope.now) (Goes (operands (taken takes)) (operands (option_to_list leaves))) (state_of (context_of scope.now) p.old))) }
 {
-    let _ = scope;
     let dead = p.current.dead;
-    if p.stack.take_few(dead, takes) {
-        p.stack.push_maybe(leaves)?;
+    if p.stack.take_few(scope, dead, takes) {
+        p.stack.push_maybe(scope, leaves)?;
         Ok(Verdict::Goes)
     } else {
         Ok(Verdict::Refused)
@@ -117,13 +125,12 @@ fn exchange_few(
 }
 
 /// An instruction that takes operands of known types, and never goes on.
-fn die(scope: &Scope<'_>, p: &mut Progress, takes: &[CoreType]) -> Verdict
-    ensures { Says result (state_of (context_of scope.now) p.new) (applied (context_of scope.now) (Dies (operands takes.now)) (state_of (context_of scope.now) p.old)) }
+fn die(scope: &Scope<'_>, p: &mut Progress, takes: Source) -> Verdict
+    ensures { Says result (state_of (context_of scope.now) p.new) (applied (context_of scope.now) (Dies (spelled (context_of scope.now) takes)) (state_of (context_of scope.now) p.old)) }
 {
-    let _ = scope;
     let dead = p.current.dead;
-    if p.stack.take_all(dead, takes) {
-        p.stack.clear();
+    if p.stack.take_all(scope, dead, takes) {
+        p.stack.clear(scope);
         p.current.dead = true;
         Verdict::Goes
     } else {
@@ -132,11 +139,10 @@ fn die(scope: &Scope<'_>, p: &mut Progress, takes: &[CoreType]) -> Verdict
 }
 
 fn discard(scope: &Scope<'_>, p: &mut Progress) -> Verdict
-    ensures { Says result (state_of (context_of scope.now) p.new) (applied (context_of scope.now) (of_shape (level_of p.old.stack) AnyOperand) (state_of (context_of scope.now) p.old)) }
+    ensures { Says result (state_of (context_of scope.now) p.new) (applied (context_of scope.now) (of_shape (level_of (context_of scope.now) p.old.stack) AnyOperand) (state_of (context_of scope.now) p.old)) }
 {
-    let _ = scope;
     let dead = p.current.dead;
-    if p.stack.discard(dead) {
+    if p.stack.discard(scope, dead) {
         Verdict::Goes
     } else {
         Verdict::Refused
@@ -144,15 +150,14 @@ fn discard(scope: &Scope<'_>, p: &mut Progress) -> Verdict
 }
 
 fn select(scope: &Scope<'_>, p: &mut Progress) -> Result<Verdict, NoMemory>
-    ensures { IfOk result (λ v. Says v (state_of (context_of scope.now) p.new) (applied (context_of scope.now) (of_shape (level_of p.old.stack) TwoNumbers) (state_of (context_of scope.now) p.old))) }
+    ensures { IfOk result (λ v. Says v (state_of (context_of scope.now) p.new) (applied (context_of scope.now) (of_shape (level_of (context_of scope.now) p.old.stack) TwoNumbers) (state_of (context_of scope.now) p.old))) }
 {
-    let _ = scope;
     let dead = p.current.dead;
-    let operand = known_of(p.stack.second(), p.stack.third());
+    let operand = known_of(p.stack.second(scope), p.stack.third(scope));
     if !is_number(operand) {
         return Ok(Verdict::Refused);
     }
-    if p.stack.choose(dead, operand)? {
+    if p.stack.choose(scope, dead, operand)? {
         Ok(Verdict::Goes)
     } else {
         Ok(Verdict::Refused)
@@ -160,9 +165,9 @@ fn select(scope: &Scope<'_>, p: &mut Progress) -> Result<Verdict, NoMemory>
 }
 
 fn test_null(scope: &Scope<'_>, p: &mut Progress) -> Result<Verdict, NoMemory>
-    ensures { IfOk result (λ v. Says v (state_of (context_of scope.now) p.new) (applied (context_of scope.now) (of_shape (level_of p.old.stack) OneReference) (state_of (context_of scope.now) p.old))) }
+    ensures { IfOk result (λ v. Says v (state_of (context_of scope.now) p.new) (applied (context_of scope.now) (of_shape (level_of (context_of scope.now) p.old.stack) OneReference) (state_of (context_of scope.now) p.old))) }
 {
-    match reference_of(p.stack.top()) {
+    match reference_of(p.stack.top(scope)) {
         Some(t) => exchange_few(scope, p, Takes::One(t), Some(CoreType::I32)),
         None => Ok(Verdict::Refused),
     }
@@ -181,7 +186,7 @@ fn plain(scope: &Scope<'_>, p: &mut Progress, op: Op) -> Result<Verdict, NoMemor
 }
 
 fn typed_select(scope: &Scope<'_>, p: &mut Progress, types: &CoreTypes) -> Result<Verdict, NoMemory>
-    ensures { IfOk result (λ v. Says v (state_of (context_of scope.now) p.new) (applied (context_of scope.now) (of_shape (level_of p.old.stack) (select_shape types.now)) (state_of (context_of scope.now) p.old))) }
+    ensures { IfOk result (λ v. Says v (state_of (context_of scope.now) p.new) (applied (context_of scope.now) (of_shape (level_of (context_of scope.now) p.old.stack) (select_shape types.now)) (state_of (context_of scope.now) p.old))) }
 {
     match types.as_slice() {
         [t] => exchange_few(scope, p, Takes::Three(*t, *t, CoreType::I32), Some(*t)),
@@ -192,20 +197,20 @@ fn typed_select(scope: &Scope<'_>, p: &mut Progress, types: &CoreTypes) -> Resul
 fn call(scope: &Scope<'_>, p: &mut Progress, n: u32) -> Result<Verdict, NoMemory>
     ensures { IfOk result (λ v. Says v (state_of (context_of scope.now) p.new) (next (context_of scope.now) (state_of (context_of scope.now) p.old) (Instr.Call n))) }
 {
-    match scope.spaces.function_type(n) {
+    match scope.function_named(n) {
         Some(f) => exchange(scope, p, f.params, f.results),
         None => Ok(Verdict::Refused),
     }
 }
 
 /// The type of the functions that an indirect call can reach, if the call has a type.
-fn indirect_type<'a>(scope: &Scope<'a>, ty: u32, table: u32) -> Option<Arrow<'a>>
-    ensures { MatchOption result (indirect_shape (slice_get scope.now.spaces.tables.now table) (slice_get scope.now.spaces.types.now ty) ≡ Missing) (λ a. indirect_shape (slice_get scope.now.spaces.tables.now table) (slice_get scope.now.spaces.types.now ty) ≡ Fixed (a.params.now ++ CoreType.I32 ∷ []) a.results.now) }
+fn indirect_type(scope: &Scope<'_>, ty: u32, table: u32) -> Option<Named>
+    ensures { MatchOption result (indirect_shape (slice_get scope.now.spaces.tables.now table) (slice_get scope.now.spaces.types.now ty) ≡ Missing) (λ a. indirect_shape (slice_get scope.now.spaces.tables.now table) (slice_get scope.now.spaces.types.now ty) ≡ Fixed (listed (context_of scope.now) a.params ++ CoreType.I32 ∷ []) (listed (context_of scope.now) a.results)) }
 {
     let Some(table) = scope.spaces.tables.get(table as usize) else {
         return None;
     };
-    let Some(f) = scope.spaces.block_type(BlockType::Index(ty)) else {
+    let Some(f) = scope.block_named(BlockType::Index(ty)) else {
         return None;
     };
     if same_ref(table.element, RefType::Func) {
@@ -234,22 +239,16 @@ fn return_(scope: &Scope<'_>, p: &mut Progress) -> Verdict
     ensures { Says result (state_of (context_of scope.now) p.new) (next (context_of scope.now) (state_of (context_of scope.now) p.old) Instr.Return) }
 {
     if scope.in_body {
-        die(scope, p, scope.due)
+        die(scope, p, Source::Due)
     } else {
         Verdict::Refused
     }
 }
 
 /// Opens a block, a loop or an if, whose type is there.
-fn enter(
-    scope: &Scope<'_>,
-    p: &mut Progress,
-    kind: Kind,
-    params: &[CoreType],
-) -> Result<(), NoMemory>
-    ensures { OnOk result (state_of (context_of scope.now) p.new ≡ Running (level_at (context_of scope.now) (record { kind = kind; dead = false; height = 0 }) (operands params.now)) (level_at (context_of scope.now) p.old.current (level_of p.old.stack) ∷ levels_at (context_of scope.now) (reverse p.old.outer.items) (below_of p.old.stack))) }
+fn enter(scope: &Scope<'_>, p: &mut Progress, kind: Kind, params: Source) -> Result<(), NoMemory>
+    ensures { OnOk result (state_of (context_of scope.now) p.new ≡ Running (level_at (context_of scope.now) (record { kind = kind; dead = false; height = 0 }) (spelled (context_of scope.now) params)) (level_at (context_of scope.now) p.old.current (level_of (context_of scope.now) p.old.stack) ∷ levels_at (context_of scope.now) (reverse p.old.outer.items) (below_of p.old.stack))) }
 {
-    let _ = scope;
     p.outer.push(Frame {
         kind: p.current.kind,
         dead: p.current.dead,
@@ -260,8 +259,8 @@ fn enter(
         dead: false,
         height: 0,
     };
-    p.stack.enter();
-    p.stack.push_all(params)
+    p.stack.enter(scope);
+    p.stack.push_all(scope, params)
 }
 
 /// Opens a block, a loop or an if.
@@ -271,24 +270,24 @@ fn open(scope: &Scope<'_>, p: &mut Progress, instr: &Instr) -> Result<Verdict, N
 {
     let dead = p.current.dead;
     match instr {
-        Instr::Block(ty) => match scope.spaces.block_type(*ty) {
-            Some(f) if p.stack.take_all(dead, f.params) => {
+        Instr::Block(ty) => match scope.block_named(*ty) {
+            Some(f) if p.stack.take_all(scope, dead, f.params) => {
                 enter(scope, p, Kind::Block(*ty), f.params)?;
                 Ok(Verdict::Goes)
             }
             _ => Ok(Verdict::Refused),
         },
-        Instr::Loop(ty) => match scope.spaces.block_type(*ty) {
-            Some(f) if p.stack.take_all(dead, f.params) => {
+        Instr::Loop(ty) => match scope.block_named(*ty) {
+            Some(f) if p.stack.take_all(scope, dead, f.params) => {
                 enter(scope, p, Kind::Loop(*ty), f.params)?;
                 Ok(Verdict::Goes)
             }
             _ => Ok(Verdict::Refused),
         },
-        Instr::If(ty) => match scope.spaces.block_type(*ty) {
+        Instr::If(ty) => match scope.block_named(*ty) {
             Some(f)
-                if p.stack.take(dead, Operand::Known(CoreType::I32))
-                    && p.stack.take_all(dead, f.params) => {
+                if p.stack.take(scope, dead, Operand::Known(CoreType::I32))
+                    && p.stack.take_all(scope, dead, f.params) => {
                 enter(scope, p, Kind::Then(*ty), f.params)?;
                 Ok(Verdict::Goes)
             }
@@ -298,16 +297,10 @@ fn open(scope: &Scope<'_>, p: &mut Progress, instr: &Instr) -> Result<Verdict, N
     }
 }
 
-fn same_types(a: &[CoreType], b: &[CoreType]) -> bool
-    ensures { IsTrue result ↔ (a.now ≡ b.now) }
+fn same_operands(scope: &Scope<'_>, a: Source, b: Source) -> bool
+    ensures { result ≡ same_list (spelled (context_of scope.now) a) (spelled (context_of scope.now) b) }
 {
-    *a == *b
-}
-
-fn same_operands(a: &[CoreType], b: &[CoreType]) -> bool
-    ensures { result ≡ same_list (operands a.now) (operands b.now) }
-{
-    same_types(a, b)
+    scope.same_lists(a, b)
 }
 
 /// Whether the level may end without an else.
@@ -315,7 +308,7 @@ fn may_end(scope: &Scope<'_>, kind: Kind) -> bool
     ensures { result ≡ needs_none (other_of (context_of scope.now) kind) (results_of (context_of scope.now) kind) }
 {
     match kind {
-        Kind::Then(ty) => same_operands(block_params(scope, ty), block_results(scope, ty)),
+        Kind::Then(ty) => same_operands(scope, block_params(scope, ty), block_results(scope, ty)),
         Kind::Whole | Kind::Block(_) | Kind::Loop(_) | Kind::Otherwise(_) => true,
     }
 }
@@ -326,15 +319,15 @@ fn end(scope: &Scope<'_>, p: &mut Progress) -> Result<Verdict, NoMemory>
     let kind = p.current.kind;
     let dead = p.current.dead;
     let results = results(scope, kind);
-    if !p.stack.finish(dead, results) || !may_end(scope, kind) {
+    if !p.stack.finish(scope, dead, results) || !may_end(scope, kind) {
         return Ok(Verdict::Refused);
     }
     match p.outer.pop() {
         None => Ok(Verdict::Over),
         Some(frame) => {
-            p.stack.leave(frame.height);
+            p.stack.leave(scope, frame.height);
             p.current = frame;
-            p.stack.push_all(results)?;
+            p.stack.push_all(scope, results)?;
             Ok(Verdict::Goes)
         }
     }
@@ -346,7 +339,7 @@ fn otherwise(scope: &Scope<'_>, p: &mut Progress) -> Result<Verdict, NoMemory>
     let dead = p.current.dead;
     match p.current.kind {
         Kind::Then(ty) => {
-            if !p.stack.finish(dead, block_results(scope, ty)) {
+            if !p.stack.finish(scope, dead, block_results(scope, ty)) {
                 return Ok(Verdict::Refused);
             }
             p.current = Frame {
@@ -354,7 +347,7 @@ fn otherwise(scope: &Scope<'_>, p: &mut Progress) -> Result<Verdict, NoMemory>
                 dead: false,
                 height: 0,
             };
-            p.stack.push_all(block_params(scope, ty))?;
+            p.stack.push_all(scope, block_params(scope, ty))?;
             Ok(Verdict::Goes)
         }
         Kind::Whole | Kind::Block(_) | Kind::Loop(_) | Kind::Otherwise(_) => Ok(Verdict::Refused),
@@ -362,8 +355,8 @@ fn otherwise(scope: &Scope<'_>, p: &mut Progress) -> Result<Verdict, NoMemory>
 }
 
 /// What a branch to the label takes.
-fn label_at<'a>(scope: &Scope<'a>, p: &Progress, n: u32) -> Option<&'a [CoreType]>
-    ensures { option_map operands (option_copied result) ≡ at_label (labels_at (context_of scope.now) p.now) n }
+fn label_at(scope: &Scope<'_>, p: &Progress, n: u32) -> Option<Source>
+    ensures { option_map (spelled (context_of scope.now)) result ≡ at_label (labels_at (context_of scope.now) p.now) n }
 {
     let n = n as usize;
     if n == 0 {
@@ -393,19 +386,24 @@ fn branch_if(scope: &Scope<'_>, p: &mut Progress, n: u32) -> Result<Verdict, NoM
     }
 }
 
-/// Whether the label takes the operands below the top one, as many as the first types.
-fn label_fits(scope: &Scope<'_>, p: &Progress, first: &[CoreType], n: u32) -> bool
-    ensures { result ≡ takes_them (at_label (labels_at (context_of scope.now) p.now) n) (like (operands first.now) (under (level_of p.now.stack))) }
+/// Whether the label takes the operands below the top one, as many as the first types, if those fit them.
+fn label_fits(scope: &Scope<'_>, p: &Progress, first: Source, n: u32) -> bool
+    ensures { (all_below (like (spelled (context_of scope.now) first) (under (level_of (context_of scope.now) p.now.stack))) (spelled (context_of scope.now) first) && result) ≡ (all_below (like (spelled (context_of scope.now) first) (under (level_of (context_of scope.now) p.now.stack))) (spelled (context_of scope.now) first) && takes_them (at_label (labels_at (context_of scope.now) p.now) n) (like (spelled (context_of scope.now) first) (under (level_of (context_of scope.now) p.now.stack)))) }
 {
     match label_at(scope, p, n) {
-        Some(label) => p.stack.fits(first, label),
+        Some(label) => {
+            if scope.same_lists(first, label) {
+                return true;
+            }
+            p.stack.fits(scope, first, label)
+        }
         None => false,
     }
 }
 
-/// Whether each of the labels takes them.
-fn each_fits(scope: &Scope<'_>, p: &Progress, first: &[CoreType], labels: &[u32]) -> bool
-    ensures { result ≡ each_takes (labels_at (context_of scope.now) p.now) (like (operands first.now) (under (level_of p.now.stack))) labels.now }
+/// Whether each of the labels takes them, if they fit the first types.
+fn each_fits(scope: &Scope<'_>, p: &Progress, first: Source, labels: &[u32]) -> bool
+    ensures { (all_below (like (spelled (context_of scope.now) first) (under (level_of (context_of scope.now) p.now.stack))) (spelled (context_of scope.now) first) && result) ≡ (all_below (like (spelled (context_of scope.now) first) (under (level_of (context_of scope.now) p.now.stack))) (spelled (context_of scope.now) first) && each_takes (labels_at (context_of scope.now) p.now) (like (spelled (context_of scope.now) first) (under (level_of (context_of scope.now) p.now.stack))) labels.now) }
 {
     for n in labels {
         if !label_fits(scope, p, first, *n) {
@@ -415,20 +413,29 @@ fn each_fits(scope: &Scope<'_>, p: &Progress, first: &[CoreType], labels: &[u32]
     true
 }
 
-fn branch_table(scope: &Scope<'_>, p: &mut Progress, table: &BranchTable) -> Verdict
-    ensures { Says result (state_of (context_of scope.now) p.new) (applied (context_of scope.now) (of_table (at_label (labels_at (context_of scope.now) p.old) table.now.default) (labels_at (context_of scope.now) p.old) (level_of p.old.stack) (table.now.default ∷ table.now.labels)) (state_of (context_of scope.now) p.old)) }
+/// A table whose default takes these types: each of its labels has to take them too.
+fn branch_like(scope: &Scope<'_>, p: &mut Progress, first: Source, table: &BranchTable) -> Verdict
+    requires { at_label (labels_at (context_of scope.now) p.old) table.now.default ≡ Some (spelled (context_of scope.now) first) }
+    ensures { Says result (state_of (context_of scope.now) p.new) (applied (context_of scope.now) (of_table (at_label (labels_at (context_of scope.now) p.old) table.now.default) (labels_at (context_of scope.now) p.old) (level_of (context_of scope.now) p.old.stack) (table.now.default ∷ table.now.labels)) (state_of (context_of scope.now) p.old)) }
 {
-    let Some(first) = label_at(scope, p, table.default) else {
-        return Verdict::Refused;
-    };
     let dead = p.current.dead;
-    let fits = p.stack.fits(first, first) && each_fits(scope, p, first, table.labels.as_slice());
-    if fits && p.stack.has_indexed(dead, first.len()) {
-        p.stack.clear();
-        p.current.dead = true;
-        Verdict::Goes
-    } else {
-        Verdict::Refused
+    if !each_fits(scope, p, first, table.labels.as_slice()) {
+        return Verdict::Refused;
+    }
+    if !p.stack.take_indexed(scope, dead, first) {
+        return Verdict::Refused;
+    }
+    p.stack.clear(scope);
+    p.current.dead = true;
+    Verdict::Goes
+}
+
+fn branch_table(scope: &Scope<'_>, p: &mut Progress, table: &BranchTable) -> Verdict
+    ensures { Says result (state_of (context_of scope.now) p.new) (applied (context_of scope.now) (of_table (at_label (labels_at (context_of scope.now) p.old) table.now.default) (labels_at (context_of scope.now) p.old) (level_of (context_of scope.now) p.old.stack) (table.now.default ∷ table.now.labels)) (state_of (context_of scope.now) p.old)) }
+{
+    match label_at(scope, p, table.default) {
+        Some(first) => branch_like(scope, p, first, table),
+        None => Verdict::Refused,
     }
 }
 
@@ -440,7 +447,7 @@ fn step(scope: &Scope<'_>, p: &mut Progress, instr: &Instr) -> Result<Verdict, N
         Instr::Plain(op) => plain(scope, p, *op),
         Instr::I64Const(_) => exchange_few(scope, p, Takes::Nothing, Some(CoreType::I64)),
         Instr::SelectTyped(types) => typed_select(scope, p, types),
-        Instr::Unreachable => Ok(die(scope, p, &[])),
+        Instr::Unreachable => Ok(die(scope, p, Source::Nothing)),
         Instr::Block(_) | Instr::Loop(_) | Instr::If(_) => open(scope, p, instr),
         Instr::Else => otherwise(scope, p),
         Instr::End => end(scope, p),
@@ -475,7 +482,7 @@ pub fn begin(scope: &Scope<'_>, alloc: Global) -> Progress
     let _ = scope;
     Progress {
         stack: Stack {
-            items: Vec::new(alloc),
+            pieces: Vec::new(alloc),
             height: 0,
         },
         current: Frame {

@@ -1,33 +1,25 @@
-use Rattle.std.proofs.Common.{◌≡◌, ◌+◌, ◌-◌, ap, ◌∙◌, sym, drop, length, get_or, true, false, ◌&&◌}
-use Rattle.virt_base.specs.declared.core_type.CoreType.TheVariants.{I32}
-use Rattle.core_body.specs.declared.operand.Operand.TheVariants.{Any, Known}
+use Rattle.std.proofs.Common.{ap, ◌∙◌, sym, length}
+use Rattle.core_body.specs.Sources.{listed}
+use Rattle.core_body.specs.Machine.{under}
 use Rattle.core_body.specs.Stack.{level_of}
-use Rattle.core_body.specs.Typing.{operands}
-use Rattle.core_body.specs.Machine.{all_below, like, under, below}
-use Rattle.core_body.proofs.TableLemmas.{fits-lengths, fits-at, fits-done}
+use Rattle.core_body.specs.Views.{context_of}
+use Rattle.core_body.proofs.TableLemmas.{fits-lengths}
+use Rattle.core_body.proofs.PlaceLemmas.{fits-some, fits-nothing}
 use Rattle.core_body.proofs.stack.Stack.fits.Goals as goal
 
-pub returns-then-first-label : goal.returns-then-first-label
-returns-then-first-label c = sym (fits-lengths c.args.first.now c.args.label.now (under (level_of c.args.self.now)) c.if-first-label.true)
+pub returns-then-some-due : goal.returns-then-some-due
+returns-then-some-due c =
+    let d = context_of c.args.scope.now in
+    sym (fits-lengths (listed d c.args.first) (listed d c.args.label) (under (level_of d c.args.self.now)) (λ e. c.if-some-due.true (ap length c.listed-some.ensures ∙ e ∙ sym (ap length c.listed-due.ensures))))
 
-pub returns-then-not-below : goal.returns-then-not-below
-returns-then-not-below c =
-    let os = level_of c.args.self.now in
-    let ts = c.args.label.now in
-    let k = c.loop-depth.depth in
-    let found : below (get_or os (k + 1) Any) (Known (get_or ts (length ts - 1 - k) I32)) ≡ false = cc in
-    sym (sym c.loop-depth.invariant ∙ fits-at c.args.first.now ts os k I32 c.if-first-label.false c.loop-depth-test.true
-    ∙ ap (λ b. b && all_below (drop (k + 1) (like (operands c.args.first.now) (under os))) (drop (k + 1) (operands ts))) found)
+pub returns-in-Some : goal.returns-in-Some
+returns-in-Some c =
+    let d = context_of c.args.scope.now in
+    c.meets.ensures ∙ fits-some (listed d c.args.first) (listed d c.args.label) (level_of d c.args.self.now) _ c.in-Some.top.operand
+    (sym (ap length c.listed-some.ensures) ∙ c.if-some-due.false ∙ ap length c.listed-due.ensures) (sym c.place.ensures.rest ∙ c.in-Some.ensures.found)
 
-pub loop-depth-preserved : goal.loop-depth-preserved
-loop-depth-preserved c =
-    let os = level_of c.args.self.now in
-    let ts = c.args.label.now in
-    let k = c.loop-depth.depth in
-    let found : below (get_or os (k + 1) Any) (Known (get_or ts (length ts - 1 - k) I32)) ≡ true = cc in
-    sym (fits-at c.args.first.now ts os k I32 c.if-first-label.false c.loop-depth-test.true
-    ∙ ap (λ b. b && all_below (drop (k + 1) (like (operands c.args.first.now) (under os))) (drop (k + 1) (operands ts))) found) ∙ c.loop-depth.invariant
-
-pub returns : goal.returns
-returns c =
-    sym (fits-done c.args.first.now c.args.label.now (level_of c.args.self.now) c.loop-depth.depth c.if-first-label.false c.loop-depth-test.false) ∙ c.loop-depth.invariant
+pub returns-in-None : goal.returns-in-None
+returns-in-None c =
+    let d = context_of c.args.scope.now in
+    fits-nothing (listed d c.args.first) (listed d c.args.label) (level_of d c.args.self.now)
+    (sym (ap length c.listed-some.ensures) ∙ c.if-some-due.false ∙ ap length c.listed-due.ensures) (sym c.place.ensures.rest ∙ c.in-None.ensures.found)

@@ -1,9 +1,8 @@
-use Rattle.std.proofs.Common.{◌≤◌, length, arith}
-use Rattle.core_body.proofs.StackLemmas.{pops-none}
+use Rattle.core_body.proofs.PieceLemmas.{pops-empty, pops-lacking}
 use Rattle.core_body.proofs.stack.Stack.take.Goals as goal
 
-pub returns-then-len-self-clause-yes : goal.returns-then-len-self-clause-yes
-returns-then-len-self-clause-yes c =
-    let items = c.args.self.now.items in
-    let short : length items.items ≤ c.args.self.now.height = omega (arith, items.ok.0) in
-    pops-none c.args.dead items.items c.args.self.now.height c.args.due short
+pub returns-in-None-clause-yes : goal.returns-in-None-clause-yes
+returns-in-None-clause-yes c = pops-empty c.args.dead _ _ c.args.due c.in-None.ensures.level.0 c.in-None.ensures.level.1
+
+pub returns-in-None-clause-no : goal.returns-in-None-clause-no
+returns-in-None-clause-no c = pops-lacking c.args.dead _ c.args.due c.in-None.ensures.level.0

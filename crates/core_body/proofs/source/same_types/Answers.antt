@@ -3,7 +3,7 @@ use lib.Pointwise.{pointwise_decides}
 use Rattle.virt_base.specs.declared.core_type.CoreType.{CoreType}
 use Rattle.virt_base.specs.declared.core_type.CoreType.TheVariants.{I32, I64, Funcref, Externref}
 use Rattle.virt_base.specs.contracts.core_type.CoreTypePartialEq.TheImpl.{eq-value}
-use Rattle.core_body.proofs.step.same_types.Goals as goal
+use Rattle.core_body.proofs.source.same_types.Goals as goal
 
 decides : (x y : CoreType) → (eq-value.it x y ≡ true → x ≡ y) × (x ≡ y → eq-value.it x y ≡ true)
 decides I32 I32 = (λ e. refl, λ e. refl)
