@@ -11,7 +11,7 @@ use crate::sections::{high_section, low_section};
 use std::alloc::Global;
 use virt_base::{Cursor, next_byte};
 use wasm_ast::{Component, Section, Span};
-use wasm_format::{Reader, Stop, U32, expect_bytes};
+use wasm_format::{Reader, Stop, U32, expect_bytes, trimmed};
 
 /// The magic number, the version and the layer (Component Model, Binary.md, "Component Definitions").
 pub const PREAMBLE: [u8; 8] = [0x00, 0x61, 0x73, 0x6D, 0x0D, 0x00, 0x01, 0x00];
@@ -33,7 +33,8 @@ pub fn read_sections(
     for _ in 0..c.bytes.len() - c.at {
         *good = c.at;
         if c.at == c.bytes.len() {
-            return Ok(Component { sections });
+            let whole = trimmed(alloc, sections)?;
+            return Ok(Component { sections: whole });
         }
         let section = read_section(alloc, c, depth)?;
         sections.push(section)?;
@@ -42,7 +43,8 @@ pub fn read_sections(
     if c.at < c.bytes.len() {
         return Err(Stop::Malformed);
     }
-    Ok(Component { sections })
+    let whole = trimmed(alloc, sections)?;
+    Ok(Component { sections: whole })
 }
 
 /// A section, in which components stand at most so deep.

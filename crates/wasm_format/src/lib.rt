@@ -8,6 +8,7 @@ mod put;
 mod reader;
 mod sections;
 mod stop;
+mod trim;
 mod until;
 mod writer;
 
@@ -18,5 +19,6 @@ pub use put::{put_byte, put_bytes};
 pub use reader::{CountedVecs, Reader, Sized, Spanned, Spanning, Vecs};
 pub use sections::{Building, read_sections, read_to_the_end};
 pub use stop::Stop;
+pub use trim::trimmed;
 pub use until::{Walk, read_until};
 pub use writer::Writer;

@@ -5,6 +5,7 @@ ghost use Rattle.wasm_format.specs.Reads.{Reads};
 
 use crate::numbers::U32;
 use crate::stop::Stop;
+use crate::trim::trimmed;
 use std::alloc::Global;
 use virt_base::{Cursor, Items};
 
@@ -35,7 +36,8 @@ fn items_of<R: Reader>(
         let item = reader.read(alloc, c)?;
         items.push(item)?;
     }
-    Ok(Items::new(items))
+    let whole = trimmed(alloc, items)?;
+    Ok(Items::new(whole))
 }
 
 /// A count, and that many. No memory is reserved by the count.

@@ -5,6 +5,7 @@ ghost use Rattle.wasm_format.specs.Until.{until};
 ghost use Rattle.wasm_format.specs.Reads.{Reads};
 
 use crate::stop::Stop;
+use crate::trim::trimmed;
 use std::alloc::Global;
 use virt_base::{Cursor, Items, NoMemory};
 
@@ -41,14 +42,16 @@ pub fn read_until<W: Walk>(
     let mut items = Vec::new(alloc);
     for _ in 0..c.bytes.len() - c.at {
         if state.is_over() {
-            return Ok(Items::new(items));
+            let whole = trimmed(alloc, items)?;
+            return Ok(Items::new(whole));
         }
         let item = state.read_item(alloc, c)?;
         state.step(&item)?;
         items.push(item)?;
     }
     if state.is_over() {
-        return Ok(Items::new(items));
+        let whole = trimmed(alloc, items)?;
+        return Ok(Items::new(whole));
     }
     Err(Stop::Malformed)
 }

@@ -44,12 +44,12 @@ read_placed-returns-clause-value t c =
 
 pub read_sections-returns-then-c-clause-ran : goal.read_sections-returns-then-c-clause-ran
 read_sections-returns-then-c-clause-ran t c =
-    rw (length-drop c.args.c.now.at c.args.c.now.bytes.now)
+    rw (c.in_ok-whole.ensures, length-drop c.args.c.now.at c.args.c.now.bytes.now)
     (sections_done (component c.args.depth) _ (plain_sections c.loop.sections.items) c.loop.good c.loop.c.at (rest c.loop.c) _ (omega (arith, c.if-c.true, c.loop.c.within, length-drop c.loop.c.at c.loop.c.bytes.now)) c.loop.invariant.read)
 
 pub read_sections-returns-in_err-section-clause-ran : goal.read_sections-returns-in_err-section-clause-ran
 read_sections-returns-in_err-section-clause-ran t c =
-    let p = err_from_is_err_and c.from_residual.result c.from_residual.ensures.1 in
+    let p = err_from_is_err_and c.from_residual-in_err-section.result c.from_residual-in_err-section.ensures.1 in
     rw (p.1, p.2, length-drop c.args.c.now.at c.args.c.now.bytes.now)
     (section_stops (component c.args.depth) c.in_err-section.field-0.0 (length c.args.c.now.bytes.now - c.args.c.now.at) c.loop.counter (plain_sections c.loop.sections.items) c.loop.good c.loop.c.at (rest c.loop.c) _ c.loop-test.true (omega (arith, c.if-c.false, c.loop.c.within, length-drop c.loop.c.at c.loop.c.bytes.now)) c.in_err-section.ensures.value c.loop.invariant.read)
 
@@ -68,5 +68,5 @@ read_sections-returns-then-c-2-clause-ran t c =
 
 pub read_sections-returns-clause-ran : goal.read_sections-returns-clause-ran
 read_sections-returns-clause-ran t c =
-    rw (length-drop c.args.c.now.at c.args.c.now.bytes.now)
+    rw (c.in_ok-whole-2.ensures, length-drop c.args.c.now.at c.args.c.now.bytes.now)
     (sections_done (component c.args.depth) _ (plain_sections c.loop.sections.items) c.loop.good c.loop.c.at (rest c.loop.c) _ (omega (arith, c.if-c-2.false, c.loop.c.within, length-drop c.loop.c.at c.loop.c.bytes.now)) c.loop.invariant.read)

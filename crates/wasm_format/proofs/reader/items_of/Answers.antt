@@ -22,4 +22,4 @@ loop-preserved g c =
 pub returns-clause-value : goal.returns-clause-value
 returns-clause-value g c =
     let F = g.R.Reader.format c.args.reader.now in
-    rw c.new.ensures (is_done F c.loop.items.items c.args.count c.loop.counter (place c.loop.c) (read_items F c.args.count (place c.args.c.now)) c.loop-test.false c.loop.invariant.read)
+    rw (c.new.ensures, c.in_ok-whole.ensures) (is_done F c.loop.items.items c.args.count c.loop.counter (place c.loop.c) (read_items F c.args.count (place c.args.c.now)) c.loop-test.false c.loop.invariant.read)

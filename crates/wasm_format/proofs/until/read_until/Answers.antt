@@ -7,11 +7,11 @@ use Rattle.wasm_format.proofs.until.read_until.Goals as goal
 
 pub returns-then-is_over-clause-value : goal.returns-then-is_over-clause-value
 returns-then-is_over-clause-value g c =
-    rw (c.new.ensures, length-drop c.args.c.now.at c.args.c.now.bytes.now) (stands_closed g.W.Walk.sections c.loop.items.items _ c.loop.state (place c.loop.c) _ (sym c.is_over.ensures ∙ c.if-is_over.true) c.loop.invariant.read)
+    rw (c.new.ensures, c.in_ok-whole.ensures, length-drop c.args.c.now.at c.args.c.now.bytes.now) (stands_closed g.W.Walk.sections c.loop.items.items _ c.loop.state (place c.loop.c) _ (sym c.is_over.ensures ∙ c.if-is_over.true) c.loop.invariant.read)
 
 pub returns-then-is_over-2-clause-value : goal.returns-then-is_over-2-clause-value
 returns-then-is_over-2-clause-value g c =
-    rw (c.new-then-is_over-2.ensures, length-drop c.args.c.now.at c.args.c.now.bytes.now) (stands_closed g.W.Walk.sections c.loop.items.items _ c.loop.state (place c.loop.c) _ (sym c.is_over-2.ensures ∙ c.if-is_over-2.true) c.loop.invariant.read)
+    rw (c.new-then-is_over-2.ensures, c.in_ok-whole-2.ensures, length-drop c.args.c.now.at c.args.c.now.bytes.now) (stands_closed g.W.Walk.sections c.loop.items.items _ c.loop.state (place c.loop.c) _ (sym c.is_over-2.ensures ∙ c.if-is_over-2.true) c.loop.invariant.read)
 
 pub returns-clause-value : goal.returns-clause-value
 returns-clause-value g c =
@@ -19,7 +19,7 @@ returns-clause-value g c =
 
 pub returns-in_err-item-clause-value : goal.returns-in_err-item-clause-value
 returns-in_err-item-clause-value g c =
-    let p = err_from_is_err_and c.from_residual.result c.from_residual.ensures.1 in
+    let p = err_from_is_err_and c.from_residual-in_err-item.result c.from_residual-in_err-item.ensures.1 in
     rw (p.1, p.2, length-drop c.args.c.now.at c.args.c.now.bytes.now) (stops g.W.Walk.sections c.in_err-item.field-0.0 c.loop.items.items _ c.loop.counter c.loop.state (place c.loop.c) _ c.loop-test.true (sym c.is_over.ensures ∙ c.if-is_over.false) c.in_err-item.ensures.value c.loop.invariant.read)
 
 pub loop-preserved : goal.loop-preserved
