@@ -13,7 +13,7 @@ use adapter_module::{Parts, assemble};
 use std::alloc::Global;
 use virt_base::{Bytes, CoreType, Items, NoMemory, Text};
 use wasm_ast::{
-    CoreFunc, Data, Export, ExportItem, Global as GlobalItem, GlobalType, Instr, Instrs, Limits,
+    ConstExpr, CoreFunc, Data, Export, ExportItem, Global as GlobalItem, GlobalType, Instr, Limits,
     Module, Op,
 };
 
@@ -111,9 +111,11 @@ fn types(alloc: Global) -> Result<Items<CoreFunc>, NoMemory>
 }
 
 // A constant expression of 32 bits.
-fn constant(alloc: Global, value: u32) -> Result<Instrs, NoMemory>
+fn constant(alloc: Global, value: u32) -> Result<ConstExpr, NoMemory>
     ensures { IfOk result (λ code. code ≡ constant_code value) }
 {
     let number = Instr::Plain(Op::I32Const(value.cast_signed()));
-    Ok(Items::new(vec![in alloc; number, Instr::End]?))
+    let code = Items::new(vec![in alloc; number, Instr::End]?);
+    let expr = ConstExpr::new(alloc, code)?;
+    Ok(expr)
 }

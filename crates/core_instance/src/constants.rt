@@ -6,7 +6,7 @@ ghost use Rattle.core_instance.specs.Constants.{global_or, ref_or, op_value, ins
 use core_store::{CoreRef, CoreRefs, CoreValue};
 use std::alloc::Global;
 use virt_base::{Items, NoMemory};
-use wasm_ast::{Elements, Exprs, Indexes, Instr, Instrs, Op};
+use wasm_ast::{ConstExpr, Elements, Exprs, Indexes, Instr, Op};
 
 /// What a constant expression may name: the values of imported globals, and the places of functions.
 #[derive(Drop)]
@@ -64,7 +64,7 @@ impl Names {
     }
 
     /// The value of a constant expression.
-    pub fn constant(&self, code: &Instrs) -> CoreValue
+    pub fn constant(&self, code: &ConstExpr) -> CoreValue
         ensures { result ≡ constant self.now code.now }
     {
         match code.as_slice().first() {
@@ -75,7 +75,7 @@ impl Names {
     }
 
     /// Where an active segment begins.
-    pub fn offset(&self, code: &Instrs) -> u32
+    pub fn offset(&self, code: &ConstExpr) -> u32
         ensures { result ≡ offset_in (constant self.now code.now) }
     {
         match self.constant(code) {

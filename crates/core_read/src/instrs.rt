@@ -10,7 +10,7 @@ use crate::ops::op_of;
 use crate::types::{BlockTypeReader, CoreTypeReader, lacks};
 use std::alloc::Global;
 use virt_base::{Cursor, NoMemory, next_byte};
-use wasm_ast::{Boxed, BranchTable, Instr, Instrs, Op};
+use wasm_ast::{Boxed, BranchTable, ConstExpr, Instr, Instrs, Op};
 use wasm_format::{Reader, S64, Stop, U32, Vecs, Walk, read_until};
 
 /// The labels of a `br_table`. No memory is reserved by their count.
@@ -158,5 +158,20 @@ impl Reader for ExprReader {
     #[tactic(auto, unfolding(wasm_ast::specs::Expressions::expr))]
     fn read(&self, alloc: Global, c: &mut Cursor<'_>) -> Result<Instrs, Stop> {
         read_until(alloc, c, Nesting::start(alloc))
+    }
+}
+
+/// Constant expressions.
+#[derive(Clone, Copy)]
+pub struct ConstExprReader;
+
+impl Reader for ConstExprReader {
+    type Value = ConstExpr;
+
+    ghost format = { λ _. expr };
+
+    fn read(&self, alloc: Global, c: &mut Cursor<'_>) -> Result<ConstExpr, Stop> {
+        let code = ExprReader.read(alloc, c)?;
+        Ok(ConstExpr::new(alloc, code)?)
     }
 }

@@ -4,7 +4,7 @@ ghost use Rattle.wasm_format.specs.Format.{Format};
 ghost use Rattle.wasm_format.specs.Reads.{Reads};
 ghost use Rattle.wasm_ast.specs.Items.{import_item, import, export_item, export, global, local_run, body, kind_and_funcs, low_elements, high_elements, elements, segment};
 
-use crate::instrs::ExprReader;
+use crate::instrs::{ConstExprReader, ExprReader};
 use crate::types::{
     CoreTypeReader, GlobalTypeReader, LimitsReader, RefTypeReader, TableTypeReader, lacks,
 };
@@ -104,7 +104,7 @@ impl Reader for GlobalReader {
     #[tactic(auto, unfolding(wasm_ast::specs::Items::global))]
     fn read(&self, alloc: Global, c: &mut Cursor<'_>) -> Result<wasm_ast::Global, Stop> {
         let ty = GlobalTypeReader.read(alloc, c)?;
-        let init = ExprReader.read(alloc, c)?;
+        let init = ConstExprReader.read(alloc, c)?;
         Ok(wasm_ast::Global { ty, init })
     }
 }
@@ -161,7 +161,7 @@ fn low_elements(alloc: Global, c: &mut Cursor<'_>, kind: u8) -> Result<Elements,
 {
     match kind {
         0 => {
-            let offset = ExprReader.read(alloc, c)?;
+            let offset = ConstExprReader.read(alloc, c)?;
             let funcs = Vecs(U32).read(alloc, c)?;
             Ok(Elements::ActiveFuncs { offset, funcs })
         }
@@ -171,7 +171,7 @@ fn low_elements(alloc: Global, c: &mut Cursor<'_>, kind: u8) -> Result<Elements,
         }
         2 => {
             let table = U32.read(alloc, c)?;
-            let offset = ExprReader.read(alloc, c)?;
+            let offset = ConstExprReader.read(alloc, c)?;
             let funcs = kind_and_funcs(alloc, c)?;
             Ok(Elements::ActiveFuncsAt {
                 table,
@@ -196,20 +196,20 @@ fn high_elements(alloc: Global, c: &mut Cursor<'_>, kind: u8) -> Result<Elements
 {
     match kind {
         4 => {
-            let offset = ExprReader.read(alloc, c)?;
-            let exprs = Vecs(ExprReader).read(alloc, c)?;
+            let offset = ConstExprReader.read(alloc, c)?;
+            let exprs = Vecs(ConstExprReader).read(alloc, c)?;
             Ok(Elements::ActiveExprs { offset, exprs })
         }
         5 => {
             let ty = RefTypeReader.read(alloc, c)?;
-            let exprs = Vecs(ExprReader).read(alloc, c)?;
+            let exprs = Vecs(ConstExprReader).read(alloc, c)?;
             Ok(Elements::PassiveExprs { ty, exprs })
         }
         6 => {
             let table = U32.read(alloc, c)?;
-            let offset = ExprReader.read(alloc, c)?;
+            let offset = ConstExprReader.read(alloc, c)?;
             let ty = RefTypeReader.read(alloc, c)?;
-            let exprs = Vecs(ExprReader).read(alloc, c)?;
+            let exprs = Vecs(ConstExprReader).read(alloc, c)?;
             Ok(Elements::ActiveExprsAt {
                 table,
                 offset,
@@ -219,7 +219,7 @@ fn high_elements(alloc: Global, c: &mut Cursor<'_>, kind: u8) -> Result<Elements
         }
         7 => {
             let ty = RefTypeReader.read(alloc, c)?;
-            let exprs = Vecs(ExprReader).read(alloc, c)?;
+            let exprs = Vecs(ConstExprReader).read(alloc, c)?;
             Ok(Elements::DeclaredExprs { ty, exprs })
         }
         _ => Err(lacks(c, kind)),
@@ -264,7 +264,7 @@ impl Reader for DataReader {
         match next_byte(c) {
             None => Err(Stop::Malformed),
             Some(0) => {
-                let offset = ExprReader.read(alloc, c)?;
+                let offset = ConstExprReader.read(alloc, c)?;
                 let bytes = ByteLists.read(alloc, c)?;
                 Ok(Data::Active { offset, bytes })
             }
@@ -273,7 +273,7 @@ impl Reader for DataReader {
             }),
             Some(2) => {
                 let memory = U32.read(alloc, c)?;
-                let offset = ExprReader.read(alloc, c)?;
+                let offset = ConstExprReader.read(alloc, c)?;
                 let bytes = ByteLists.read(alloc, c)?;
                 Ok(Data::ActiveAt {
                     memory,

@@ -14,7 +14,7 @@ use crate::segments::{data_offset, exprs_of, indexes_of, memory_of, offset_in, t
 use core_body::{Spaces, check_body, check_expression, lesser, same_ref, value_of};
 use std::alloc::Global as Heap;
 use virt_base::{CoreType, NoMemory};
-use wasm_ast::{Body, Data, Elements, Global, Instr, Instrs, Module, RefType};
+use wasm_ast::{Body, ConstExpr, Data, Elements, Global, Instr, Module, RefType};
 
 fn global_fault(alloc: Heap, spaces: &Spaces<'_>, global: &Global) -> Result<Option<u32>, NoMemory>
     ensures { IfOk result (λ rule. rule ≡ fault (context_at spaces.now) (AGlobal global.now)) }
@@ -103,7 +103,7 @@ fn exprs_fault(
     alloc: Heap,
     spaces: &Spaces<'_>,
     ty: RefType,
-    exprs: &[Instrs],
+    exprs: &[ConstExpr],
 ) -> Result<Option<u32>, NoMemory>
     ensures { IfOk result (λ rule. rule ≡ parts_fault (expressions (context_at spaces.now) ty exprs.now)) }
 {

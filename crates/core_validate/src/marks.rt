@@ -4,7 +4,7 @@ ghost use Rattle.std.specs.Prelude.{◌≡◌, slice_set, true};
 ghost use Rattle.core_validate.specs.Gather.{gather};
 ghost use Rattle.core_validate.specs.Spaces.{marked, functions_in, functions_in_code, exported_functions, element_functions, declared_functions};
 
-use wasm_ast::{Elements, Export, ExportItem, Global, Instr, Instrs, Module, Op};
+use wasm_ast::{ConstExpr, Elements, Export, ExportItem, Global, Instr, Module, Op};
 
 #[tactic(auto, using(std::proofs::lemmas::List::set_past))]
 fn mark(marks: &mut [bool], n: u32)
@@ -40,7 +40,7 @@ fn mark_code(marks: &mut [bool], code: &[Instr])
     }
 }
 
-fn mark_exprs(marks: &mut [bool], exprs: &[Instrs])
+fn mark_exprs(marks: &mut [bool], exprs: &[ConstExpr])
     ensures { marks.new ≡ marked (gather functions_in_code exprs.now) marks.old }
 {
     for expr in exprs {

@@ -4,7 +4,7 @@ ghost use Rattle.std.specs.Prelude.{◌≡◌, Option, Some, None, List};
 ghost use Rattle.std.specs.Option.{option_copied};
 ghost use Rattle.core_validate.specs.Items.{table_of, indexes_of, offset_in, exprs_of, memory_of, data_offset};
 
-use wasm_ast::{Data, Elements, Instr, Instrs};
+use wasm_ast::{ConstExpr, Data, Elements, Instr};
 
 /// The table that a segment fills.
 pub fn table_of(elements: &Elements) -> Option<u32>
@@ -55,7 +55,7 @@ pub fn offset_in(elements: &Elements) -> Option<&[Instr]>
 }
 
 /// The elements that are expressions.
-pub fn exprs_of(elements: &Elements) -> &[Instrs]
+pub fn exprs_of(elements: &Elements) -> &[ConstExpr]
     ensures { result.now ≡ exprs_of elements.now }
 {
     match elements {

@@ -8,7 +8,7 @@ use crate::ops::put_op;
 use crate::types::{BlockTypeWriter, CoreTypeWriter};
 use std::alloc::Global;
 use virt_base::NoMemory;
-use wasm_ast::{BranchTable, Instr, Instrs};
+use wasm_ast::{BranchTable, ConstExpr, Instr, Instrs};
 use wasm_format::{S64, U32, Vecs, Writer, put_byte};
 
 /// The labels of a `br_table`.
@@ -110,6 +110,21 @@ impl Writer for ExprWriter {
 
     #[tactic(auto, using(crate::proofs::Expressions::expr_fits, crate::proofs::Expressions::expr_written))]
     fn write(&self, alloc: Global, out: &mut Vec<u8>, value: &Instrs) -> Result<(), NoMemory> {
+        put_instrs(alloc, out, value.as_slice())
+    }
+}
+
+/// Constant expressions.
+#[derive(Clone, Copy)]
+pub struct ConstExprWriter;
+
+impl Writer for ConstExprWriter {
+    type Value = ConstExpr;
+
+    ghost format = { λ _. expr };
+
+    #[tactic(auto, using(crate::proofs::Expressions::expr_fits, crate::proofs::Expressions::expr_written))]
+    fn write(&self, alloc: Global, out: &mut Vec<u8>, value: &ConstExpr) -> Result<(), NoMemory> {
         put_instrs(alloc, out, value.as_slice())
     }
 }

@@ -1,7 +1,7 @@
 ghost use Rattle.wasm_format.specs.Format.{Format};
 ghost use Rattle.wasm_ast.specs.Items.{import_item, import, export_item, export, global, local_run, body, kind_and_funcs, elements, segment};
 
-use crate::instrs::ExprWriter;
+use crate::instrs::{ConstExprWriter, ExprWriter};
 use crate::types::{
     CoreTypeWriter, GlobalTypeWriter, LimitsWriter, RefTypeWriter, TableTypeWriter,
 };
@@ -124,7 +124,7 @@ impl Writer for GlobalWriter {
         value: &wasm_ast::Global,
     ) -> Result<(), NoMemory> {
         GlobalTypeWriter.write(alloc, out, &value.ty)?;
-        ExprWriter.write(alloc, out, &value.init)
+        ConstExprWriter.write(alloc, out, &value.init)
     }
 }
 
@@ -190,7 +190,7 @@ impl Writer for ElementsWriter {
         match value {
             Elements::ActiveFuncs { offset, funcs } => {
                 put_byte(alloc, out, 0)?;
-                ExprWriter.write(alloc, out, offset)?;
+                ConstExprWriter.write(alloc, out, offset)?;
                 Vecs(U32).write(alloc, out, funcs)
             }
             Elements::PassiveFuncs { funcs } => {
@@ -204,7 +204,7 @@ impl Writer for ElementsWriter {
             } => {
                 put_byte(alloc, out, 2)?;
                 U32.write(alloc, out, table)?;
-                ExprWriter.write(alloc, out, offset)?;
+                ConstExprWriter.write(alloc, out, offset)?;
                 FunctionsWriter.write(alloc, out, funcs)
             }
             Elements::DeclaredFuncs { funcs } => {
@@ -213,13 +213,13 @@ impl Writer for ElementsWriter {
             }
             Elements::ActiveExprs { offset, exprs } => {
                 put_byte(alloc, out, 4)?;
-                ExprWriter.write(alloc, out, offset)?;
-                Vecs(ExprWriter).write(alloc, out, exprs)
+                ConstExprWriter.write(alloc, out, offset)?;
+                Vecs(ConstExprWriter).write(alloc, out, exprs)
             }
             Elements::PassiveExprs { ty, exprs } => {
                 put_byte(alloc, out, 5)?;
                 RefTypeWriter.write(alloc, out, ty)?;
-                Vecs(ExprWriter).write(alloc, out, exprs)
+                Vecs(ConstExprWriter).write(alloc, out, exprs)
             }
             Elements::ActiveExprsAt {
                 table,
@@ -229,14 +229,14 @@ impl Writer for ElementsWriter {
             } => {
                 put_byte(alloc, out, 6)?;
                 U32.write(alloc, out, table)?;
-                ExprWriter.write(alloc, out, offset)?;
+                ConstExprWriter.write(alloc, out, offset)?;
                 RefTypeWriter.write(alloc, out, ty)?;
-                Vecs(ExprWriter).write(alloc, out, exprs)
+                Vecs(ConstExprWriter).write(alloc, out, exprs)
             }
             Elements::DeclaredExprs { ty, exprs } => {
                 put_byte(alloc, out, 7)?;
                 RefTypeWriter.write(alloc, out, ty)?;
-                Vecs(ExprWriter).write(alloc, out, exprs)
+                Vecs(ConstExprWriter).write(alloc, out, exprs)
             }
         }
     }
@@ -256,7 +256,7 @@ impl Writer for DataWriter {
         match value {
             Data::Active { offset, bytes } => {
                 put_byte(alloc, out, 0)?;
-                ExprWriter.write(alloc, out, offset)?;
+                ConstExprWriter.write(alloc, out, offset)?;
                 ByteLists.write(alloc, out, bytes)
             }
             Data::Passive { bytes } => {
@@ -270,7 +270,7 @@ impl Writer for DataWriter {
             } => {
                 put_byte(alloc, out, 2)?;
                 U32.write(alloc, out, memory)?;
-                ExprWriter.write(alloc, out, offset)?;
+                ConstExprWriter.write(alloc, out, offset)?;
                 ByteLists.write(alloc, out, bytes)
             }
         }

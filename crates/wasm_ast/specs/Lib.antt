@@ -4,5 +4,6 @@ pub mod Numeric
 pub mod Types
 pub mod Instructions
 pub mod Expressions
+pub mod ConstExprs
 pub mod Items
 pub mod Modules

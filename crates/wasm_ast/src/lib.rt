@@ -1,19 +1,23 @@
 //! The trees of core modules and components, as their binary formats have them.
 #![tactic(auto)]
 
+mod apart;
 mod boxed;
 mod component;
+mod const_expr;
 mod instr;
 mod module;
 mod numeric;
 mod section;
 
+pub use apart::Apart;
 pub use boxed::Boxed;
 pub use component::{
     Alias, Canon, CanonOption, CaseType, Component, ComponentExport, ComponentImport, CoreArg,
     CoreExport, CoreInstance, CoreSort, ExternDesc, Instance, LabelType, Labels, NamedItem,
     OuterSort, Primitive, Section, Sort, Span, TypeAlias, TypeDef, TypeItem, ValType,
 };
+pub use const_expr::ConstExpr;
 pub use instr::{BlockType, BranchTable, Instr, Instrs, LoadOp, MemArg, Op, RefType, StoreOp};
 pub use module::{
     Body, CoreFunc, Data, Elements, Export, ExportItem, Exprs, Global, GlobalType, Import,

@@ -1,3 +1,4 @@
+use crate::const_expr::ConstExpr;
 use crate::instr::{Instrs, RefType};
 use virt_base::{Bytes, CoreType, CoreTypes, Items, Text};
 
@@ -50,7 +51,7 @@ pub struct Import {
 #[derive(Debug, Drop)]
 pub struct Global {
     pub ty: GlobalType,
-    pub init: Instrs,
+    pub init: ConstExpr,
 }
 
 /// What an export is, by its index.
@@ -73,14 +74,14 @@ pub struct Export {
 pub type Indexes = Items<u32>;
 
 /// Expressions in order.
-pub type Exprs = Items<Instrs>;
+pub type Exprs = Items<ConstExpr>;
 
 /// An element segment, kept as it is spelled: a kind with an index of 0 differs from the kind without the index.
 #[derive(Debug, Drop)]
 pub enum Elements {
     /// Kind 0: functions for table 0.
     ActiveFuncs {
-        offset: Instrs,
+        offset: ConstExpr,
         funcs: Indexes,
     },
     /// Kind 1.
@@ -90,7 +91,7 @@ pub enum Elements {
     /// Kind 2: functions for the table at an index.
     ActiveFuncsAt {
         table: u32,
-        offset: Instrs,
+        offset: ConstExpr,
         funcs: Indexes,
     },
     /// Kind 3.
@@ -99,7 +100,7 @@ pub enum Elements {
     },
     /// Kind 4: references to functions for table 0.
     ActiveExprs {
-        offset: Instrs,
+        offset: ConstExpr,
         exprs: Exprs,
     },
     /// Kind 5.
@@ -110,7 +111,7 @@ pub enum Elements {
     /// Kind 6: references for the table at an index.
     ActiveExprsAt {
         table: u32,
-        offset: Instrs,
+        offset: ConstExpr,
         ty: RefType,
         exprs: Exprs,
     },
@@ -140,7 +141,7 @@ pub struct Body {
 pub enum Data {
     /// Kind 0: bytes for memory 0.
     Active {
-        offset: Instrs,
+        offset: ConstExpr,
         bytes: Bytes,
     },
     /// Kind 1.
@@ -150,7 +151,7 @@ pub enum Data {
     /// Kind 2: bytes for the memory at an index.
     ActiveAt {
         memory: u32,
-        offset: Instrs,
+        offset: ConstExpr,
         bytes: Bytes,
     },
 }
