@@ -3,7 +3,7 @@ use std::alloc::Global;
 use std::mem::size_of;
 use std::test::Fail;
 use virt_base::{Cursor, Text, copy_bytes, next_byte};
-use wasm_ast::{Instr, Op};
+use wasm_ast::{ConstExpr, Elements, Instr, Op, Section, TypeItem};
 
 /// The Unicode Standard, table 3-7: overlong forms, surrogates, what is above U+10FFFF, cut forms, and a text.
 const ROWS: &str = "\
@@ -56,4 +56,13 @@ fn keeps_lists(rt: HostRuntime) -> Result<(), Fail> {
 fn an_instruction_is_small(rt: HostRuntime) -> Result<(), Fail> {
     let sizes = printed(rt.alloc(), &(size_of::<Op>(), size_of::<Instr>()))?;
     same("sizes", sizes.as_str(), "(12, 16)")
+}
+
+/// Of the bytes that spell them, a list of these takes at most 40 times as many.
+#[test]
+fn items_are_small(rt: HostRuntime) -> Result<(), Fail> {
+    let expressions = (size_of::<ConstExpr>(), size_of::<Elements>());
+    let parts = (size_of::<Section>(), size_of::<TypeItem>());
+    let sizes = printed(rt.alloc(), &(expressions, parts))?;
+    same("sizes", sizes.as_str(), "((24, 64), (48, 40))")
 }

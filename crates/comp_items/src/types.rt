@@ -7,7 +7,7 @@ ghost use Rattle.comp_grammar.specs.Types.{primitive_of, primitive_type, indexed
 use crate::externs::lacks;
 use std::alloc::Global;
 use virt_base::{Cursor, next_byte};
-use wasm_ast::{CaseType, LabelType, Primitive, TypeDef, ValType};
+use wasm_ast::{Apart, CaseType, LabelType, Primitive, TypeDef, ValType};
 use wasm_format::{Names, Reader, S33Index, Stop, U32, Vecs, expect_tag, next_is_tag};
 
 /// The primitive type of a tag that was taken.
@@ -215,7 +215,7 @@ fn other_def(alloc: Global, c: &mut Cursor<'_>, byte: u8) -> Result<TypeDef, Sto
         0x69 => Ok(TypeDef::Own(U32.read(alloc, c)?)),
         0x68 => Ok(TypeDef::Borrow(U32.read(alloc, c)?)),
         0x40 => {
-            let params = Vecs(LabelTypeReader).read(alloc, c)?;
+            let params = Apart::new(alloc, Vecs(LabelTypeReader).read(alloc, c)?)?;
             let result = FuncResultReader.read(alloc, c)?;
             Ok(TypeDef::Func { params, result })
         }

@@ -1,3 +1,4 @@
+use crate::apart::Apart;
 use crate::boxed::Boxed;
 use crate::module::Module;
 use virt_base::{Items, Text};
@@ -167,7 +168,7 @@ pub enum TypeDef {
     Own(u32),
     Borrow(u32),
     Func {
-        params: Items<LabelType>,
+        params: Apart<Items<LabelType>>,
         result: Option<ValType>,
     },
     /// An instance type, whose so many declarations follow in the list.

@@ -8,7 +8,7 @@ use comp_types::{ItemType, KnownValue, TypeItem};
 use std::alloc::Global;
 use std::test::Fail;
 use virt_base::{Items, Text};
-use wasm_ast::{CaseType, LabelType, Labels, Primitive, TypeDef, ValType};
+use wasm_ast::{Apart, CaseType, LabelType, Labels, Primitive, TypeDef, ValType};
 
 /// The types that were read so far.
 #[derive(Drop)]
@@ -212,6 +212,7 @@ impl Types {
             let ty = first_value(&mut types)?;
             params.push(LabelType { label, ty })?;
         }
+        let params = Apart::new(alloc, params)?;
         let mut answer = self.stack(alloc, behind)?;
         let result = first(&mut answer)?;
         let kind = kind_of(alloc, &self.scope, &TypeDef::Func { params, result })?;
