@@ -11,7 +11,7 @@ ghost use Rattle.abi_layout.specs.Functions.{core_params, lowered};
 
 use comp_facts::FuncFacts;
 use comp_scopes::{Scope, SharedItem};
-use core_validate::CoreItem;
+use core_validate::{CoreItem, Shared};
 use std::alloc::Global;
 use virt_base::{CoreType, Items, NoMemory};
 use wasm_ast::CoreFunc;
@@ -95,6 +95,6 @@ pub fn lowered_type(alloc: Global, ty: &FuncFacts) -> Result<CoreFunc, NoMemory>
 pub fn add_core_func(alloc: Global, scope: &mut Scope, ty: CoreFunc) -> Result<(), NoMemory>
     ensures { OnOk result ((s : Space) → Stands s scope.old → Stands (and_core_item s (Func ty)) scope.new) }
 {
-    let item = SharedItem::new(alloc, CoreItem::Func(ty))?;
-    scope.core.add_item(item)
+    let ty = Shared::new(alloc, ty)?;
+    scope.core.add_item(SharedItem::new(CoreItem::Func(ty)))
 }

@@ -4,9 +4,7 @@ ghost use Rattle.comp_types.specs.Rules.{is_of_core_sort};
 ghost use Rattle.comp_types.specs.Spaces.{core_type_of};
 
 use crate::matching::{func_meets, global_meets, memory_meets, table_meets};
-use crate::shared::Shared;
-use core_validate::CoreItem;
-use std::alloc::Global;
+use core_validate::{CoreItem, Shared};
 use std::marker::Model;
 use virt_base::{CoreType, NoMemory};
 use wasm_ast::{CoreFunc, CoreSort, Limits};
@@ -39,16 +37,16 @@ impl SharedItem {
     ghost use Rattle.comp_scopes.specs.Sorts.{sort_of};
 
     /// An item with one owner.
-    pub fn new(alloc: Global, item: CoreItem) -> Result<SharedItem, NoMemory>
-        ensures { IfOk result (λ shared. shared ≡ item) }
+    pub fn new(item: CoreItem) -> SharedItem
+        ensures { result ≡ item }
     {
         let kept = match item {
-            CoreItem::Func(ty) => Kept::Func(Shared::new(alloc, ty)?),
+            CoreItem::Func(ty) => Kept::Func(ty),
             CoreItem::Table(ty, limits) => Kept::Table(ty, limits),
             CoreItem::Memory(limits) => Kept::Memory(limits),
             CoreItem::Global(ty, variable) => Kept::Global(ty, variable),
         };
-        Ok(SharedItem { kept })
+        SharedItem { kept }
     }
 
     /// One owner more of the same item.

@@ -15,12 +15,12 @@ mod modules;
 mod named;
 mod numbers;
 mod scope;
-mod shared;
 
 pub use aliases::{add_core_alias, core_alias_fault};
 pub use by_name::CoreMap;
 pub use core_definitions::{define_core_alias, define_core_instance};
 pub use core_scope::CoreScope;
+pub use core_validate::Shared;
 pub use entries::{KnownComponent, KnownEntry};
 pub use instances::{add_core_instance, core_instance_fault};
 pub use items::SharedItem;
@@ -28,4 +28,3 @@ pub use modules::{KnownModule, known_module, valid_module};
 pub use named::NamedEntries;
 pub use numbers::Numbers;
 pub use scope::Scope;
-pub use shared::Shared;

@@ -72,7 +72,7 @@ pub fn func_meets(given: &CoreFunc, asked: &CoreItem) -> bool
     ensures { result ≡ meets (Func given.now) asked.now }
 {
     match asked {
-        CoreItem::Func(ty) => same_func(given, ty),
+        CoreItem::Func(ty) => same_func(given, ty.get()),
         CoreItem::Table(_, _) => false,
         CoreItem::Memory(_) => false,
         CoreItem::Global(_, _) => false,

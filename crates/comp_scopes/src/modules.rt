@@ -4,8 +4,9 @@ ghost use Rattle.comp_scopes.specs.CoreJudged.{IsJudged};
 
 use crate::by_name::CoreMap;
 use crate::items::SharedItem;
-use crate::shared::Shared;
-use core_validate::{CoreExport, CoreExports, CoreFault, CoreImports, ModuleType, validate};
+use core_validate::{
+    CoreExport, CoreExports, CoreFault, CoreImports, ModuleType, Shared, validate,
+};
 use std::alloc::Global;
 use virt_base::NoMemory;
 use wasm_ast::Module;
@@ -25,7 +26,7 @@ fn exports_by_name(alloc: Global, exports: CoreExports) -> Result<CoreMap, NoMem
     let mut rest = exports.into_vec();
     while let Some(export) = rest.pop() {
         let CoreExport { name, item } = export;
-        let item = SharedItem::new(alloc, item)?;
+        let item = SharedItem::new(item);
         map.put(name, item)?;
     }
     Ok(map)

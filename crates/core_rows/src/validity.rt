@@ -103,7 +103,7 @@ start types import 03020102 table memory globals 07110401660000016d0200016703020
 ModuleType { imports: Items { items: [\
 CoreImport { module: Text { chars: \"m\" }, name: Text { chars: \"n\" }, item: Global(I32, false) }] }, exports: Items { items: [\
 CoreExport { name: Text { chars: \"f\" }, \
-item: Func(CoreFunc { params: Items { items: [I32] }, results: Items { items: [I32] } }) }, \
+item: Func(Shared { kept: CoreFunc { params: Items { items: [I32] }, results: Items { items: [I32] } } }) }, \
 CoreExport { name: Text { chars: \"m\" }, item: Memory(Limits { min: 1, max: None }) }, \
 CoreExport { name: Text { chars: \"g\" }, item: Global(I64, true) }, \
 CoreExport { name: Text { chars: \"t\" }, item: Table(Funcref, Limits { min: 1, max: None }) }] } }";

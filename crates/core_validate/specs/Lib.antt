@@ -7,3 +7,4 @@ pub mod Faults
 pub mod Views
 pub mod Seen
 pub mod Answer
+pub mod Copies

@@ -1,10 +1,12 @@
+use crate::shared::Shared;
 use virt_base::{CoreType, Items, NoMemory, Text};
 use wasm_ast::{CoreFunc, Limits};
 
 /// What a module takes or gives.
 #[derive(Debug, Drop)]
 pub enum CoreItem {
-    Func(CoreFunc),
+    /// Imports have one copy of each type together, and so have exports.
+    Func(Shared<CoreFunc>),
     /// The type of its entries, and how many there are.
     Table(CoreType, Limits),
     Memory(Limits),

@@ -2,37 +2,35 @@
 
 ghost use Rattle.std.specs.Prelude.{◌≡◌, IfOk, OnOk, map, slice_get, length};
 ghost use Rattle.std.specs.Option.{option_map};
-ghost use Rattle.core_body.specs.Context.{arrow, function_type};
+ghost use Rattle.core_body.specs.Context.{function_type};
 ghost use Rattle.core_body.specs.Views.{context_at};
 ghost use Rattle.core_validate.specs.Typed.{nothing, found, func_item, table_item, global_item, import_type, export_type, core_import, core_export};
 
 use crate::item::{CoreExport, CoreImport, CoreItem};
-use core_body::{Arrow, Spaces, value_of};
+use crate::shared::Shared;
+use crate::shared_types::SharedTypes;
+use core_body::{Spaces, value_of};
 use std::alloc::Global as Heap;
-use virt_base::{CoreType, CoreTypes, Items, NoMemory};
+use virt_base::{Items, NoMemory};
 use wasm_ast::{CoreFunc, Export, ExportItem, GlobalType, Import, ImportItem, Limits, TableType};
 
-fn copy_types(alloc: Heap, types: &[CoreType]) -> Result<CoreTypes, NoMemory>
-    ensures { IfOk result (λ copy. copy ≡ types.now) }
+fn nothing(alloc: Heap) -> Result<CoreItem, NoMemory>
+    ensures { IfOk result (λ item. item ≡ nothing) }
 {
-    Ok(Items::new(Vec::from_slice(alloc, types)?))
+    let params = Items::empty(alloc);
+    let results = Items::empty(alloc);
+    let ty = Shared::new(alloc, CoreFunc { params, results })?;
+    Ok(CoreItem::Func(ty))
 }
 
-fn func(alloc: Heap, params: &[CoreType], results: &[CoreType]) -> Result<CoreItem, NoMemory>
-    ensures { IfOk result (λ item. item ≡ CoreItem.Func (arrow params.now results.now)) }
+fn func_item(alloc: Heap, types: &mut SharedTypes<'_>, n: u32) -> Result<CoreItem, NoMemory>
+    ensures same { types.new ≡ types.old }
+    ensures item { IfOk result (λ item. item ≡ func_item (slice_get types.old n)) }
 {
-    let params = copy_types(alloc, params)?;
-    let results = copy_types(alloc, results)?;
-    Ok(CoreItem::Func(CoreFunc { params, results }))
-}
-
-fn nothing(alloc: Heap) -> CoreItem
-    ensures { result ≡ nothing }
-{
-    CoreItem::Func(CoreFunc {
-        params: Items::empty(alloc),
-        results: Items::empty(alloc),
-    })
+    match types.at(alloc, n)? {
+        Some(ty) => Ok(CoreItem::Func(ty)),
+        None => nothing(alloc),
+    }
 }
 
 fn table_item(t: TableType) -> CoreItem
@@ -47,52 +45,63 @@ fn global_item(g: GlobalType) -> CoreItem
     CoreItem::Global(g.value, g.variable)
 }
 
-fn import_item(alloc: Heap, spaces: &Spaces<'_>, item: ImportItem) -> Result<CoreItem, NoMemory>
-    ensures { IfOk result (λ ty. ty ≡ import_type (context_at spaces.now) item) }
+fn import_item(
+    alloc: Heap,
+    spaces: &Spaces<'_>,
+    types: &mut SharedTypes<'_>,
+    item: ImportItem,
+) -> Result<CoreItem, NoMemory>
+    requires { types.old ≡ spaces.now.types.now }
+    ensures same { types.new ≡ types.old }
+    ensures item { IfOk result (λ ty. ty ≡ import_type (context_at spaces.now) item) }
 {
     match item {
-        ImportItem::Func(n) => match spaces.types.get(n as usize) {
-            Some(f) => func(alloc, f.params.as_slice(), f.results.as_slice()),
-            None => Ok(nothing(alloc)),
-        },
+        ImportItem::Func(n) => func_item(alloc, types, n),
         ImportItem::Table(t) => Ok(table_item(t)),
         ImportItem::Memory(l) => Ok(CoreItem::Memory(l)),
         ImportItem::Global(g) => Ok(global_item(g)),
     }
 }
 
-fn func_export(alloc: Heap, spaces: &Spaces<'_>, n: u32) -> Result<CoreItem, NoMemory>
-    ensures { IfOk result (λ ty. ty ≡ func_item (function_type (context_at spaces.now) n)) }
+fn func_export(
+    alloc: Heap,
+    spaces: &Spaces<'_>,
+    types: &mut SharedTypes<'_>,
+    n: u32,
+) -> Result<CoreItem, NoMemory>
+    requires { types.old ≡ spaces.now.types.now }
+    ensures same { types.new ≡ types.old }
+    ensures item { IfOk result (λ ty. ty ≡ func_item (function_type (context_at spaces.now) n)) }
 {
-    match spaces.function_type(n) {
-        Some(f) => func(alloc, f.params, f.results),
-        None => Ok(nothing(alloc)),
+    match spaces.functions.get(n as usize) {
+        Some(ty) => func_item(alloc, types, *ty),
+        None => nothing(alloc),
     }
 }
 
-fn table_export(alloc: Heap, spaces: &Spaces<'_>, n: u32) -> CoreItem
-    ensures { result ≡ found (option_map table_item (slice_get spaces.now.tables.now n)) }
+fn table_export(alloc: Heap, spaces: &Spaces<'_>, n: u32) -> Result<CoreItem, NoMemory>
+    ensures { IfOk result (λ item. item ≡ found (option_map table_item (slice_get spaces.now.tables.now n))) }
 {
     match spaces.tables.get(n as usize) {
-        Some(t) => table_item(*t),
+        Some(t) => Ok(table_item(*t)),
         None => nothing(alloc),
     }
 }
 
-fn memory_export(alloc: Heap, memories: &[Limits], n: u32) -> CoreItem
-    ensures { result ≡ found (option_map (λ x. CoreItem.Memory x) (slice_get memories.now n)) }
+fn memory_export(alloc: Heap, memories: &[Limits], n: u32) -> Result<CoreItem, NoMemory>
+    ensures { IfOk result (λ item. item ≡ found (option_map (λ x. CoreItem.Memory x) (slice_get memories.now n))) }
 {
     match memories.get(n as usize) {
-        Some(l) => CoreItem::Memory(*l),
+        Some(l) => Ok(CoreItem::Memory(*l)),
         None => nothing(alloc),
     }
 }
 
-fn global_export(alloc: Heap, spaces: &Spaces<'_>, n: u32) -> CoreItem
-    ensures { result ≡ found (option_map global_item (slice_get spaces.now.globals.now n)) }
+fn global_export(alloc: Heap, spaces: &Spaces<'_>, n: u32) -> Result<CoreItem, NoMemory>
+    ensures { IfOk result (λ item. item ≡ found (option_map global_item (slice_get spaces.now.globals.now n))) }
 {
     match spaces.globals.get(n as usize) {
-        Some(g) => global_item(*g),
+        Some(g) => Ok(global_item(*g)),
         None => nothing(alloc),
     }
 }
@@ -100,23 +109,33 @@ fn global_export(alloc: Heap, spaces: &Spaces<'_>, n: u32) -> CoreItem
 fn export_item(
     alloc: Heap,
     spaces: &Spaces<'_>,
+    types: &mut SharedTypes<'_>,
     memories: &[Limits],
     item: ExportItem,
 ) -> Result<CoreItem, NoMemory>
-    ensures { IfOk result (λ ty. ty ≡ export_type (context_at spaces.now) memories.now item) }
+    requires { types.old ≡ spaces.now.types.now }
+    ensures same { types.new ≡ types.old }
+    ensures item { IfOk result (λ ty. ty ≡ export_type (context_at spaces.now) memories.now item) }
 {
     match item {
-        ExportItem::Func(n) => func_export(alloc, spaces, n),
-        ExportItem::Table(n) => Ok(table_export(alloc, spaces, n)),
-        ExportItem::Memory(n) => Ok(memory_export(alloc, memories, n)),
-        ExportItem::Global(n) => Ok(global_export(alloc, spaces, n)),
+        ExportItem::Func(n) => func_export(alloc, spaces, types, n),
+        ExportItem::Table(n) => table_export(alloc, spaces, n),
+        ExportItem::Memory(n) => memory_export(alloc, memories, n),
+        ExportItem::Global(n) => global_export(alloc, spaces, n),
     }
 }
 
-fn import_of(alloc: Heap, spaces: &Spaces<'_>, import: &Import) -> Result<CoreImport, NoMemory>
-    ensures { IfOk result (λ i. i ≡ core_import (context_at spaces.now) import.now) }
+fn import_of(
+    alloc: Heap,
+    spaces: &Spaces<'_>,
+    types: &mut SharedTypes<'_>,
+    import: &Import,
+) -> Result<CoreImport, NoMemory>
+    requires { types.old ≡ spaces.now.types.now }
+    ensures same { types.new ≡ types.old }
+    ensures value { IfOk result (λ i. i ≡ core_import (context_at spaces.now) import.now) }
 {
-    let item = import_item(alloc, spaces, import.item)?;
+    let item = import_item(alloc, spaces, types, import.item)?;
     let module = import.module.copy(alloc)?;
     let name = import.name.copy(alloc)?;
     Ok(CoreImport { module, name, item })
@@ -125,12 +144,15 @@ fn import_of(alloc: Heap, spaces: &Spaces<'_>, import: &Import) -> Result<CoreIm
 fn export_of(
     alloc: Heap,
     spaces: &Spaces<'_>,
+    types: &mut SharedTypes<'_>,
     memories: &[Limits],
     export: &Export,
 ) -> Result<CoreExport, NoMemory>
-    ensures { IfOk result (λ e. e ≡ core_export (context_at spaces.now) memories.now export.now) }
+    requires { types.old ≡ spaces.now.types.now }
+    ensures same { types.new ≡ types.old }
+    ensures value { IfOk result (λ e. e ≡ core_export (context_at spaces.now) memories.now export.now) }
 {
-    let item = export_item(alloc, spaces, memories, export.item)?;
+    let item = export_item(alloc, spaces, types, memories, export.item)?;
     let name = export.name.copy(alloc)?;
     Ok(CoreExport { name, item })
 }
@@ -143,9 +165,10 @@ pub fn import_types(
 ) -> Result<Vec<CoreImport>, NoMemory>
     ensures { IfOk result (λ list. list.items ≡ map (core_import (context_at spaces.now)) imports.now) }
 {
+    let mut types = SharedTypes::new(alloc, spaces.types);
     let mut list = Vec::new(alloc);
     for import in imports {
-        list.push(import_of(alloc, spaces, import)?)?;
+        list.push(import_of(alloc, spaces, &mut types, import)?)?;
     }
     Ok(list)
 }
@@ -159,9 +182,10 @@ pub fn export_types(
 ) -> Result<Vec<CoreExport>, NoMemory>
     ensures { IfOk result (λ list. list.items ≡ map (core_export (context_at spaces.now) memories.now) exports.now) }
 {
+    let mut types = SharedTypes::new(alloc, spaces.types);
     let mut list = Vec::new(alloc);
     for export in exports {
-        list.push(export_of(alloc, spaces, memories, export)?)?;
+        list.push(export_of(alloc, spaces, &mut types, memories, export)?)?;
     }
     Ok(list)
 }

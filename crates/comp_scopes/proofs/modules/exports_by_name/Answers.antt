@@ -9,7 +9,7 @@ use Rattle.comp_scopes.proofs.modules.exports_by_name.Goals as goal
 pub loop-export-preserved : goal.loop-export-preserved
 loop-export-preserved c = λ q.
     ap (option_or (core_look_up q c.pop.new.self.items))
-    (c.in_ok-put.ensures q ∙ ap (λ i. if same_text c.in-Some.export.name q then Some i else found c.loop-export.map q) c.in_ok-item.ensures)
+    (c.in_ok-put.ensures q ∙ ap (λ i. if same_text c.in-Some.export.name q then Some i else found c.loop-export.map q) c.new-item.ensures)
     ∙ (sym (look_last q c.pop.new.self.items c.in-Some.export (found c.loop-export.map q))
     ∙ (ap (λ xs. option_or (core_look_up q xs) (found c.loop-export.map q)) (sym c.in-Some.ensures.items)
     ∙ c.loop-export.invariant q))
