@@ -63,7 +63,7 @@ fn functions_are_sound(alloc: Global, scope: &Scope, def: &TypeDef) -> Result<bo
 {
     match def {
         TypeDef::Func { params, result } => {
-            func_is_sound(alloc, scope, params.as_slice(), *result)
+            func_is_sound(alloc, scope, params.as_slice(), result.get())
         }
         TypeDef::Primitive(_) => Ok(true),
         TypeDef::Record { fields: _ } => Ok(true),

@@ -91,10 +91,10 @@ pub fn def_has_values(scope: &Scope, def: &TypeDef) -> bool
         TypeDef::Tuple { types } => values_are_due(scope, types.as_slice()),
         TypeDef::Option(item) => value_is_due(scope, *item),
         TypeDef::Result { ok, err } => {
-            some_value_is_due(scope, *ok) && some_value_is_due(scope, *err)
+            some_value_is_due(scope, ok.get()) && some_value_is_due(scope, err.get())
         }
         TypeDef::Func { params, result } => {
-            labels_are_due(scope, params.as_slice()) && some_value_is_due(scope, *result)
+            labels_are_due(scope, params.as_slice()) && some_value_is_due(scope, result.get())
         }
         TypeDef::Primitive(_) => true,
         TypeDef::Flags { labels: _ } => true,

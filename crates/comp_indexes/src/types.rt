@@ -68,12 +68,12 @@ pub fn def_stands(lengths: &Lengths, def: &TypeDef) -> bool
         TypeDef::Tuple { types } => values_stand(lengths, types.as_slice()),
         TypeDef::Option(item) => value_stands(lengths, *item),
         TypeDef::Result { ok, err } => {
-            some_value_stands(lengths, *ok) && some_value_stands(lengths, *err)
+            some_value_stands(lengths, ok.get()) && some_value_stands(lengths, err.get())
         }
         TypeDef::Own(index) => is_below(*index, lengths.types),
         TypeDef::Borrow(index) => is_below(*index, lengths.types),
         TypeDef::Func { params, result } => {
-            labels_stand(lengths, params.as_slice()) && some_value_stands(lengths, *result)
+            labels_stand(lengths, params.as_slice()) && some_value_stands(lengths, result.get())
         }
         TypeDef::Resource { destructor } => destructor_stands(lengths, *destructor),
         TypeDef::Primitive(_) => true,

@@ -2,6 +2,7 @@
 #![tactic(auto)]
 
 mod aliases;
+mod aparts;
 mod canons;
 mod core_instances;
 mod due;

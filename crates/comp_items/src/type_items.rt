@@ -5,6 +5,7 @@ ghost use Rattle.wasm_format.specs.Reads.{Reads};
 ghost use Rattle.comp_grammar.specs.Types.{declarations_in};
 ghost use Rattle.comp_grammar.specs.TypeSections.{type_alias, definition, declaration, declarations_of, after_item, type_walk, type_items};
 
+use crate::aparts::Aparts;
 use crate::due::Due;
 use crate::externs::{DescReader, ExternNames, lacks};
 use crate::types::TypeDefReader;
@@ -29,7 +30,7 @@ impl Reader for TypeAliasReader {
             None => Err(Stop::Malformed),
             Some(0) => {
                 let instance = U32.read(alloc, c)?;
-                let name = Names.read(alloc, c)?;
+                let name = Aparts(Names).read(alloc, c)?;
                 Ok(TypeAlias::Export { instance, name })
             }
             Some(2) => {
@@ -62,7 +63,7 @@ fn declaration(alloc: Global, c: &mut Cursor<'_>) -> Result<TypeItem, Stop>
         Some(1) => Ok(TypeItem::Define(TypeDefReader.read(alloc, c)?)),
         Some(2) => Ok(TypeItem::Alias(TypeAliasReader.read(alloc, c)?)),
         Some(4) => {
-            let name = ExternNames.read(alloc, c)?;
+            let name = Aparts(ExternNames).read(alloc, c)?;
             let desc = DescReader.read(alloc, c)?;
             Ok(TypeItem::Export { name, desc })
         }

@@ -4,10 +4,11 @@ ghost use Rattle.wasm_format.specs.Format.{Format};
 ghost use Rattle.wasm_format.specs.Reads.{Reads};
 ghost use Rattle.comp_grammar.specs.Types.{primitive_of, primitive_type, indexed_type, val_type, maybe_type, label_type, case_type, func_result, destructor, aggregate_def, other_def, type_def};
 
+use crate::aparts::Aparts;
 use crate::externs::lacks;
 use std::alloc::Global;
 use virt_base::{Cursor, next_byte};
-use wasm_ast::{Apart, CaseType, LabelType, Primitive, TypeDef, ValType};
+use wasm_ast::{CaseType, LabelType, MaybeType, Primitive, TypeDef, ValType};
 use wasm_format::{Names, Reader, S33Index, Stop, U32, Vecs, expect_tag, next_is_tag};
 
 /// The primitive type of a tag that was taken.
@@ -179,20 +180,20 @@ fn aggregate_def(alloc: Global, c: &mut Cursor<'_>, byte: u8) -> Result<TypeDef,
 {
     match byte {
         0x72 => Ok(TypeDef::Record {
-            fields: Vecs(LabelTypeReader).read(alloc, c)?,
+            fields: Aparts(Vecs(LabelTypeReader)).read(alloc, c)?,
         }),
         0x71 => Ok(TypeDef::Variant {
-            cases: Vecs(CaseTypeReader).read(alloc, c)?,
+            cases: Aparts(Vecs(CaseTypeReader)).read(alloc, c)?,
         }),
         0x70 => Ok(TypeDef::List(ValTypeReader.read(alloc, c)?)),
         0x6F => Ok(TypeDef::Tuple {
-            types: Vecs(ValTypeReader).read(alloc, c)?,
+            types: Aparts(Vecs(ValTypeReader)).read(alloc, c)?,
         }),
         0x6E => Ok(TypeDef::Flags {
-            labels: Vecs(Names).read(alloc, c)?,
+            labels: Aparts(Vecs(Names)).read(alloc, c)?,
         }),
         0x6D => Ok(TypeDef::Enum {
-            labels: Vecs(Names).read(alloc, c)?,
+            labels: Aparts(Vecs(Names)).read(alloc, c)?,
         }),
         _ => Err(lacks(c, byte)),
     }
@@ -208,15 +209,15 @@ fn other_def(alloc: Global, c: &mut Cursor<'_>, byte: u8) -> Result<TypeDef, Sto
     match byte {
         0x6B => Ok(TypeDef::Option(ValTypeReader.read(alloc, c)?)),
         0x6A => {
-            let ok = MaybeTypeReader.read(alloc, c)?;
-            let err = MaybeTypeReader.read(alloc, c)?;
+            let ok = MaybeType::new(MaybeTypeReader.read(alloc, c)?);
+            let err = MaybeType::new(MaybeTypeReader.read(alloc, c)?);
             Ok(TypeDef::Result { ok, err })
         }
         0x69 => Ok(TypeDef::Own(U32.read(alloc, c)?)),
         0x68 => Ok(TypeDef::Borrow(U32.read(alloc, c)?)),
         0x40 => {
-            let params = Apart::new(alloc, Vecs(LabelTypeReader).read(alloc, c)?)?;
-            let result = FuncResultReader.read(alloc, c)?;
+            let params = Aparts(Vecs(LabelTypeReader)).read(alloc, c)?;
+            let result = MaybeType::new(FuncResultReader.read(alloc, c)?);
             Ok(TypeDef::Func { params, result })
         }
         0x42 => Ok(TypeDef::Instance {

@@ -211,11 +211,14 @@ pub fn kind_of(alloc: Global, scope: &Scope, def: &TypeDef) -> Result<TypeItem, 
         TypeDef::Flags { labels } => value_kind(alloc, flags_of(alloc, labels.as_slice())?),
         TypeDef::Enum { labels } => value_kind(alloc, enum_of(alloc, labels.as_slice())?),
         TypeDef::Option(item) => value_kind(alloc, option_at(alloc, scope, *item)?),
-        TypeDef::Result { ok, err } => value_kind(alloc, result_at(alloc, scope, *ok, *err)?),
+        TypeDef::Result { ok, err } => value_kind(
+            alloc,
+            result_at(alloc, scope, ok.get(), err.get())?,
+        ),
         TypeDef::Own(index) => value_kind(alloc, own_at(scope, *index)),
         TypeDef::Borrow(index) => value_kind(alloc, borrow_at(scope, *index)),
         TypeDef::Func { params, result } => {
-            let func = func_at(alloc, scope, params.as_slice(), *result)?;
+            let func = func_at(alloc, scope, params.as_slice(), result.get())?;
             Ok(TypeItem::Func(shared(alloc, func)?))
         }
         TypeDef::Instance { declarations: _ } => no_instance(alloc),

@@ -203,8 +203,8 @@ impl Writer for TypeDefWriter {
             }
             TypeDef::Result { ok, err } => {
                 put_byte(alloc, out, 0x6A)?;
-                MaybeTypeWriter.write(alloc, out, ok)?;
-                MaybeTypeWriter.write(alloc, out, err)
+                MaybeTypeWriter.write(alloc, out, &ok.get())?;
+                MaybeTypeWriter.write(alloc, out, &err.get())
             }
             TypeDef::Own(ty) => {
                 put_byte(alloc, out, 0x69)?;
@@ -217,7 +217,7 @@ impl Writer for TypeDefWriter {
             TypeDef::Func { params, result } => {
                 put_byte(alloc, out, 0x40)?;
                 Vecs(LabelTypeWriter).write(alloc, out, params)?;
-                FuncResultWriter.write(alloc, out, result)
+                FuncResultWriter.write(alloc, out, &result.get())
             }
             TypeDef::Instance { declarations } => {
                 put_byte(alloc, out, 0x42)?;

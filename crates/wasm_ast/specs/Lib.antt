@@ -5,5 +5,6 @@ pub mod Types
 pub mod Instructions
 pub mod Expressions
 pub mod ConstExprs
+pub mod MaybeTypes
 pub mod Items
 pub mod Modules

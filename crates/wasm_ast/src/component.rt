@@ -1,5 +1,6 @@
 use crate::apart::Apart;
 use crate::boxed::Boxed;
+use crate::maybe_type::MaybeType;
 use crate::module::Module;
 use virt_base::{Items, Text};
 
@@ -140,36 +141,36 @@ pub struct CaseType {
 /// Labels in order.
 pub type Labels = Items<Text>;
 
-/// A type's definition (Component Model, Binary.md, "Type Definitions").
+/// A type's definition (Component Model, Binary.md, "Type Definitions"). Its lists lie apart, so that one without parts is small.
 #[derive(Debug, Drop)]
 pub enum TypeDef {
     Primitive(Primitive),
     Record {
-        fields: Items<LabelType>,
+        fields: Apart<Items<LabelType>>,
     },
     Variant {
-        cases: Items<CaseType>,
+        cases: Apart<Items<CaseType>>,
     },
     List(ValType),
     Tuple {
-        types: Items<ValType>,
+        types: Apart<Items<ValType>>,
     },
     Flags {
-        labels: Labels,
+        labels: Apart<Labels>,
     },
     Enum {
-        labels: Labels,
+        labels: Apart<Labels>,
     },
     Option(ValType),
     Result {
-        ok: Option<ValType>,
-        err: Option<ValType>,
+        ok: MaybeType,
+        err: MaybeType,
     },
     Own(u32),
     Borrow(u32),
     Func {
         params: Apart<Items<LabelType>>,
-        result: Option<ValType>,
+        result: MaybeType,
     },
     /// An instance type, whose so many declarations follow in the list.
     Instance {
@@ -192,7 +193,7 @@ pub enum ExternDesc {
 /// What an alias in an instance type names.
 #[derive(Debug, Drop)]
 pub enum TypeAlias {
-    Export { instance: u32, name: Text },
+    Export { instance: u32, name: Apart<Text> },
     Outer { count: u32, index: u32 },
 }
 
@@ -205,7 +206,7 @@ pub enum TypeItem {
     /// An alias that an instance type declares.
     Alias(TypeAlias),
     /// An export that an instance type declares.
-    Export { name: Text, desc: ExternDesc },
+    Export { name: Apart<Text>, desc: ExternDesc },
 }
 
 /// An option of a canonical function.

@@ -6,6 +6,7 @@ mod boxed;
 mod component;
 mod const_expr;
 mod instr;
+mod maybe_type;
 mod module;
 mod numeric;
 mod section;
@@ -19,6 +20,7 @@ pub use component::{
 };
 pub use const_expr::ConstExpr;
 pub use instr::{BlockType, BranchTable, Instr, Instrs, LoadOp, MemArg, Op, RefType, StoreOp};
+pub use maybe_type::MaybeType;
 pub use module::{
     Body, CoreFunc, Data, Elements, Export, ExportItem, Exprs, Global, GlobalType, Import,
     ImportItem, Indexes, Limits, LocalRun, Module, TableType,

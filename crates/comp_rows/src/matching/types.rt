@@ -8,7 +8,7 @@ use comp_types::{ItemType, KnownValue, TypeItem};
 use std::alloc::Global;
 use std::test::Fail;
 use virt_base::{Items, Text};
-use wasm_ast::{Apart, CaseType, LabelType, Labels, Primitive, TypeDef, ValType};
+use wasm_ast::{Apart, CaseType, LabelType, Labels, MaybeType, Primitive, TypeDef, ValType};
 
 /// The types that were read so far.
 #[derive(Drop)]
@@ -133,19 +133,19 @@ impl Types {
             "own" => TypeDef::Own(self.resource(rest)?),
             "borrow" => TypeDef::Borrow(self.resource(rest)?),
             "tuple" => TypeDef::Tuple {
-                types: tuple(alloc, number(rest)?, stack)?,
+                types: Apart::new(alloc, tuple(alloc, number(rest)?, stack)?)?,
             },
             "enum" => TypeDef::Enum {
-                labels: labels(alloc, rest)?,
+                labels: Apart::new(alloc, labels(alloc, rest)?)?,
             },
             "flags" => TypeDef::Flags {
-                labels: labels(alloc, rest)?,
+                labels: Apart::new(alloc, labels(alloc, rest)?)?,
             },
             "record" => TypeDef::Record {
-                fields: fields(alloc, rest, stack)?,
+                fields: Apart::new(alloc, fields(alloc, rest, stack)?)?,
             },
             "variant" => TypeDef::Variant {
-                cases: cases(alloc, rest, stack)?,
+                cases: Apart::new(alloc, cases(alloc, rest, stack)?)?,
             },
             _ => return Err(Fail::from("an unknown form")),
         };
@@ -169,8 +169,8 @@ impl Types {
             "list" => self.define(alloc, &TypeDef::List(first_value(stack)?)),
             "option" => self.define(alloc, &TypeDef::Option(first_value(stack)?)),
             "result" => {
-                let ok = first(stack)?;
-                let err = first(stack)?;
+                let ok = MaybeType::new(first(stack)?);
+                let err = MaybeType::new(first(stack)?);
                 self.define(alloc, &TypeDef::Result { ok, err })
             }
             _ => Err(Fail::from("an unknown word")),
@@ -214,7 +214,7 @@ impl Types {
         }
         let params = Apart::new(alloc, params)?;
         let mut answer = self.stack(alloc, behind)?;
-        let result = first(&mut answer)?;
+        let result = MaybeType::new(first(&mut answer)?);
         let kind = kind_of(alloc, &self.scope, &TypeDef::Func { params, result })?;
         Ok(kind)
     }
