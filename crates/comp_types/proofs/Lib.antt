@@ -2,6 +2,7 @@ pub mod EntryLemmas
 pub mod PlaceLemmas
 pub mod PairLemmas
 pub mod ValueLemmas
+pub mod Primitives
 pub mod Only
 pub mod MeetLaws
 pub mod ValueLaws

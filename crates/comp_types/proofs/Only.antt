@@ -3,18 +3,27 @@ use Rattle.std.proofs.Common.{◌≡◌, ℕ, refl, Option, Some, None, Global, 
 use Rattle.std.specs.declared.rc.Rc.{Rc}
 use Rattle.virt_base.specs.declared.items.Items.{Items}
 use Rattle.virt_base.specs.declared.text.Text.{Text}
+use Rattle.wit_types.specs.declared.types.Types.{Types}
 use Rattle.wit_types.specs.declared.types.Fields.{Fields, Fields'}
 use Rattle.wit_types.specs.declared.types.Cases.{Cases, Cases'}
 use Rattle.wit_types.specs.declared.types.WitType.{WitType, None', Some'}
-use Rattle.wit_types.specs.declared.types.WitType.TheVariants.{Record, Record', Variant, Variant', List, List', Flags, Enum, Option as Optional, Option', Result, Result', Own, Borrow}
-use Rattle.wit_types.specs.Plain.{Name, AsRecord, AsVariant, AsEnum, AsOption, AsResult, Plain, Parts, ListType, RecordType, VariantType, FlagsType, OwnType, BorrowType, plain}
+use Rattle.wit_types.specs.declared.types.WitType.TheVariants.{Record, Record', Tuple, Tuple', Variant, Variant', List, List', Flags, Enum, Option as Optional, Option', Result, Result', Own, Borrow}
+use Rattle.wit_types.specs.Plain.{Name, AsRecord, AsTuple, AsVariant, AsEnum, AsOption, AsResult, Plain, Parts, ListType, RecordType, VariantType, FlagsType, OwnType, BorrowType, plain}
 use Rattle.comp_types.specs.Matching.{Pairs, matched_value}
+use Rattle.comp_types.proofs.Primitives.{not_tuple}
 
 pub only-Record : (m : Pairs) (ps : Parts) (t : WitType) → ((x : Rc Fields Global) → t ≡ Record x → ⊥) → matched_value m (RecordType AsRecord ps) (plain t) ≡ None
 unfolding plain
 only-Record m ps (Record' q u) h = absurd (h (record { ptr = q.ptr; value = u }) refl)
 only-Record m ps (Variant' x (Cases' s r)) h = refl
 only-Record m ps _ h = refl
+
+pub only-Tuple : (m : Pairs) (ps : Parts) (t : WitType) → ((x : Rc Types Global) → t ≡ Tuple x → ⊥) → matched_value m (RecordType AsTuple ps) (plain t) ≡ None
+unfolding plain
+only-Tuple m ps (Tuple' q s u) h = absurd (not_tuple q s u h)
+only-Tuple m ps (Record' x (Fields' s r)) h = refl
+only-Tuple m ps (Variant' x (Cases' s r)) h = refl
+only-Tuple m ps _ h = refl
 
 pub only-Variant : (m : Pairs) (ps : Parts) (t : WitType) → ((x : Rc Cases Global) → t ≡ Variant x → ⊥) → matched_value m (VariantType AsVariant ps) (plain t) ≡ None
 unfolding plain
@@ -74,4 +83,4 @@ only-Result m ps (Record' x (Fields' s r)) h = refl
 only-Result m ps (Variant' x (Cases' s r)) h = refl
 only-Result m ps _ h = refl
 
-pub ruleset only = (only-Record, only-Variant, only-List, only-Option, only-Flags, only-Enum, only-Own, only-Borrow, only-Result)
+pub ruleset only = (only-Record, only-Tuple, only-Variant, only-List, only-Option, only-Flags, only-Enum, only-Own, only-Borrow, only-Result)

@@ -73,9 +73,6 @@ fn value_with(alloc: Global, ty: &WitType, by: &Substitution) -> Result<WitType,
     ensures { IfOk result (λ new. plain new ≡ value_with (partner_in by.now) (plain ty.now)) }
 {
     match ty {
-        WitType::Bool | WitType::Char | WitType::Str => copy_type(alloc, ty),
-        WitType::S8 | WitType::U8 | WitType::S16 | WitType::U16 => copy_type(alloc, ty),
-        WitType::S32 | WitType::U32 | WitType::S64 | WitType::U64 => copy_type(alloc, ty),
         WitType::Flags(labels) => Ok(WitType::Flags(labels.clone()?)),
         WitType::Enum(labels) => Ok(WitType::Enum(labels.clone()?)),
         WitType::Record(fields) => {
@@ -99,6 +96,7 @@ fn value_with(alloc: Global, ty: &WitType, by: &Substitution) -> Result<WitType,
         }
         WitType::Own(resource) => Ok(WitType::Own(by.partner(*resource))),
         WitType::Borrow(resource) => Ok(WitType::Borrow(by.partner(*resource))),
+        _ => copy_type(alloc, ty),
     }
 }
 

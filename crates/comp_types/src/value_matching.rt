@@ -123,26 +123,7 @@ fn match_tuple(by: &mut Substitution, a: &[WitType], b: &WitType) -> Result<bool
             let same = match_types(by, a, &b.items)?;
             Ok(same)
         }
-        WitType::Bool
-        | WitType::S8
-        | WitType::U8
-        | WitType::S16
-        | WitType::U16
-        | WitType::S32
-        | WitType::U32
-        | WitType::S64
-        | WitType::U64
-        | WitType::Char
-        | WitType::Str
-        | WitType::Record(_)
-        | WitType::Variant(_)
-        | WitType::List(_)
-        | WitType::Flags(_)
-        | WitType::Enum(_)
-        | WitType::Option(_)
-        | WitType::Result(_, _)
-        | WitType::Own(_)
-        | WitType::Borrow(_) => Ok(false),
+        _ => Ok(false),
     }
 }
 
@@ -243,16 +224,7 @@ fn primitive_number(ty: &WitType) -> u32
         WitType::U64 => 9,
         WitType::Char => 10,
         WitType::Str => 11,
-        WitType::Record(_) => 0,
-        WitType::Tuple(_) => 0,
-        WitType::Variant(_) => 0,
-        WitType::List(_) => 0,
-        WitType::Flags(_) => 0,
-        WitType::Enum(_) => 0,
-        WitType::Option(_) => 0,
-        WitType::Result(_, _) => 0,
-        WitType::Own(_) => 0,
-        WitType::Borrow(_) => 0,
+        _ => 0,
     }
 }
 
@@ -269,9 +241,6 @@ pub fn match_value(by: &mut Substitution, a: &WitType, b: &WitType) -> Result<bo
     ensures { IfOk result (λ same. GoesOn same by.new (matched_value by.old (plain a.now) (plain b.now))) }
 {
     match a {
-        WitType::Bool | WitType::Char | WitType::Str => Ok(same_primitive(a, b)),
-        WitType::S8 | WitType::U8 | WitType::S16 | WitType::U16 => Ok(same_primitive(a, b)),
-        WitType::S32 | WitType::U32 | WitType::S64 | WitType::U64 => Ok(same_primitive(a, b)),
         WitType::Flags(labels) => Ok(same_flags(labels.as_slice(), b)),
         WitType::Enum(labels) => Ok(same_enum(labels.as_slice(), b)),
         WitType::Record(a) => {
@@ -312,5 +281,6 @@ pub fn match_value(by: &mut Substitution, a: &WitType, b: &WitType) -> Result<bo
             let same = match_borrow(by, *x, b)?;
             Ok(same)
         }
+        _ => Ok(same_primitive(a, b)),
     }
 }

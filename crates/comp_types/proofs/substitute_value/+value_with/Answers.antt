@@ -6,6 +6,7 @@ use Rattle.wit_types.specs.declared.types.Fields.{out-roll-Fields}
 use Rattle.wit_types.specs.declared.types.Cases.{out-roll-Cases}
 use Rattle.comp_types.specs.Substitution.{partner_in, parts_with}
 use Rattle.comp_types.proofs.WithLemmas.{types_with-push, fields_with-push, cases_with-push}
+use Rattle.comp_types.proofs.Primitives.{kept_primitive}
 use Rattle.comp_types.proofs.substitute_value.+value_with.Goals as goal
 
 pub types_with-loop-ty-preserved : goal.types_with-loop-ty-preserved
@@ -46,3 +47,8 @@ cases_with-loop-case-preserved t c =
 
 pub cases_with-returns : goal.cases_with-returns
 cases_with-returns t c = rw out-roll-Cases (grind (arith, common_steps))
+
+pub value_with-returns-in_default : goal.value_with-returns-in_default
+value_with-returns-in_default t c =
+    kept_primitive (partner_in c.args.by.now) c.copy_type.result c.args.ty.now c.in_default.not-Record c.in_default.not-Tuple c.in_default.not-Variant c.in_default.not-List c.in_default.not-Flags c.in_default.not-Enum c.in_default.not-Option c.in_default.not-Result c.in_default.not-Own c.in_default.not-Borrow
+    c.copy_type.ensures

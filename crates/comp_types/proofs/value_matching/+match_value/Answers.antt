@@ -2,6 +2,7 @@ use Rattle.std.proofs.Common.{◌∙◌, sym, []}
 use Rattle.wit_types.specs.Plain.{Bare, More, End, plain}
 use Rattle.comp_types.proofs.ValueLemmas.{cases_step, step_goes, result_goes}
 use Rattle.comp_types.proofs.Only.{only-Option}
+use Rattle.comp_types.proofs.Primitives.{is_primitive}
 use Rattle.comp_types.proofs.value_matching.+match_value.Goals as goal
 
 pub match_option-returns-in_default : goal.match_option-returns-in_default
@@ -18,3 +19,7 @@ match_cases-loop-i-preserved t c = (
 pub match_value-returns-in_ok-same-in-Result : goal.match_value-returns-in_ok-same-in-Result
 match_value-returns-in_ok-same-in-Result t c =
     result_goes _ _ _ _ _ _ _ _ _ _ _ c.in-Result.is c.in-Result-b.is c.in_ok-match_payload-in-Result.ensures c.if-not-branch.false c.in_ok-same-in-Result.ensures
+
+pub match_value-returns-in_default : goal.match_value-returns-in_default
+match_value-returns-in_default t c =
+    c.same_primitive.ensures _ (is_primitive _ c.in_default.not-Record c.in_default.not-Tuple c.in_default.not-Variant c.in_default.not-List c.in_default.not-Flags c.in_default.not-Enum c.in_default.not-Option c.in_default.not-Result c.in_default.not-Own c.in_default.not-Borrow)
