@@ -2,3 +2,4 @@ pub mod SameLemmas
 pub mod AlikeLemmas
 pub mod IndexLemmas
 pub mod StandLemmas
+pub mod Only

@@ -17,26 +17,7 @@ fn is_own_of(ty: &WitType, resource: u32) -> bool
 {
     match ty {
         WitType::Own(owned) => *owned == resource,
-        WitType::Borrow(_)
-        | WitType::Bool
-        | WitType::S8
-        | WitType::U8
-        | WitType::S16
-        | WitType::U16
-        | WitType::S32
-        | WitType::U32
-        | WitType::S64
-        | WitType::U64
-        | WitType::Char
-        | WitType::Str
-        | WitType::Record(_)
-        | WitType::Tuple(_)
-        | WitType::Variant(_)
-        | WitType::List(_)
-        | WitType::Flags(_)
-        | WitType::Enum(_)
-        | WitType::Option(_)
-        | WitType::Result(_, _) => false,
+        _ => false,
     }
 }
 
@@ -45,26 +26,7 @@ fn is_borrow_of(ty: &WitType, resource: u32) -> bool
 {
     match ty {
         WitType::Borrow(borrowed) => *borrowed == resource,
-        WitType::Own(_)
-        | WitType::Bool
-        | WitType::S8
-        | WitType::U8
-        | WitType::S16
-        | WitType::U16
-        | WitType::S32
-        | WitType::U32
-        | WitType::S64
-        | WitType::U64
-        | WitType::Char
-        | WitType::Str
-        | WitType::Record(_)
-        | WitType::Tuple(_)
-        | WitType::Variant(_)
-        | WitType::List(_)
-        | WitType::Flags(_)
-        | WitType::Enum(_)
-        | WitType::Option(_)
-        | WitType::Result(_, _) => false,
+        _ => false,
     }
 }
 
