@@ -4,11 +4,13 @@ pub mod Steps
 pub mod Complete
 pub mod StackLemmas
 pub mod NameLemmas
+pub mod NumberLemmas
 pub mod PieceLemmas
 pub mod PlaceLemmas
 pub mod LevelLemmas
 pub mod ConditionLemmas
 pub mod RunLemmas
 pub mod TableLemmas
+pub mod FittingLemmas
 pub mod CodeLemmas
 pub mod PromiseLemmas

@@ -113,9 +113,9 @@ front-parts l held n k e h =
     ∙ ap (λ x. operands (drop k held) ++ operands x) (ap (take k) e ∙ front-less l n k (omega arith))
 
 -- a piece that is known to be the types due
-pub meet-same : (c : Context) (run due : Run) (part : Piece) → run ≡ due → piece_of c part ≡ [] → Meet c (Many run) due part (record { of = due.of; len = 0 })
+pub meet-same : (c : Context) (run due : Run) (part : Piece) → front c run ≡ front c due → piece_of c part ≡ [] → Meet c (Many run) due part (record { of = due.of; len = 0 })
 meet-same c run due part e empty = record {
-  same = λ dead os. ap (λ r. pops dead (run_of c r ++ os) (run_of c due)) e ∙ pops-whole dead (run_of c due) os
+  same = λ dead os. ap (λ r. pops dead (operands r ++ os) (run_of c due)) e ∙ pops-whole dead (run_of c due) os
       ∙ ap (pops dead os) (sym (operands-zero (listed c due.of)))
       ∙ ap (λ x. pops dead (x ++ os) (operands (take 0 (listed c due.of)))) (sym empty);
   within = omega arith;

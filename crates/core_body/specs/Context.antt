@@ -1,5 +1,5 @@
 -- What code may name (WebAssembly Core 2.0, section 3.1.1).
-use Rattle.std.specs.Prelude.{ℕ, Bool, Option, Some, List, [], ◌∷◌, slice_get}
+use Rattle.std.specs.Prelude.{ℕ, Bool, Option, Some, List, [], ◌∷◌, slice_get, unwrap_or}
 use Rattle.std.specs.Option.{option_and_then}
 use Rattle.virt_base.specs.declared.core_type.CoreType.{CoreType}
 use Rattle.wasm_ast.specs.declared.module.CoreFunc.{CoreFunc}
@@ -36,6 +36,10 @@ arrow params results = record { params = params; results = results }
 
 abbrev pub function_type : Context → ℕ → Option CoreFunc
 function_type c n = option_and_then (λ t. slice_get c.types t) (slice_get c.functions n)
+
+-- the type at an index, if there is one; else that which takes and leaves nothing
+abbrev pub type_or_empty : List CoreFunc → Option ℕ → CoreFunc
+type_or_empty types n = unwrap_or (option_and_then (λ t. slice_get types t) n) (arrow [] [])
 
 -- block types (section 3.2.2)
 abbrev pub block_type : Context → BlockType → Option CoreFunc

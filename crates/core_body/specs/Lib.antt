@@ -9,8 +9,10 @@ pub mod Signatures
 pub mod Machine
 pub mod Views
 pub mod Sources
+pub mod Numbers
 pub mod Pieces
 pub mod Levels
 pub mod Stack
+pub mod Fitting
 pub mod Faults
 pub mod Promise

@@ -4,7 +4,7 @@ use Rattle.virt_base.specs.declared.core_type.CoreType.{CoreType}
 use Rattle.wasm_ast.specs.declared.module.CoreFunc.{CoreFunc}
 use Rattle.core_body.specs.declared.operand.Operand.{Operand}
 use Rattle.core_body.specs.declared.source.Source.{Source}
-use Rattle.core_body.specs.declared.source.Source.TheVariants.{Nothing, Only, Params, Results, Due}
+use Rattle.core_body.specs.declared.source.Source.TheVariants.{Nothing, Only, Params, Results}
 use Rattle.core_body.specs.declared.source.Run.{Run}
 use Rattle.core_body.specs.Context.{Context}
 use Rattle.core_body.specs.Typing.{operands}
@@ -18,12 +18,14 @@ results_in None = []
 results_in (Some f) = f.results
 
 -- the list that a source names, which is empty where its type is not there
+abbrev pub listed_in : List CoreFunc → Source → List CoreType
+listed_in types Nothing = []
+listed_in types (Only t) = t ∷ []
+listed_in types (Params n) = params_in (slice_get types n)
+listed_in types (Results n) = results_in (slice_get types n)
+
 abbrev pub listed : Context → Source → List CoreType
-listed c Nothing = []
-listed c (Only t) = t ∷ []
-listed c (Params n) = params_in (slice_get c.types n)
-listed c (Results n) = results_in (slice_get c.types n)
-listed c Due = c.due
+listed c s = listed_in c.types s
 
 -- its operands, the last on top
 abbrev pub spelled : Context → Source → List Operand

@@ -4,6 +4,7 @@ use Rattle.virt_base.specs.declared.core_type.CoreType.{CoreType}
 use Rattle.core_body.specs.declared.spaces.Spaces.{Spaces}
 use Rattle.core_body.specs.declared.spaces.Scope.{Scope}
 use Rattle.core_body.specs.Context.{Context}
+use Rattle.core_body.specs.Sources.{listed_in}
 
 -- the context of a function's body, and of a constant expression
 abbrev pub in_body : Context → List CoreType → List CoreType → Context
@@ -30,4 +31,6 @@ context_at s = record {
 }
 
 abbrev pub context_of : Scope → Context
-context_of s = record (context_at s.spaces) { locals = s.locals; results = (if s.in_body then Some s.due.now else None); due = s.due.now }
+context_of s =
+    let due = listed_in s.spaces.types.now s.due in
+    record (context_at s.spaces) { locals = s.locals; results = (if s.in_body then Some due else None); due = due }

@@ -1,8 +1,10 @@
 //! One pass over code, which finds the least rule that it breaks.
 
-ghost use Rattle.std.specs.Prelude.{◌≡◌, ◌++◌, IfOk, Some, None, if◌then◌else◌, nat_le, sum_by};
+ghost use Rattle.std.specs.Prelude.{◌≡◌, ◌++◌, IfOk, Some, None, if◌then◌else◌, nat_le, sum_by, List};
 ghost use Rattle.core_body.specs.Faults.{with_types, first_labels, code_fault, body_fault, expression_fault};
-ghost use Rattle.core_body.specs.Context.{Context};
+ghost use Rattle.core_body.specs.Context.{Context, type_or_empty};
+ghost use Rattle.core_body.specs.Sources.{listed_in};
+ghost use Rattle.wasm_ast.specs.declared.module.CoreFunc.{CoreFunc};
 ghost use Rattle.core_body.specs.Levels.{state_at};
 ghost use Rattle.core_body.specs.Machine.{is_finished};
 ghost use Rattle.core_body.specs.declared.levels.Progress.{Progress};
@@ -11,7 +13,8 @@ ghost use Rattle.core_body.specs.Views.{context_of, context_at};
 use crate::conditions::{breach, labels_behind, lesser};
 use crate::levels::Verdict;
 use crate::locals::Locals;
-use crate::spaces::{Scope, Spaces, only};
+use crate::source::{Named, Source};
+use crate::spaces::{Scope, Spaces};
 use crate::step::{advance, begin};
 use std::alloc::Global;
 use virt_base::{CoreType, NoMemory};
@@ -49,7 +52,7 @@ fn check_code(alloc: Global, scope: &Scope<'_>, code: &[Instr]) -> Result<Option
     for instr in code {
         rule = lesser(rule, breach(scope, labels, instr));
         labels = labels_behind(labels, instr);
-        verdict = advance(scope, &mut p, verdict, instr)?;
+        verdict = advance(scope, alloc, &mut p, verdict, instr)?;
     }
     Ok(with_types(rule, is_over(verdict)))
 }
@@ -68,22 +71,40 @@ fn few_locals(runs: &[LocalRun]) -> Option<u32>
     None
 }
 
-/// The least rule that the body of a function with these parameters and results breaks.
+/// The names of the lists of a body's type, which is that at an index, or takes and leaves nothing.
+fn body_named(ty: Option<u32>) -> Named
+    ensures params { (types : List CoreFunc) → listed_in types result.params ≡ (type_or_empty types ty).params }
+    ensures results { (types : List CoreFunc) → listed_in types result.results ≡ (type_or_empty types ty).results }
+{
+    match ty {
+        Some(n) => Named {
+            params: Source::Params(n),
+            results: Source::Results(n),
+        },
+        None => Named {
+            params: Source::Nothing,
+            results: Source::Nothing,
+        },
+    }
+}
+
+/// The least rule that the body of a function of the type at an index breaks. Where there is no index, or no type at
+/// it, the function takes and leaves nothing.
 pub fn check_body(
     alloc: Global,
     spaces: &Spaces<'_>,
-    params: &[CoreType],
-    results: &[CoreType],
+    ty: Option<u32>,
     body: &Body,
 ) -> Result<Option<u32>, NoMemory>
-    ensures { IfOk result (λ rule. rule ≡ body_fault (context_at spaces.now) params.now results.now body.now) }
+    ensures { IfOk result (λ rule. rule ≡ body_fault (context_at spaces.now) (type_or_empty spaces.now.types.now ty).params (type_or_empty spaces.now.types.now ty).results body.now) }
 {
-    let locals = Locals::new(alloc, params, body.locals.as_slice())?;
+    let named = body_named(ty);
+    let locals = Locals::new(alloc, spaces.listed(named.params), body.locals.as_slice())?;
     let scope = Scope {
         spaces: *spaces,
         locals,
         in_body: true,
-        due: results,
+        due: named.results,
     };
     let rule = check_code(alloc, &scope, body.code.as_slice())?;
     Ok(lesser(few_locals(body.locals.as_slice()), rule))
@@ -102,7 +123,7 @@ pub fn check_expression(
         spaces: *spaces,
         locals: Locals::none(alloc),
         in_body: false,
-        due: only(due),
+        due: Source::Only(due),
     };
     check_code(alloc, &scope, code)
 }

@@ -7,7 +7,7 @@ ghost use Rattle.core_body.specs.Pieces.{run_of, piece_of, NeverMeet, Meet};
 ghost use Rattle.core_body.specs.Views.{context_of};
 
 use crate::operand::{Operand, below};
-use crate::source::{Run, Source, is_same, same_types};
+use crate::source::{Run, Source, same_types};
 use crate::spaces::Scope;
 
 /// One operand, or one of each type of a run, the last on top.
@@ -132,7 +132,7 @@ pub fn bite(scope: &Scope<'_>, piece: Piece, due: Run) -> Option<Met>
 {
     match piece {
         Piece::One(found) => bite_one(scope, found, due),
-        Piece::Many(run) => if is_same(run, due) {
+        Piece::Many(run) => if scope.same_fronts(run, due) {
             Some(Met {
                 part: nothing(),
                 due: Run { of: due.of, len: 0 },

@@ -1,9 +1,8 @@
 //! Lists of operand types by the name of where they stand, so that equal names need no walk along equal lists.
 
-ghost use Rattle.std.specs.Prelude.{◌≡◌, ◌↔◌, IsTrue, take};
-ghost use Rattle.std.specs.Bool.{OnTrue};
+ghost use Rattle.std.specs.Prelude.{◌≡◌, ◌↔◌, IsTrue};
 
-use crate::spaces::{Scope, only};
+use crate::spaces::Scope;
 use virt_base::CoreType;
 use wasm_ast::BlockType;
 
@@ -15,8 +14,6 @@ pub enum Source {
     /// The parameters of the type at an index.
     Params(u32),
     Results(u32),
-    /// What the code as a whole has to leave.
-    Due,
 }
 
 /// The front of a list.
@@ -33,25 +30,6 @@ pub struct Named {
     pub results: Source,
 }
 
-/// Whether two names are one; those of lists so short that they are soon compared count as two.
-fn is_one(a: Source, b: Source) -> bool
-    ensures { OnTrue result (a ≡ b) }
-{
-    match (a, b) {
-        (Source::Params(m), Source::Params(n)) => m == n,
-        (Source::Results(m), Source::Results(n)) => m == n,
-        (Source::Due, Source::Due) => true,
-        _ => false,
-    }
-}
-
-/// Whether two runs are one by their names.
-pub fn is_same(a: Run, b: Run) -> bool
-    ensures { OnTrue result (a ≡ b) }
-{
-    a.len == b.len && is_one(a.of, b.of)
-}
-
 pub fn same_types(a: &[CoreType], b: &[CoreType]) -> bool
     ensures { IsTrue result ↔ (a.now ≡ b.now) }
 {
@@ -60,6 +38,7 @@ pub fn same_types(a: &[CoreType], b: &[CoreType]) -> bool
 
 impl<'a> Scope<'a> {
     ghost use Rattle.std.specs.Prelude.{◌≡◌, ◌↔◌, IsTrue, Some, None, MatchOption, slice_get};
+    ghost use Rattle.std.specs.Bool.{OnTrue};
     ghost use Rattle.core_body.specs.Context.{arrow, block_type, function_type};
     ghost use Rattle.core_body.specs.Sources.{listed, front};
     ghost use Rattle.core_body.specs.Views.{context_of};
@@ -67,31 +46,7 @@ impl<'a> Scope<'a> {
     pub fn listed(&self, source: Source) -> &'a [CoreType]
         ensures { result.now ≡ listed (context_of self.now) source }
     {
-        match source {
-            Source::Nothing => &[],
-            Source::Only(t) => only(t),
-            Source::Params(n) => self.params_at(n),
-            Source::Results(n) => self.results_at(n),
-            Source::Due => self.due,
-        }
-    }
-
-    fn params_at(&self, n: u32) -> &'a [CoreType]
-        ensures { result.now ≡ listed (context_of self.now) (Source.Params n) }
-    {
-        match self.spaces.block_type(BlockType::Index(n)) {
-            Some(f) => f.params,
-            None => &[],
-        }
-    }
-
-    fn results_at(&self, n: u32) -> &'a [CoreType]
-        ensures { result.now ≡ listed (context_of self.now) (Source.Results n) }
-    {
-        match self.spaces.block_type(BlockType::Index(n)) {
-            Some(f) => f.results,
-            None => &[],
-        }
+        self.spaces.listed(source)
     }
 
     /// The types of a run.
@@ -110,14 +65,21 @@ impl<'a> Scope<'a> {
     pub fn same_lists(&self, a: Source, b: Source) -> bool
         ensures { IsTrue result ↔ (listed (context_of self.now) a ≡ listed (context_of self.now) b) }
     {
-        is_one(a, b) || same_types(self.listed(a), self.listed(b))
+        self.spaces.types.same(a, b)
+    }
+
+    /// Whether two runs are known for equal by their names.
+    pub fn same_fronts(&self, a: Run, b: Run) -> bool
+        ensures { OnTrue result (front (context_of self.now) a ≡ front (context_of self.now) b) }
+    {
+        a.len == b.len && self.same_lists(a.of, b.of)
     }
 
     #[tactic(auto, using(crate::proofs::NameLemmas::named_some))]
     fn type_named(&self, n: u32) -> Option<Named>
         ensures { MatchOption result (slice_get self.now.spaces.types.now n ≡ None) (λ a. slice_get self.now.spaces.types.now n ≡ Some (arrow (listed (context_of self.now) a.params) (listed (context_of self.now) a.results))) }
     {
-        match self.spaces.types.get(n as usize) {
+        match self.spaces.types.as_slice().get(n as usize) {
             Some(_) => Some(Named {
                 params: Source::Params(n),
                 results: Source::Results(n),

@@ -1,13 +1,15 @@
 ghost use Rattle.std.specs.Prelude.{◌≡◌, ◌∷◌, [], Some, None, MatchOption, slice_get};
 
 use crate::locals::Locals;
+use crate::source::Source;
+use crate::types::TypeLists;
 use virt_base::CoreType;
-use wasm_ast::{BlockType, CoreFunc, GlobalType, RefType, TableType};
+use wasm_ast::{BlockType, GlobalType, RefType, TableType};
 
 /// What the code of a module may name.
 #[derive(Clone, Copy)]
 pub struct Spaces<'a> {
-    pub types: &'a [CoreFunc],
+    pub types: &'a TypeLists<'a>,
     /// The index of each function's type, imported functions first.
     pub functions: &'a [u32],
     pub tables: &'a [TableType],
@@ -30,7 +32,7 @@ pub struct Scope<'a> {
     pub locals: Locals<'a>,
     /// A constant expression has no function around it.
     pub in_body: bool,
-    pub due: &'a [CoreType],
+    pub due: Source,
 }
 
 /// A function's type, lent.
@@ -54,12 +56,13 @@ pub fn only(t: CoreType) -> &'static [CoreType]
 
 impl<'a> Spaces<'a> {
     ghost use Rattle.core_body.specs.Context.{arrow, block_type, function_type};
+    ghost use Rattle.core_body.specs.Sources.{listed_in};
     ghost use Rattle.core_body.specs.Views.{context_at};
 
     fn type_at(&self, n: u32) -> Option<Arrow<'a>>
         ensures { MatchOption result (slice_get self.now.types.now n ≡ None) (λ a. slice_get self.now.types.now n ≡ Some (arrow a.params.now a.results.now)) }
     {
-        let types = self.types;
+        let types = self.types.as_slice();
         match types.get(n as usize) {
             Some(f) => Some(Arrow {
                 params: f.params.as_slice(),
@@ -94,6 +97,24 @@ impl<'a> Spaces<'a> {
         match functions.get(n as usize) {
             Some(t) => self.type_at(*t),
             None => None,
+        }
+    }
+
+    /// The list that a name stands for.
+    pub fn listed(&self, source: Source) -> &'a [CoreType]
+        ensures { result.now ≡ listed_in self.now.types.now source }
+    {
+        match source {
+            Source::Nothing => &[],
+            Source::Only(t) => only(t),
+            Source::Params(n) => match self.type_at(n) {
+                Some(f) => f.params,
+                None => &[],
+            },
+            Source::Results(n) => match self.type_at(n) {
+                Some(f) => f.results,
+                None => &[],
+            },
         }
     }
 }

@@ -11,16 +11,20 @@ ghost use Rattle.core_body.specs.Machine.{pops, State, Running, Finished, Stuck,
 ghost use Rattle.core_body.specs.Views.{context_of};
 ghost use Rattle.core_body.specs.Levels.{results_of, label_of, state_of, Says, level_at, levels_at, other_of, labels_at, params_at, results_at, state_at};
 ghost use Rattle.core_body.specs.Sources.{listed, spelled};
+ghost use Rattle.core_body.specs.Numbers.{Distinguish};
 ghost use Rattle.core_body.specs.Stack.{level_of, below_of};
+ghost use Rattle.core_body.specs.Fitting.{row, fits_first, AllFit};
 ghost use Rattle.core_body.specs.Groups.{IsOpening};
 
 use crate::levels::{Frame, Kind, Progress, Verdict};
+use crate::numbers::{ListNumbers, number_of};
 use crate::operand::{Operand, is_number, known_of, reference_of};
 use crate::shapes::{Signature, Takes, same_ref, signature_of};
 use crate::source::{Named, Source};
 use crate::spaces::Scope;
 use crate::stack::Stack;
 use std::alloc::Global;
+use std::collections::BTreeSet;
 use virt_base::{CoreType, CoreTypes, NoMemory};
 use wasm_ast::{BlockType, BranchTable, Instr, Op, RefType};
 
@@ -51,7 +55,7 @@ fn results(scope: &Scope<'_>, kind: Kind) -> Source
     ensures { spelled (context_of scope.now) result ≡ results_of (context_of scope.now) kind }
 {
     match kind {
-        Kind::Whole => Source::Due,
+        Kind::Whole => scope.due,
         Kind::Block(ty) | Kind::Loop(ty) | Kind::Then(ty) | Kind::Otherwise(ty) => block_results(
             scope, ty,
         ),
@@ -63,11 +67,7 @@ fn label(scope: &Scope<'_>, kind: Kind) -> Option<Source>
     ensures { option_map (spelled (context_of scope.now)) result ≡ label_of (context_of scope.now) kind }
 {
     match kind {
-        Kind::Whole => if scope.in_body {
-            Some(Source::Due)
-        } else {
-            None
-        },
+        Kind::Whole => if scope.in_body { Some(scope.due) } else { None },
         Kind::Loop(ty) => Some(block_params(scope, ty)),
         Kind::Block(ty) | Kind::Then(ty) | Kind::Otherwise(ty) => Some(block_results(scope, ty)),
     }
@@ -239,7 +239,7 @@ fn return_(scope: &Scope<'_>, p: &mut Progress) -> Verdict
     ensures { Says result (state_of (context_of scope.now) p.new) (next (context_of scope.now) (state_of (context_of scope.now) p.old) Instr.Return) }
 {
     if scope.in_body {
-        die(scope, p, Source::Due)
+        die(scope, p, scope.due)
     } else {
         Verdict::Refused
     }
@@ -386,61 +386,102 @@ fn branch_if(scope: &Scope<'_>, p: &mut Progress, n: u32) -> Result<Verdict, NoM
     }
 }
 
-/// Whether the label takes the operands below the top one, as many as the first types, if those fit them.
-fn label_fits(scope: &Scope<'_>, p: &Progress, first: Source, n: u32) -> bool
-    ensures { (all_below (like (spelled (context_of scope.now) first) (under (level_of (context_of scope.now) p.now.stack))) (spelled (context_of scope.now) first) && result) ≡ (all_below (like (spelled (context_of scope.now) first) (under (level_of (context_of scope.now) p.now.stack))) (spelled (context_of scope.now) first) && takes_them (at_label (labels_at (context_of scope.now) p.now) n) (like (spelled (context_of scope.now) first) (under (level_of (context_of scope.now) p.now.stack)))) }
+/// Whether the label takes the operands below the top one, as many as the first types, if those fit them. A list of a
+/// number that was met needs no second look.
+fn label_fits(
+    scope: &Scope<'_>,
+    p: &Progress,
+    first: Source,
+    numbers: &[ListNumbers],
+    fitting: &mut BTreeSet<usize>,
+    n: u32,
+) -> Result<bool, NoMemory>
+    requires apart { Distinguish scope.now.spaces.types.now numbers.now }
+    requires known { AllFit scope.now.spaces.types.now numbers.now (fits_first (context_of scope.now) p.now.stack first) (row (context_of scope.now) p.now.stack first) fitting.old }
+    ensures fits { IfOk result (λ fit. (fits_first (context_of scope.now) p.now.stack first && fit) ≡ (fits_first (context_of scope.now) p.now.stack first && takes_them (at_label (labels_at (context_of scope.now) p.now) n) (row (context_of scope.now) p.now.stack first))) }
+    ensures known { OnOk result (AllFit scope.now.spaces.types.now numbers.now (fits_first (context_of scope.now) p.now.stack first) (row (context_of scope.now) p.now.stack first) fitting.new) }
 {
-    match label_at(scope, p, n) {
-        Some(label) => {
-            if scope.same_lists(first, label) {
-                return true;
-            }
-            p.stack.fits(scope, first, label)
-        }
-        None => false,
+    let Some(label) = label_at(scope, p, n) else {
+        return Ok(false);
+    };
+    let number = number_of(numbers, label);
+    if number == number_of(numbers, first) {
+        return Ok(true);
     }
+    if fitting.contains(&number) {
+        return Ok(true);
+    }
+    if !p.stack.fits(scope, first, label) {
+        return Ok(false);
+    }
+    fitting.insert(number)?;
+    Ok(true)
 }
 
 /// Whether each of the labels takes them, if they fit the first types.
-fn each_fits(scope: &Scope<'_>, p: &Progress, first: Source, labels: &[u32]) -> bool
-    ensures { (all_below (like (spelled (context_of scope.now) first) (under (level_of (context_of scope.now) p.now.stack))) (spelled (context_of scope.now) first) && result) ≡ (all_below (like (spelled (context_of scope.now) first) (under (level_of (context_of scope.now) p.now.stack))) (spelled (context_of scope.now) first) && each_takes (labels_at (context_of scope.now) p.now) (like (spelled (context_of scope.now) first) (under (level_of (context_of scope.now) p.now.stack))) labels.now) }
+fn each_fits(
+    scope: &Scope<'_>,
+    alloc: Global,
+    p: &Progress,
+    first: Source,
+    labels: &[u32],
+) -> Result<bool, NoMemory>
+    ensures { IfOk result (λ fit. (fits_first (context_of scope.now) p.now.stack first && fit) ≡ (fits_first (context_of scope.now) p.now.stack first && each_takes (labels_at (context_of scope.now) p.now) (row (context_of scope.now) p.now.stack first) labels.now)) }
 {
+    let numbers = scope.spaces.types.numbers();
+    let mut fitting = BTreeSet::new(alloc);
     for n in labels {
-        if !label_fits(scope, p, first, *n) {
-            return false;
+        if !label_fits(scope, p, first, numbers, &mut fitting, *n)? {
+            return Ok(false);
         }
     }
-    true
+    Ok(true)
 }
 
 /// A table whose default takes these types: each of its labels has to take them too.
-fn branch_like(scope: &Scope<'_>, p: &mut Progress, first: Source, table: &BranchTable) -> Verdict
+fn branch_like(
+    scope: &Scope<'_>,
+    alloc: Global,
+    p: &mut Progress,
+    first: Source,
+    table: &BranchTable,
+) -> Result<Verdict, NoMemory>
     requires { at_label (labels_at (context_of scope.now) p.old) table.now.default ≡ Some (spelled (context_of scope.now) first) }
-    ensures { Says result (state_of (context_of scope.now) p.new) (applied (context_of scope.now) (of_table (at_label (labels_at (context_of scope.now) p.old) table.now.default) (labels_at (context_of scope.now) p.old) (level_of (context_of scope.now) p.old.stack) (table.now.default ∷ table.now.labels)) (state_of (context_of scope.now) p.old)) }
+    ensures { IfOk result (λ v. Says v (state_of (context_of scope.now) p.new) (applied (context_of scope.now) (of_table (at_label (labels_at (context_of scope.now) p.old) table.now.default) (labels_at (context_of scope.now) p.old) (level_of (context_of scope.now) p.old.stack) (table.now.default ∷ table.now.labels)) (state_of (context_of scope.now) p.old))) }
 {
     let dead = p.current.dead;
-    if !each_fits(scope, p, first, table.labels.as_slice()) {
-        return Verdict::Refused;
+    if !each_fits(scope, alloc, p, first, table.labels.as_slice())? {
+        return Ok(Verdict::Refused);
     }
     if !p.stack.take_indexed(scope, dead, first) {
-        return Verdict::Refused;
+        return Ok(Verdict::Refused);
     }
     p.stack.clear(scope);
     p.current.dead = true;
-    Verdict::Goes
+    Ok(Verdict::Goes)
 }
 
-fn branch_table(scope: &Scope<'_>, p: &mut Progress, table: &BranchTable) -> Verdict
-    ensures { Says result (state_of (context_of scope.now) p.new) (applied (context_of scope.now) (of_table (at_label (labels_at (context_of scope.now) p.old) table.now.default) (labels_at (context_of scope.now) p.old) (level_of (context_of scope.now) p.old.stack) (table.now.default ∷ table.now.labels)) (state_of (context_of scope.now) p.old)) }
+fn branch_table(
+    scope: &Scope<'_>,
+    alloc: Global,
+    p: &mut Progress,
+    table: &BranchTable,
+) -> Result<Verdict, NoMemory>
+    ensures { IfOk result (λ v. Says v (state_of (context_of scope.now) p.new) (applied (context_of scope.now) (of_table (at_label (labels_at (context_of scope.now) p.old) table.now.default) (labels_at (context_of scope.now) p.old) (level_of (context_of scope.now) p.old.stack) (table.now.default ∷ table.now.labels)) (state_of (context_of scope.now) p.old))) }
 {
     match label_at(scope, p, table.default) {
-        Some(first) => branch_like(scope, p, first, table),
-        None => Verdict::Refused,
+        Some(first) => branch_like(scope, alloc, p, first, table),
+        None => Ok(Verdict::Refused),
     }
 }
 
 /// What an instruction leads to, from where the pass stands.
-fn step(scope: &Scope<'_>, p: &mut Progress, instr: &Instr) -> Result<Verdict, NoMemory>
+fn step(
+    scope: &Scope<'_>,
+    alloc: Global,
+    p: &mut Progress,
+    instr: &Instr,
+) -> Result<Verdict, NoMemory>
     ensures { IfOk result (λ v. Says v (state_of (context_of scope.now) p.new) (next (context_of scope.now) (state_of (context_of scope.now) p.old) instr.now)) }
 {
     match instr {
@@ -453,7 +494,7 @@ fn step(scope: &Scope<'_>, p: &mut Progress, instr: &Instr) -> Result<Verdict, N
         Instr::End => end(scope, p),
         Instr::Br(n) => Ok(branch(scope, p, *n)),
         Instr::BrIf(n) => branch_if(scope, p, *n),
-        Instr::BrTable(table) => Ok(branch_table(scope, p, table)),
+        Instr::BrTable(table) => branch_table(scope, alloc, p, table),
         Instr::Return => Ok(return_(scope, p)),
         Instr::Call(n) => call(scope, p, *n),
         Instr::CallIndirect { ty, table } => call_indirect(scope, p, *ty, *table),
@@ -463,6 +504,7 @@ fn step(scope: &Scope<'_>, p: &mut Progress, instr: &Instr) -> Result<Verdict, N
 /// What an instruction leads to; none goes on behind the end, or behind one that was refused.
 pub fn advance(
     scope: &Scope<'_>,
+    alloc: Global,
     p: &mut Progress,
     verdict: Verdict,
     instr: &Instr,
@@ -470,7 +512,7 @@ pub fn advance(
     ensures { IfOk result (λ v. state_at (context_of scope.now) v p.new ≡ next (context_of scope.now) (state_at (context_of scope.now) verdict p.old) instr.now) }
 {
     match verdict {
-        Verdict::Goes => step(scope, p, instr),
+        Verdict::Goes => step(scope, alloc, p, instr),
         Verdict::Over | Verdict::Refused => Ok(Verdict::Refused),
     }
 }

@@ -2,13 +2,13 @@
 
 use crate::rows::{hold, same, shown};
 use core_body::{
-    Spaces, check_body, check_expression, lesser, operands_are_found, same_ref, value_of,
+    Spaces, TypeLists, check_body, check_expression, lesser, operands_are_found, same_ref, value_of,
 };
 use core_code::Code;
 use std::alloc::Global;
 use std::test::Fail;
 use virt_base::{CoreType, Items};
-use wasm_ast::{BlockType, Body, Instr, Instrs, Op, RefType};
+use wasm_ast::{BlockType, Body, CoreFunc, Instr, Instrs, Op, RefType};
 
 /// The instruction of an opcode: blocks have no type, and a constant is 1.
 fn instr_of(opcode: u8) -> Instr {
@@ -81,8 +81,15 @@ fn where_blocks_lead(rt: HostRuntime) -> Result<(), Fail> {
 #[test]
 fn a_body_and_an_expression(rt: HostRuntime) -> Result<(), Fail> {
     let alloc = rt.alloc();
+    let mut results = Items::empty(alloc);
+    results.push(CoreType::I32)?;
+    let types = [CoreFunc {
+        params: Items::empty(alloc),
+        results,
+    }];
+    let lists = TypeLists::new(alloc, &types)?;
     let spaces = Spaces {
-        types: &[],
+        types: &lists,
         functions: &[],
         tables: &[],
         memories: 0,
@@ -99,8 +106,8 @@ fn a_body_and_an_expression(rt: HostRuntime) -> Result<(), Fail> {
     let code = body.code.as_slice();
     let found = (
         (
-            check_body(alloc, &spaces, &[], &[CoreType::I32], &body),
-            check_body(alloc, &spaces, &[], &[], &body),
+            check_body(alloc, &spaces, Some(0), &body),
+            check_body(alloc, &spaces, None, &body),
             check_expression(alloc, &spaces, CoreType::I32, code),
             check_expression(alloc, &spaces, CoreType::I64, code),
         ),

@@ -182,22 +182,11 @@ fn body_fault(
     place: usize,
     body: &Body,
 ) -> Result<Option<u32>, NoMemory>
+    requires { spaces.now.types.now ≡ module.now.types }
     ensures { IfOk result (λ rule. rule ≡ fault (context_at spaces.now) (ABody (body_type module.now place) body.now)) }
 {
-    let ty = match module.functions.as_slice().get(place) {
-        Some(n) => module.types.as_slice().get(*n as usize),
-        None => None,
-    };
-    match ty {
-        Some(f) => check_body(
-            alloc,
-            spaces,
-            f.params.as_slice(),
-            f.results.as_slice(),
-            body,
-        ),
-        None => check_body(alloc, spaces, &[], &[], body),
-    }
+    let ty = module.functions.as_slice().get(place).copied();
+    check_body(alloc, spaces, ty, body)
 }
 
 /// The bodies, which are the module's.
@@ -207,6 +196,7 @@ pub fn bodies_fault(
     module: &Module,
     bodies: &[Body],
 ) -> Result<Option<u32>, NoMemory>
+    requires { spaces.now.types.now ≡ module.now.types }
     ensures { IfOk result (λ rule. rule ≡ first_fault (context_at spaces.now) (with_earlier (λ before b. ABody (body_type module.now (length before)) b) [] bodies.now)) }
 {
     for (place, body) in bodies.iter().enumerate() {

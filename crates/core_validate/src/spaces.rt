@@ -7,7 +7,7 @@ use crate::collect::{
     add_globals, element_types, functions, imported_globals, imported_memories, tables,
 };
 use crate::marks::mark_declared;
-use core_body::Spaces;
+use core_body::{Spaces, TypeLists};
 use std::alloc::Global as Heap;
 use virt_base::NoMemory;
 use wasm_ast::{GlobalType, Limits, Module, RefType, TableType};
@@ -57,13 +57,21 @@ pub fn find(alloc: Heap, module: &Module) -> Result<Found, NoMemory>
     })
 }
 
+/// The function types of the module.
+pub fn type_lists<'a>(alloc: Heap, module: &'a Module) -> Result<TypeLists<'a>, NoMemory>
+    ensures { IfOk result (λ lists. lists ≡ module.now.types) }
+{
+    TypeLists::new(alloc, module.types.as_slice())
+}
+
 /// The index spaces, as the checks of code want them.
-pub fn lend<'a>(found: &'a Found, module: &'a Module) -> Spaces<'a>
-    requires { IsOf module.now found.now }
+pub fn lend<'a>(found: &'a Found, types: &'a TypeLists<'a>, module: &'a Module) -> Spaces<'a>
+    requires of { IsOf module.now found.now }
+    requires types { types.now ≡ module.now.types }
     ensures { context_at result ≡ context module.now }
 {
     Spaces {
-        types: module.types.as_slice(),
+        types,
         functions: found.functions.as_slice(),
         tables: found.tables.as_slice(),
         memories: found.memories.len(),

@@ -165,7 +165,7 @@ pub fn import_types(
 ) -> Result<Vec<CoreImport>, NoMemory>
     ensures { IfOk result (λ list. list.items ≡ map (core_import (context_at spaces.now)) imports.now) }
 {
-    let mut types = SharedTypes::new(alloc, spaces.types);
+    let mut types = SharedTypes::new(alloc, spaces.types.as_slice());
     let mut list = Vec::new(alloc);
     for import in imports {
         list.push(import_of(alloc, spaces, &mut types, import)?)?;
@@ -182,7 +182,7 @@ pub fn export_types(
 ) -> Result<Vec<CoreExport>, NoMemory>
     ensures { IfOk result (λ list. list.items ≡ map (core_export (context_at spaces.now) memories.now) exports.now) }
 {
-    let mut types = SharedTypes::new(alloc, spaces.types);
+    let mut types = SharedTypes::new(alloc, spaces.types.as_slice());
     let mut list = Vec::new(alloc);
     for export in exports {
         list.push(export_of(alloc, spaces, &mut types, memories, export)?)?;

@@ -10,7 +10,7 @@ use crate::item::{CoreFault, ModuleType};
 use crate::items::{
     exports_fault, functions_fault, imports_fault, memories_fault, start_fault, tables_fault,
 };
-use crate::spaces::{find, lend};
+use crate::spaces::{find, lend, type_lists};
 use crate::types::{export_types, import_types};
 use core_body::Spaces;
 use std::alloc::Global;
@@ -52,6 +52,7 @@ fn later_items_fault(
     spaces: &Spaces<'_>,
     module: &Module,
 ) -> Result<Option<u32>, NoMemory>
+    requires { spaces.now.types.now ≡ module.now.types }
     ensures { IfOk result (λ rule. rule ≡ first_fault (context_at spaces.now) (later_items module.now)) }
 {
     let rule = exports_fault(alloc, spaces, module.exports.as_slice())?;
@@ -79,7 +80,8 @@ fn module_fault(
     imported: usize,
     module: &Module,
 ) -> Result<Option<u32>, NoMemory>
-    requires { imported ≡ length (imported_memories module.now.imports) }
+    requires imported { imported ≡ length (imported_memories module.now.imports) }
+    requires types { spaces.now.types.now ≡ module.now.types }
     ensures { IfOk result (λ rule. rule ≡ first_fault (context_at spaces.now) (items module.now)) }
 {
     let rule = first_items_fault(alloc, spaces, imported, module)?;
@@ -96,7 +98,8 @@ pub fn validate(alloc: Global, module: &Module) -> Result<ModuleType, CoreFault>
     ensures { Answers module.now result }
 {
     let found = find(alloc, module)?;
-    let spaces = lend(&found, module);
+    let types = type_lists(alloc, module)?;
+    let spaces = lend(&found, &types, module);
     match module_fault(alloc, &spaces, found.imported_memories, module)? {
         Some(rule) => Err(CoreFault::Invalid(rule)),
         None => {

@@ -1,30 +1,34 @@
-use Rattle.std.proofs.Common.{refl, sym, ◌∙◌, ap, ◌&&◌}
-use Rattle.core_body.specs.Stack.{level_of}
-use Rattle.core_body.specs.Sources.{spelled}
+use Rattle.std.proofs.Common.{◌≡◌, ◌∙◌, sym, ap, subst, ℕ, true}
+use Rattle.std.specs.BTreeSet.{Updates}
+use Rattle.std.specs.Ordering.{nat_cmp}
+use Rattle.core_body.specs.Fitting.{row, fits_first}
+use Rattle.core_body.specs.Sources.{listed, spelled}
 use Rattle.core_body.specs.Typing.{operands, label_at}
-use Rattle.core_body.specs.Machine.{like, under, all_below, takes_them}
+use Rattle.core_body.specs.Machine.{all_below}
 use Rattle.core_body.specs.Levels.{labels_at}
+use Rattle.core_body.specs.Numbers.{number_in}
 use Rattle.core_body.specs.Views.{context_of}
 use Rattle.core_body.proofs.TableLemmas.{label-same}
+use Rattle.core_body.proofs.FittingLemmas.{fit-more}
 use Rattle.core_body.proofs.step.label_fits.Goals as goal
 
-pub returns-then-same_lists : goal.returns-then-same_lists
-returns-then-same_lists c =
+pub returns-then-number-number_of-clause-fits : goal.returns-then-number-number_of-clause-fits
+returns-then-number-number_of-clause-fits c =
     let d = context_of c.args.scope.now in
-    let first = spelled d c.args.first in
-    let row = like first (under (level_of d c.args.p.now.stack)) in
-    label-same first (spelled d c.in-Some.label) row (label_at (labels_at d c.args.p.now) c.args.n) (sym c.in-Some.ensures) (ap operands (c.if-same_lists.ensures.0 refl))
+    let first = c.args.first in
+    let label = c.in-Some.label in
+    let numbers : number_in c.args.numbers.now first ≡ number_in c.args.numbers.now label = sym c.number_of.ensures ∙ sym c.if-number-number_of.true ∙ c.number_of-number.ensures in
+    let lists : listed d first ≡ listed d label = (c.requires.apart first label).0 numbers in
+    label-same (spelled d first) (spelled d label) (row d c.args.p.now.stack first) (label_at (labels_at d c.args.p.now) c.args.n) (sym c.in-Some.ensures) (ap operands lists)
 
-pub returns-else-same_lists : goal.returns-else-same_lists
-returns-else-same_lists c =
+pub returns-clause-known : goal.returns-clause-known
+returns-clause-known c =
     let d = context_of c.args.scope.now in
-    let first = spelled d c.args.first in
-    let row = like first (under (level_of d c.args.p.now.stack)) in
-    ap (λ b. all_below row first && b) (c.fits.ensures ∙ ap (λ x. takes_them x row) c.in-Some.ensures)
-
-pub returns-in-None : goal.returns-in-None
-returns-in-None c =
-    let d = context_of c.args.scope.now in
-    let first = spelled d c.args.first in
-    let row = like first (under (level_of d c.args.p.now.stack)) in
-    ap (λ x. all_below row first && takes_them x row) c.in-None.ensures
+    let stack = c.args.p.now.stack in
+    let label = c.in-Some.label in
+    let numbers = c.args.numbers.now in
+    let old = c.args.fitting.now in
+    let new = c.insert.new.self in
+    let fits : all_below (row d stack c.args.first) (spelled d label) ≡ true = sym c.fits.ensures ∙ c.if-not-fits.false in
+    let updates : Updates nat_cmp old new (number_in numbers label) true = subst (λ (k : ℕ). Updates nat_cmp old new k true) c.number_of-number.ensures c.in_ok-insert.ensures.updates in
+    fit-more c.args.scope.now.spaces.types.now numbers (fits_first d stack c.args.first) (row d stack c.args.first) old new label c.requires.apart c.requires.known updates fits
