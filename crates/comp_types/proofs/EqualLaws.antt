@@ -42,7 +42,7 @@ same_first y v w x true o is m h e =
     cc
 same_first y v w x false o is m h e = h e
 
-same-agrees : (by : Pairs) → all_same by ≡ true → Agrees Same by
+pub same-agrees : (by : Pairs) → all_same by ≡ true → Agrees Same by
 same-agrees [] h = λ y x e. cc
 same-agrees (p ∷ by) h =
     let each = both (nat_eq p.0 p.1) (all_same by) h in

@@ -9,6 +9,7 @@ pub mod ValueLaws
 pub mod UnpackLemmas
 pub mod ItemLaws
 pub mod EqualLaws
+pub mod SameValues
 pub mod WithLemmas
 pub mod FactsWith
 pub mod ItemsWith

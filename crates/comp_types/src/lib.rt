@@ -2,8 +2,10 @@
 //! components too, which are over these types (Component Model, Binary.md and Explainer.md).
 #![tactic(auto)]
 
+mod anew;
 mod declared;
 mod func_matching;
+mod hashes;
 mod item_matching;
 mod known;
 mod laws;

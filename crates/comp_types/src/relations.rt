@@ -12,7 +12,7 @@ use std::alloc::Global;
 use virt_base::NoMemory;
 
 /// Whether each resource is its own partner.
-fn are_same(by: &Substitution) -> bool
+pub fn are_same(by: &Substitution) -> bool
     ensures { result ≡ all_same by.now }
 {
     for i in 0..by.len() {

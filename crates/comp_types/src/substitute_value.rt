@@ -6,6 +6,8 @@ ghost use Rattle.wit_types.specs.declared.types.Fields.{out-Fields};
 ghost use Rattle.wit_types.specs.declared.types.Cases.{out-Cases};
 ghost use Rattle.comp_types.specs.Substitution.{partner_in, value_with, parts_with, answer_with, func_with};
 
+use crate::anew::Anew;
+use crate::hashes::hash_of;
 use crate::known::{KnownFunc, KnownValue};
 use crate::substitution::Substitution;
 use std::alloc::Global;
@@ -17,99 +19,138 @@ use wit_types::{Case, Cases, Field, Fields, FuncType, Types, WitType, copy_type}
 fn payload_with(
     alloc: Global,
     ty: &Option<Rc<WitType>>,
-    by: &Substitution,
+    anew: &mut Anew<'_>,
 ) -> Result<Option<Rc<WitType>>, NoMemory>
-    ensures { IfOk result (λ new. payload_of new ≡ answer_with (partner_in by.now) (payload_of ty.now)) }
+    ensures ok { IfOk result (λ new. payload_of new ≡ answer_with (partner_in anew.old) (payload_of ty.now)) }
+    ensures kept { anew.new ≡ anew.old }
 {
     match ty {
         None => Ok(None),
         Some(ty) => {
-            let ty = value_with(alloc, ty, by)?;
+            let ty = value_with(alloc, ty, anew)?;
             Ok(Some(Rc::new(alloc, ty)?))
         }
     }
 }
 
 #[cycle(value_with)]
-fn types_with(alloc: Global, types: &[WitType], by: &Substitution) -> Result<Types, NoMemory>
-    ensures { IfOk result (λ new. types_of new.items.items ≡ parts_with (partner_in by.now) (types_of types.now)) }
+fn types_with(alloc: Global, types: &[WitType], anew: &mut Anew<'_>) -> Result<Types, NoMemory>
+    ensures ok { IfOk result (λ new. types_of new.items.items ≡ parts_with (partner_in anew.old) (types_of types.now)) }
+    ensures kept { anew.new ≡ anew.old }
 {
     let mut items = Vec::new(alloc);
     for ty in types {
-        items.push(value_with(alloc, ty, by)?)?;
+        items.push(value_with(alloc, ty, anew)?)?;
     }
     Ok(Types { items })
 }
 
 #[cycle(value_with)]
-fn fields_with(alloc: Global, fields: &[Field], by: &Substitution) -> Result<Fields, NoMemory>
-    ensures { IfOk result (λ new. fields_of (out-Fields new).items.items ≡ parts_with (partner_in by.now) (fields_of fields.now)) }
+fn fields_with(alloc: Global, fields: &[Field], anew: &mut Anew<'_>) -> Result<Fields, NoMemory>
+    ensures ok { IfOk result (λ new. fields_of (out-Fields new).items.items ≡ parts_with (partner_in anew.old) (fields_of fields.now)) }
+    ensures kept { anew.new ≡ anew.old }
 {
     let mut items = Vec::new(alloc);
     for field in fields {
         let name = field.name.copy(alloc)?;
-        let ty = value_with(alloc, &field.ty, by)?;
+        let ty = value_with(alloc, &field.ty, anew)?;
         items.push(Field { name, ty })?;
     }
     Ok(Fields { items })
 }
 
 #[cycle(value_with)]
-fn cases_with(alloc: Global, cases: &[Case], by: &Substitution) -> Result<Cases, NoMemory>
-    ensures { IfOk result (λ new. cases_of (out-Cases new).items.items ≡ parts_with (partner_in by.now) (cases_of cases.now)) }
+fn cases_with(alloc: Global, cases: &[Case], anew: &mut Anew<'_>) -> Result<Cases, NoMemory>
+    ensures ok { IfOk result (λ new. cases_of (out-Cases new).items.items ≡ parts_with (partner_in anew.old) (cases_of cases.now)) }
+    ensures kept { anew.new ≡ anew.old }
 {
     let mut items = Vec::new(alloc);
     for case in cases {
         let name = case.name.copy(alloc)?;
-        let ty = payload_with(alloc, &case.ty, by)?;
+        let ty = payload_with(alloc, &case.ty, anew)?;
         items.push(Case { name, ty })?;
     }
     Ok(Cases { items })
 }
 
-/// The value type with other resources.
 #[cycle(value_with)]
-fn value_with(alloc: Global, ty: &WitType, by: &Substitution) -> Result<WitType, NoMemory>
-    ensures { IfOk result (λ new. plain new ≡ value_with (partner_in by.now) (plain ty.now)) }
+fn made_with(alloc: Global, ty: &WitType, anew: &mut Anew<'_>) -> Result<WitType, NoMemory>
+    ensures ok { IfOk result (λ new. plain new ≡ value_with (partner_in anew.old) (plain ty.now)) }
+    ensures kept { anew.new ≡ anew.old }
 {
     match ty {
         WitType::Flags(labels) => Ok(WitType::Flags(labels.clone()?)),
         WitType::Enum(labels) => Ok(WitType::Enum(labels.clone()?)),
         WitType::Record(fields) => {
-            let fields = Rc::new(alloc, fields_with(alloc, &fields.items, by)?)?;
+            let fields = Rc::new(alloc, fields_with(alloc, &fields.items, anew)?)?;
             Ok(WitType::Record(fields))
         }
         WitType::Tuple(types) => {
-            let types = Rc::new(alloc, types_with(alloc, &types.items, by)?)?;
+            let types = Rc::new(alloc, types_with(alloc, &types.items, anew)?)?;
             Ok(WitType::Tuple(types))
         }
         WitType::Variant(cases) => {
-            let cases = Rc::new(alloc, cases_with(alloc, &cases.items, by)?)?;
+            let cases = Rc::new(alloc, cases_with(alloc, &cases.items, anew)?)?;
             Ok(WitType::Variant(cases))
         }
-        WitType::List(item) => Ok(WitType::List(Rc::new(alloc, value_with(alloc, item, by)?)?)),
-        WitType::Option(some) => Ok(WitType::Option(Rc::new(alloc, value_with(alloc, some, by)?)?)),
+        WitType::List(item) => Ok(WitType::List(Rc::new(alloc, value_with(alloc, item, anew)?)?)),
+        WitType::Option(some) => Ok(WitType::Option(Rc::new(
+            alloc,
+            value_with(alloc, some, anew)?,
+        )?)),
         WitType::Result(ok, error) => {
-            let ok = payload_with(alloc, ok, by)?;
-            let error = payload_with(alloc, error, by)?;
+            let ok = payload_with(alloc, ok, anew)?;
+            let error = payload_with(alloc, error, anew)?;
             Ok(WitType::Result(ok, error))
         }
-        WitType::Own(resource) => Ok(WitType::Own(by.partner(*resource))),
-        WitType::Borrow(resource) => Ok(WitType::Borrow(by.partner(*resource))),
+        WitType::Own(resource) => Ok(WitType::Own(anew.partner(*resource))),
+        WitType::Borrow(resource) => Ok(WitType::Borrow(anew.partner(*resource))),
         _ => copy_type(alloc, ty),
     }
+}
+
+fn has_parts(ty: &WitType) -> bool {
+    matches!(
+        ty,
+        WitType::Record(_)
+            | WitType::Tuple(_)
+            | WitType::Variant(_)
+            | WitType::List(_)
+            | WitType::Option(_)
+            | WitType::Result(_, _)
+    )
+}
+
+/// The value type with other resources. Where an equal one was made before, it is shared: so a type takes no more memory than its
+/// different parts do, however often they stand in it.
+#[cycle(value_with)]
+fn value_with(alloc: Global, ty: &WitType, anew: &mut Anew<'_>) -> Result<WitType, NoMemory>
+    ensures ok { IfOk result (λ new. plain new ≡ value_with (partner_in anew.old) (plain ty.now)) }
+    ensures kept { anew.new ≡ anew.old }
+{
+    if !has_parts(ty) {
+        return made_with(alloc, ty, anew);
+    }
+    let hash = hash_of(ty);
+    if let Some(new) = anew.found(alloc, hash, ty)? {
+        return Ok(new);
+    }
+    let new = made_with(alloc, ty, anew)?;
+    anew.keep(alloc, hash, ty, &new)?;
+    Ok(new)
 }
 
 fn result_type_with(
     alloc: Global,
     ty: &Option<WitType>,
-    by: &Substitution,
+    anew: &mut Anew<'_>,
 ) -> Result<Option<WitType>, NoMemory>
-    ensures { IfOk result (λ new. plain_result new ≡ answer_with (partner_in by.now) (plain_result ty.now)) }
+    ensures ok { IfOk result (λ new. plain_result new ≡ answer_with (partner_in anew.old) (plain_result ty.now)) }
+    ensures kept { anew.new ≡ anew.old }
 {
     match ty {
         None => Ok(None),
-        Some(ty) => Ok(Some(value_with(alloc, ty, by)?)),
+        Some(ty) => Ok(Some(value_with(alloc, ty, anew)?)),
     }
 }
 
@@ -117,8 +158,9 @@ fn result_type_with(
 fn func_with(alloc: Global, ty: &FuncType, by: &Substitution) -> Result<FuncType, NoMemory>
     ensures { IfOk result (λ new. plain_func new ≡ func_with (partner_in by.now) (plain_func ty.now)) }
 {
-    let params = fields_with(alloc, &ty.params.items, by)?;
-    let result = result_type_with(alloc, &ty.result, by)?;
+    let mut anew = Anew::new(alloc, by);
+    let params = fields_with(alloc, &ty.params.items, &mut anew)?;
+    let result = result_type_with(alloc, &ty.result, &mut anew)?;
     Ok(FuncType { params, result })
 }
 
@@ -147,7 +189,8 @@ pub fn known_value_with(
         let same = share_value(known)?;
         return Ok(same);
     }
-    let ty = value_with(alloc, known.ty(), by)?;
+    let mut anew = Anew::new(alloc, by);
+    let ty = value_with(alloc, known.ty(), &mut anew)?;
     Ok(Rc::new(alloc, KnownValue::new(ty, *facts))?)
 }
 

@@ -18,5 +18,5 @@ new-requires c =
     let is : c.deref.result.now ≡ old = cc in
     let again : c.deref-2.result.now ≡ old = cc in
     let facts = subst (λ p. IsFactsOf p c.facts-facts.result.now) is c.facts-facts.ensures in
-    let new : plain c.in_ok-ty.ty ≡ value_with f old = c.in_ok-ty.ensures ∙ ap (value_with f) (c.ty.ensures ∙ again) in
+    let new : plain c.in_ok-ty.ty ≡ value_with f old = c.in_ok-ty.ensures.ok ∙ ap (λ by. value_with (partner_in by) (plain c.ty.result.now)) c.new-anew.ensures ∙ ap (value_with f) (c.ty.ensures ∙ again) in
     subst (λ p. IsFactsOf p c.facts-facts.result.now) (sym new) (value-facts f old c.facts-facts.result.now facts)
