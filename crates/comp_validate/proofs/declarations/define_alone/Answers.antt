@@ -1,4 +1,4 @@
-use Rattle.std.proofs.Common.{◌≡◌, sym, subst}
+use Rattle.std.proofs.Common.{ℕ, List, sym, subst}
 use Rattle.std.proofs.lemmas.Result.{IfOk-weaker}
 use Rattle.wasm_ast.specs.declared.component.TypeItem.{TypeItem}
 use Rattle.comp_types.specs.Declarations.{ATypeDef, ATypeExport}
@@ -23,4 +23,5 @@ pub returns-in-Export : goal.returns-in-Export
 returns-in-Export c =
     IfOk-weaker c.define_type_export.result _ _ (λ rule k around s h.
     subst (λ (i : TypeItem). JudgedIn around s (AType (alone i)) (record c.args.scopes.now { inner = c.define_type_export.new.scope }) rule) (sym c.in-Export.is)
-    (judged_inner around s (AType (ATypeExport c.in-Export.name c.in-Export.desc)) c.args.scopes.now c.define_type_export.new.scope rule h (k around s h.inner))) c.define_type_export.ensures
+    (subst (λ (n : List ℕ). JudgedIn around s (AType (ATypeExport n c.in-Export.desc)) (record c.args.scopes.now { inner = c.define_type_export.new.scope }) rule) c.deref.ensures
+    (judged_inner around s (AType (ATypeExport c.deref.result.now c.in-Export.desc)) c.args.scopes.now c.define_type_export.new.scope rule h (k around s h.inner)))) c.define_type_export.ensures

@@ -1,7 +1,7 @@
-use Rattle.std.proofs.Common.{◌≡◌, sym, subst}
+use Rattle.std.proofs.Common.{ℕ, List, sym, subst}
 use Rattle.std.proofs.lemmas.Result.{IfOk-weaker}
 use Rattle.wasm_ast.specs.declared.component.TypeAlias.{TypeAlias}
-use Rattle.wasm_ast.specs.declared.component.TypeAlias.TheVariants.{Export, Outer}
+use Rattle.wasm_ast.specs.declared.component.TypeAlias.TheVariants.{Export}
 use Rattle.comp_types.specs.Declarations.{ATypeAlias}
 use Rattle.comp_types.specs.Definitions.{AType}
 use Rattle.comp_around.specs.Judged.{JudgedIn}
@@ -12,7 +12,8 @@ pub returns-in-Export : goal.returns-in-Export
 returns-in-Export c =
     IfOk-weaker c.define_type_export_alias.result _ _ (λ rule k around s h.
     subst (λ (a : TypeAlias). JudgedIn around s (AType (ATypeAlias a)) (record c.args.scopes.now { inner = c.define_type_export_alias.new.scope }) rule) (sym c.in-Export.is)
-    (judged_inner around s (AType (ATypeAlias (Export c.in-Export.instance c.in-Export.name))) c.args.scopes.now c.define_type_export_alias.new.scope rule h (k around s h.inner))) c.define_type_export_alias.ensures
+    (subst (λ (n : List ℕ). JudgedIn around s (AType (ATypeAlias (Export c.in-Export.instance n))) (record c.args.scopes.now { inner = c.define_type_export_alias.new.scope }) rule) c.deref.ensures
+    (judged_inner around s (AType (ATypeAlias (Export c.in-Export.instance c.deref.result.now))) c.args.scopes.now c.define_type_export_alias.new.scope rule h (k around s h.inner)))) c.define_type_export_alias.ensures
 
 pub returns-in-Outer : goal.returns-in-Outer
 returns-in-Outer c =
