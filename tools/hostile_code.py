@@ -1,0 +1,64 @@
+#!/usr/bin/env python3
+"""hostile_code.py KIND COUNT OUT: a core module, small for what it asks of a validator that compares types element by element.
+
+  nested   COUNT blocks of one type with COUNT parameters, behind one another
+  unlike   the same, each block where the parameters of an equal type of another index stand
+  results  COUNT functions of a type with COUNT results, each of which calls itself
+  labels   a br_table in dead code, behind half as many operands, with COUNT labels of a type with COUNT results, its default
+           of another such type
+"""
+import sys
+
+
+def leb(n):
+    out = bytearray()
+    while True:
+        n, low = n >> 7, n & 127
+        out.append(low | (128 if n else 0))
+        if not n:
+            return bytes(out)
+
+
+def vec(items):
+    items = list(items)
+    return leb(len(items)) + b"".join(items)
+
+
+def section(number, body):
+    return bytes([number]) + leb(len(body)) + body
+
+
+def func(params, results):
+    return b"\x60" + leb(len(params)) + params + leb(len(results)) + results
+
+
+def module(types, functions, bodies):
+    code = [leb(len(b) + 1) + b"\x00" + b for b in bodies]
+    return b"\0asm\1\0\0\0" + section(1, vec(types)) + section(3, vec(map(leb, functions))) + section(10, vec(code))
+
+
+def made(kind, n):
+    wide = b"\x7f" * n
+    if kind == "nested":
+        # each block takes the parameters, and leaves them
+        body = b"\x00" + (b"\x02\x00\x0b") * n + b"\x00\x0b"
+        return module([func(wide, wide), func(b"", b"")], [1], [body])
+    if kind == "unlike":
+        body = b"\x00" + (b"\x02\x00\x0b" + b"\x02\x01\x0b") * (n // 2) + b"\x00\x0b"
+        return module([func(wide, wide), func(wide, wide), func(b"", b"")], [2], [body])
+    if kind == "results":
+        return module([func(b"", wide)], [0] * n, [b"\x10" + leb(i) + b"\x0b" for i in range(n)])
+    if kind == "labels":
+        # two types that differ below the operands which the dead code has; the default is the inner block
+        half = n // 2
+        other = b"\x7f" * (n - half - 1) + b"\x7e" + b"\x7f" * half
+        table = b"\x0e" + vec(leb(1) for _ in range(n)) + leb(0)
+        body = b"\x02\x00\x02\x01\x00" + b"\x41\x00" * half + table + b"\x0b\x00\x0b\x00\x0b"
+        return module([func(b"", wide), func(b"", other), func(b"", b"")], [2], [body])
+    sys.exit(__doc__)
+
+
+if __name__ == "__main__":
+    if len(sys.argv) != 4:
+        sys.exit(__doc__)
+    open(sys.argv[3], "wb").write(made(sys.argv[1], int(sys.argv[2])))

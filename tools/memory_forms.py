@@ -1,0 +1,80 @@
+#!/usr/bin/env python3
+"""Writes components that are one short form over and over, for what reading keeps of them: tools/memory_forms.py FOLDER [BYTES]"""
+
+import os
+import sys
+
+MODULE = b"\0asm\1\0\0\0"
+COMPONENT = b"\0asm\x0d\0\1\0"
+
+
+def leb(number):
+    out = b""
+    while True:
+        low, number = number & 0x7F, number >> 7
+        if not number:
+            return out + bytes([low])
+        out += bytes([low | 0x80])
+
+
+def section(number, body):
+    return bytes([number]) + leb(len(body)) + body
+
+
+def in_module(*sections):
+    return COMPONENT + section(1, MODULE + b"".join(sections))
+
+
+def forms(size):
+    def many(item):
+        count = size // len(item)
+        return leb(count) + item * count
+
+    def types(item):
+        return COMPONENT + section(7, many(item))
+
+    def elements(item):
+        return in_module(section(9, b"\1\5\x70" + many(item)))
+
+    def data(item):
+        return in_module(section(12, leb(size // len(item))), section(11, many(item)))
+
+    one_type = section(1, b"\1\x60\0\0")
+    bodies = size // 3
+    return {
+        "custom": COMPONENT + b"\0\1\0" * (size // 3),
+        "modules": COMPONENT + section(1, MODULE) * (size // 10),
+        "aliases": COMPONENT + section(6, many(b"\3\2\0\0")),
+        "types_7f": types(b"\x7f"),
+        "types_6f00": types(b"\x6f\0"),
+        "types_6f017f": types(b"\x6f\1\x7f"),
+        "types_6e0161": types(b"\x6e\1\1a"),
+        "types_72": types(b"\x72\1\1a\x7f"),
+        "types_40": types(b"\x40\0\1\0"),
+        "labels": COMPONENT + section(7, b"\1\x6e" + many(b"\1a")),
+        "exprs_1": elements(b"\x0b"),
+        "exprs_2": elements(b"\1\x0b"),
+        "exprs_3": elements(b"\1\1\x0b"),
+        "exprs_4": elements(b"\1\1\1\x0b"),
+        "exprs_5": elements(b"\1\1\1\1\x0b"),
+        "exprs_ref": elements(b"\xd2\0\x0b"),
+        "segments_0": in_module(section(9, many(b"\0\1\x0b\0"))),
+        "segments_1": in_module(section(9, many(b"\1\0\0"))),
+        "data_0": data(b"\1\0"),
+        "data_1": data(b"\1\1a"),
+        "bodies": in_module(one_type, section(3, leb(bodies) + b"\0" * bodies), section(10, many(b"\2\0\x0b"))),
+        "nops": in_module(one_type, section(3, b"\1\0"), section(10, b"\1" + leb(size + 2) + b"\0" + b"\1" * size + b"\x0b")),
+        "core_types": in_module(section(1, many(b"\x60\0\0"))),
+        "core_imports": in_module(section(2, many(b"\1a\1a\0\0"))),
+    }
+
+
+def main():
+    folder, size = sys.argv[1], int(sys.argv[2]) if len(sys.argv) > 2 else 1_000_000
+    os.makedirs(folder, exist_ok=True)
+    for name, content in forms(size).items():
+        with open(os.path.join(folder, name + ".wasm"), "wb") as file:
+            file.write(content)
+
+
+main()
