@@ -58,11 +58,11 @@ fn an_instruction_is_small(rt: HostRuntime) -> Result<(), Fail> {
     same("sizes", sizes.as_str(), "(12, 16)")
 }
 
-/// Of the bytes that spell them, a list of these takes at most 36 times as many.
+/// Of the bytes that spell them, a list of these takes at most 32 times as many.
 #[test]
 fn items_are_small(rt: HostRuntime) -> Result<(), Fail> {
     let expressions = (size_of::<ConstExpr>(), size_of::<Elements>());
     let parts = (size_of::<Section>(), size_of::<TypeItem>());
     let sizes = printed(rt.alloc(), &(expressions, parts))?;
-    same("sizes", sizes.as_str(), "((24, 64), (48, 32))")
+    same("sizes", sizes.as_str(), "((16, 56), (48, 32))")
 }

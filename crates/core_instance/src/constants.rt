@@ -67,7 +67,8 @@ impl Names {
     pub fn constant(&self, code: &ConstExpr) -> CoreValue
         ensures { result ≡ constant self.now code.now }
     {
-        match code.as_slice().first() {
+        let instrs = code.code();
+        match instrs.as_slice().first() {
             Some(Instr::Plain(op)) => self.op_value(*op),
             Some(Instr::I64Const(n)) => CoreValue::I64(n.cast_unsigned()),
             _ => CoreValue::I32(0),

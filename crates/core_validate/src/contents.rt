@@ -14,12 +14,13 @@ use crate::segments::{data_offset, exprs_of, indexes_of, memory_of, offset_in, t
 use core_body::{Spaces, check_body, check_expression, lesser, same_ref, value_of};
 use std::alloc::Global as Heap;
 use virt_base::{CoreType, NoMemory};
-use wasm_ast::{Body, ConstExpr, Data, Elements, Global, Instr, Module, RefType};
+use wasm_ast::{Body, ConstExpr, Data, Elements, Global, Module, RefType};
 
 fn global_fault(alloc: Heap, spaces: &Spaces<'_>, global: &Global) -> Result<Option<u32>, NoMemory>
     ensures { IfOk result (λ rule. rule ≡ fault (context_at spaces.now) (AGlobal global.now)) }
 {
-    let rule = check_expression(alloc, spaces, global.ty.value, global.init.as_slice())?;
+    let code = global.init.code();
+    let rule = check_expression(alloc, spaces, global.ty.value, code.as_slice())?;
     Ok(rule)
 }
 
@@ -89,12 +90,15 @@ fn fit(spaces: &Spaces<'_>, table: Option<u32>, ty: RefType) -> Option<u32>
 fn offset_fault(
     alloc: Heap,
     spaces: &Spaces<'_>,
-    offset: Option<&[Instr]>,
+    offset: Option<&ConstExpr>,
 ) -> Result<Option<u32>, NoMemory>
     ensures { IfOk result (λ rule. rule ≡ parts_fault (offset_parts (context_at spaces.now) (option_copied offset.entry))) }
 {
     match offset {
-        Some(code) => check_expression(alloc, spaces, CoreType::I32, code),
+        Some(expr) => {
+            let code = expr.code();
+            check_expression(alloc, spaces, CoreType::I32, code.as_slice())
+        }
         None => Ok(None),
     }
 }
@@ -109,10 +113,9 @@ fn exprs_fault(
 {
     let mut rule = None;
     for expr in exprs {
-        rule = lesser(
-            rule,
-            check_expression(alloc, spaces, value_of(ty), expr.as_slice())?,
-        );
+        let code = expr.code();
+        let own = check_expression(alloc, spaces, value_of(ty), code.as_slice())?;
+        rule = lesser(rule, own);
     }
     Ok(rule)
 }

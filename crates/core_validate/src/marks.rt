@@ -44,7 +44,8 @@ fn mark_exprs(marks: &mut [bool], exprs: &[ConstExpr])
     ensures { marks.new ≡ marked (gather functions_in_code exprs.now) marks.old }
 {
     for expr in exprs {
-        mark_code(marks, expr.as_slice());
+        let code = expr.code();
+        mark_code(marks, code.as_slice());
     }
 }
 
@@ -92,7 +93,8 @@ fn mark_globals(marks: &mut [bool], globals: &[Global])
     ensures { marks.new ≡ marked (gather (λ g. functions_in_code g.init) globals.now) marks.old }
 {
     for global in globals {
-        mark_code(marks, global.init.as_slice());
+        let code = global.init.code();
+        mark_code(marks, code.as_slice());
     }
 }
 

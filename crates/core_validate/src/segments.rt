@@ -4,7 +4,7 @@ ghost use Rattle.std.specs.Prelude.{◌≡◌, Option, Some, None, List};
 ghost use Rattle.std.specs.Option.{option_copied};
 ghost use Rattle.core_validate.specs.Items.{table_of, indexes_of, offset_in, exprs_of, memory_of, data_offset};
 
-use wasm_ast::{ConstExpr, Data, Elements, Instr};
+use wasm_ast::{ConstExpr, Data, Elements};
 
 /// The table that a segment fills.
 pub fn table_of(elements: &Elements) -> Option<u32>
@@ -39,14 +39,14 @@ pub fn indexes_of(elements: &Elements) -> &[u32]
 }
 
 /// Where an active segment begins.
-pub fn offset_in(elements: &Elements) -> Option<&[Instr]>
+pub fn offset_in(elements: &Elements) -> Option<&ConstExpr>
     ensures { option_copied result ≡ offset_in elements.now }
 {
     match elements {
         Elements::ActiveFuncs { offset, .. }
         | Elements::ActiveFuncsAt { offset, .. }
         | Elements::ActiveExprs { offset, .. }
-        | Elements::ActiveExprsAt { offset, .. } => Some(offset.as_slice()),
+        | Elements::ActiveExprsAt { offset, .. } => Some(offset),
         Elements::PassiveFuncs { .. }
         | Elements::DeclaredFuncs { .. }
         | Elements::PassiveExprs { .. }
@@ -82,11 +82,11 @@ pub fn memory_of(data: &Data) -> Option<u32>
 }
 
 /// Where an active data segment begins.
-pub fn data_offset(data: &Data) -> Option<&[Instr]>
+pub fn data_offset(data: &Data) -> Option<&ConstExpr>
     ensures { option_copied result ≡ data_offset data.now }
 {
     match data {
-        Data::Active { offset, .. } | Data::ActiveAt { offset, .. } => Some(offset.as_slice()),
+        Data::Active { offset, .. } | Data::ActiveAt { offset, .. } => Some(offset),
         Data::Passive { .. } => None,
     }
 }

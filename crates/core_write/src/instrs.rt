@@ -125,6 +125,7 @@ impl Writer for ConstExprWriter {
 
     #[tactic(auto, using(crate::proofs::Expressions::expr_fits, crate::proofs::Expressions::expr_written))]
     fn write(&self, alloc: Global, out: &mut Vec<u8>, value: &ConstExpr) -> Result<(), NoMemory> {
-        put_instrs(alloc, out, value.as_slice())
+        let code = value.code();
+        put_instrs(alloc, out, code.as_slice())
     }
 }

@@ -2,6 +2,7 @@
 #![tactic(auto)]
 
 mod apart;
+mod bare;
 mod boxed;
 mod component;
 mod const_expr;
@@ -18,7 +19,7 @@ pub use component::{
     CoreExport, CoreInstance, CoreSort, ExternDesc, Instance, LabelType, Labels, NamedItem,
     OuterSort, Primitive, Section, Sort, Span, TypeAlias, TypeDef, TypeItem, ValType,
 };
-pub use const_expr::ConstExpr;
+pub use const_expr::{Code, ConstExpr};
 pub use instr::{BlockType, BranchTable, Instr, Instrs, LoadOp, MemArg, Op, RefType, StoreOp};
 pub use maybe_type::MaybeType;
 pub use module::{

@@ -8,7 +8,7 @@ use Rattle.core_validate.proofs.marks.mark_globals.Goals as goal
 pub loop-global-preserved : goal.loop-global-preserved
 loop-global-preserved c =
     let i = c.loop-global.global-index in
-    ap (marked (gather (λ (g : Global). functions_in_code g.init) (drop (i + 1) c.args.globals.now))) (c.mark_code.ensures ∙ ap (λ l. marked (functions_in_code l) c.loop-global.marks) c.as_slice.ensures)
+    ap (marked (gather (λ (g : Global). functions_in_code g.init) (drop (i + 1) c.args.globals.now))) (c.mark_code.ensures ∙ ap (λ l. marked (functions_in_code l) c.loop-global.marks) (c.as_slice.ensures ∙ c.code-code.ensures))
     ∙ marked-step (λ (g : Global). functions_in_code g.init) c.args.globals.now i c.global-item.result c.loop-global.marks c.loop-global-test.true c.global-item.is ∙ c.loop-global.invariant
 
 pub returns : goal.returns
