@@ -4,7 +4,7 @@ ghost use Rattle.std.specs.Prelude.{◌≡◌, ◌≤◌, ◌<◌, IfOk, IfErr};
 ghost use Rattle.core_validate.specs.Validity.{IsValidModule};
 ghost use Rattle.core_write.specs.Written.{IsShortestOf, IsWritable};
 ghost use Rattle.adapter_emit.specs.Emit.{AreRoutines, state_in, stubs_in};
-ghost use Rattle.adapter_bytes.specs.Weight.{weight_in, most_weight};
+ghost use Rattle.adapter_bytes.specs.Weight.{weight_in, most_weight, AreNumberedStubs};
 ghost use Rattle.adapter_bytes.specs.declared.fault.EmitFault.TheVariants.{TooLarge as IsTooLarge};
 
 use crate::fault::EmitFault;
@@ -36,6 +36,19 @@ pub fn emit_bytes(alloc: Global, routines: &Routines) -> Result<EmittedBytes, Em
     if !is_light(alloc, &routines.stubs)? {
         return Err(EmitFault::TooLarge);
     }
+    let bytes = emit_light(alloc, routines)?;
+    Ok(bytes)
+}
+
+fn emit_light(alloc: Global, routines: &Routines) -> Result<EmittedBytes, NoMemory>
+    requires routines { AreRoutines routines.now }
+    requires numbered { AreNumberedStubs routines.now.stubs.items }
+    requires light { weight_in routines.now.stubs.items ≤ most_weight }
+    ensures state { IfOk result (λ bytes. IsShortestOf (state_in routines.now) bytes.state.items) }
+    ensures stubs { IfOk result (λ bytes. IsShortestOf (stubs_in routines.now) bytes.stubs.items) }
+    ensures valid { IfOk result (λ bytes. IsValidModule (state_in routines.now)) }
+    ensures valid_stubs { IfOk result (λ bytes. IsValidModule (stubs_in routines.now)) }
+{
     let emitted = emit(alloc, routines)?;
     let bytes = write_both(alloc, &emitted)?;
     Ok(bytes)

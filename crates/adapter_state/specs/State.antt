@@ -8,7 +8,9 @@ use Rattle.wasm_ast.specs.declared.module.CoreFunc.{CoreFunc}
 use Rattle.wasm_ast.specs.declared.module.Import.{Import}
 use Rattle.wasm_ast.specs.declared.module.ImportItem.TheVariants.{Func}
 use Rattle.wasm_ast.specs.declared.module.ExportItem.TheVariants.{Memory}
+use Rattle.wasm_ast.specs.declared.module.Data.{Data}
 use Rattle.wasm_ast.specs.declared.module.Data.TheVariants.{Active}
+use Rattle.wasm_ast.specs.declared.module.Global.{Global}
 use Rattle.wasm_ast.specs.declared.module.Module.{Module}
 use Rattle.adapter_code.specs.declared.layout.Layout.{Layout}
 use Rattle.adapter_code.specs.declared.statement.Width.TheVariants.{Narrow, Broad}
@@ -99,6 +101,14 @@ constant_code v = constant Narrow v ∷ End ∷ []
 abbrev pub state_types : List CoreFunc
 state_types = drops_type ∷ realloc_type ∷ reset_type None ∷ reset_type (Some Broad) ∷ []
 
+-- the end of the used part of the transfer area
+abbrev pub state_globals : Layout → List Global
+state_globals l = record { ty = record { value = I32; variable = true }; init = constant_code (transfer_at l) } ∷ []
+
+-- the static data in its place
+abbrev pub state_segments : Layout → List ℕ → List Data
+state_segments l image = Active (constant_code (image_at l)) image ∷ []
+
 -- the memory has the fewest pages that hold the layout, and as many at most
 abbrev pub state_parts : List Presence → Layout → List ℕ → Parts
 state_parts kinds l image = record {
@@ -106,9 +116,9 @@ state_parts kinds l image = record {
   imports = each_kind drop_import 0 kinds;
   imported = length (each_kind drop_import 0 kinds);
   memories = record { min = pages_of l; max = Some (pages_of l) } ∷ [];
-  globals = record { ty = record { value = I32; variable = true }; init = constant_code (transfer_at l) } ∷ [];
+  globals = state_globals l;
   exports = record { name = codes "memory"; item = Memory 0 } ∷ [];
-  segments = Active (constant_code (image_at l)) image ∷ [];
+  segments = state_segments l image;
 }
 
 abbrev pub state_of : List Presence → Layout → List ℕ → Posts → Module

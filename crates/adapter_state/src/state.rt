@@ -3,7 +3,7 @@
 ghost use Rattle.std.specs.Prelude.{◌≡◌, ◌≤◌, length, IfOk};
 ghost use Rattle.core_validate.specs.Validity.{IsValidModule};
 ghost use Rattle.adapter_code.specs.Layout.{Fits};
-ghost use Rattle.adapter_state.specs.State.{state_parts, state_types, constant_code, state_of};
+ghost use Rattle.adapter_state.specs.State.{state_parts, state_types, state_globals, state_segments, constant_code, state_of};
 
 use crate::functions::functions;
 use crate::imports::put_drop_imports;
@@ -13,8 +13,8 @@ use adapter_module::{Parts, assemble};
 use std::alloc::Global;
 use virt_base::{Bytes, CoreType, Items, NoMemory, Text};
 use wasm_ast::{
-    ConstExpr, CoreFunc, Data, Export, ExportItem, Global as GlobalItem, GlobalType, Instr, Limits,
-    Module, Op,
+    ConstExpr, CoreFunc, Data, Export, ExportItem, Few, Global as GlobalItem, GlobalType, Instr,
+    Limits, Module, Op,
 };
 
 /// The module of the adapter's memory, of which the kinds of its world are given by their number: realloc, the destructors of
@@ -39,6 +39,33 @@ pub fn state_module(
     assemble(alloc, parts, list)
 }
 
+// The end of the used part of the transfer area.
+fn globals(alloc: Global, layout: &Layout) -> Result<Items<GlobalItem>, NoMemory>
+    requires { Fits layout.now }
+    ensures { IfOk result (λ list. list ≡ state_globals layout.now) }
+{
+    let end = GlobalItem {
+        ty: GlobalType {
+            value: CoreType::I32,
+            variable: true,
+        },
+        init: constant(alloc, layout.transfer_at())?,
+    };
+    Ok(Items::new(vec![in alloc; end]?))
+}
+
+// The static data in its place.
+fn segments(alloc: Global, layout: &Layout, image: Bytes) -> Result<Items<Data>, NoMemory>
+    requires { Fits layout.now }
+    ensures { IfOk result (λ list. list ≡ state_segments layout.now image) }
+{
+    let data = Data::Active {
+        offset: constant(alloc, layout.image_at())?,
+        bytes: Few::new(alloc, image)?,
+    };
+    Ok(Items::new(vec![in alloc; data]?))
+}
+
 fn parts_of(
     alloc: Global,
     kinds: &[Presence],
@@ -57,29 +84,18 @@ fn parts_of(
         min: pages,
         max: Some(pages),
     };
-    let end = GlobalItem {
-        ty: GlobalType {
-            value: CoreType::I32,
-            variable: true,
-        },
-        init: constant(alloc, layout.transfer_at())?,
-    };
     let exported = Export {
         name: Text::from_str(alloc, "memory")?,
         item: ExportItem::Memory(0),
-    };
-    let data = Data::Active {
-        offset: constant(alloc, layout.image_at())?,
-        bytes: image,
     };
     Ok(Parts {
         types: types(alloc)?,
         imports,
         imported,
         memories: Items::new(vec![in alloc; memory]?),
-        globals: Items::new(vec![in alloc; end]?),
+        globals: globals(alloc, layout)?,
         exports: Items::new(vec![in alloc; exported]?),
-        segments: Items::new(vec![in alloc; data]?),
+        segments: segments(alloc, layout, image)?,
     })
 }
 

@@ -3,7 +3,7 @@ use std::alloc::Global;
 use std::mem::size_of;
 use std::test::Fail;
 use virt_base::{Cursor, Text, copy_bytes, next_byte};
-use wasm_ast::{ConstExpr, Elements, Instr, Op, Section, TypeItem};
+use wasm_ast::{ConstExpr, Data, Elements, Instr, Op, Section, TypeItem};
 
 /// The Unicode Standard, table 3-7: overlong forms, surrogates, what is above U+10FFFF, cut forms, and a text.
 const ROWS: &str = "\
@@ -58,11 +58,12 @@ fn an_instruction_is_small(rt: HostRuntime) -> Result<(), Fail> {
     same("sizes", sizes.as_str(), "(12, 16)")
 }
 
-/// Of the bytes that spell them, a list of these takes at most 32 times as many.
+/// Of the bytes that spell them, lists of these take at most 24 times as many, but for expressions that select by no type.
 #[test]
 fn items_are_small(rt: HostRuntime) -> Result<(), Fail> {
     let expressions = (size_of::<ConstExpr>(), size_of::<Elements>());
+    let segments = size_of::<Data>();
     let parts = (size_of::<Section>(), size_of::<TypeItem>());
-    let sizes = printed(rt.alloc(), &(expressions, parts))?;
-    same("sizes", sizes.as_str(), "((16, 56), (48, 32))")
+    let sizes = printed(rt.alloc(), &(expressions, segments, parts))?;
+    same("sizes", sizes.as_str(), "((16, 56), 40, (48, 32))")
 }

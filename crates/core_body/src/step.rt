@@ -25,8 +25,8 @@ use crate::spaces::Scope;
 use crate::stack::Stack;
 use std::alloc::Global;
 use std::collections::BTreeSet;
-use virt_base::{CoreType, CoreTypes, NoMemory};
-use wasm_ast::{BlockType, BranchTable, Instr, Op, RefType};
+use virt_base::{CoreType, NoMemory};
+use wasm_ast::{BlockType, BranchTable, Few, Instr, Op, RefType};
 
 /// The results of a block's type.
 fn block_results(scope: &Scope<'_>, ty: BlockType) -> Source
@@ -185,7 +185,11 @@ fn plain(scope: &Scope<'_>, p: &mut Progress, op: Op) -> Result<Verdict, NoMemor
     }
 }
 
-fn typed_select(scope: &Scope<'_>, p: &mut Progress, types: &CoreTypes) -> Result<Verdict, NoMemory>
+fn typed_select(
+    scope: &Scope<'_>,
+    p: &mut Progress,
+    types: &Few<CoreType>,
+) -> Result<Verdict, NoMemory>
     ensures { IfOk result (λ v. Says v (state_of (context_of scope.now) p.new) (applied (context_of scope.now) (of_shape (level_of (context_of scope.now) p.old.stack) (select_shape types.now)) (state_of (context_of scope.now) p.old))) }
 {
     match types.as_slice() {

@@ -6,8 +6,8 @@ ghost use Rattle.core_body.specs.Locals.{spread};
 
 use core_store::{Locals, Shared};
 use std::alloc::Global;
-use virt_base::{CoreTypes, Items, NoMemory};
-use wasm_ast::{Boxed, BranchTable, CoreFunc, Indexes, Instr, Instrs, LocalRun};
+use virt_base::{CoreType, CoreTypes, Items, NoMemory};
+use wasm_ast::{Boxed, BranchTable, CoreFunc, Few, Instr, Instrs, LocalRun};
 
 /// Function types in order, which an instance shares with its functions.
 pub type SharedFuncs = Items<Shared<CoreFunc>>;
@@ -18,10 +18,18 @@ fn copy_types(alloc: Global, types: &CoreTypes) -> Result<CoreTypes, NoMemory>
     Ok(Items::new(Vec::from_slice(alloc, types.as_slice())?))
 }
 
-fn copy_indexes(alloc: Global, indexes: &Indexes) -> Result<Indexes, NoMemory>
-    ensures { IfOk result (λ copy. copy ≡ indexes.now) }
+fn copy_selected(alloc: Global, types: &Few<CoreType>) -> Result<Few<CoreType>, NoMemory>
+    ensures { IfOk result (λ copy. copy ≡ types.now) }
 {
-    Ok(Items::new(Vec::from_slice(alloc, indexes.as_slice())?))
+    let copy = Items::new(Vec::from_slice(alloc, types.as_slice())?);
+    Few::new(alloc, copy)
+}
+
+fn copy_labels(alloc: Global, labels: &Few<u32>) -> Result<Few<u32>, NoMemory>
+    ensures { IfOk result (λ copy. copy ≡ labels.now) }
+{
+    let copy = Items::new(Vec::from_slice(alloc, labels.as_slice())?);
+    Few::new(alloc, copy)
 }
 
 /// The types of a body's locals.
@@ -70,11 +78,11 @@ fn copy_instr(alloc: Global, instr: &Instr) -> Result<Instr, NoMemory>
         Instr::Plain(op) => Instr::Plain(*op),
         Instr::I64Const(n) => Instr::I64Const(*n),
         Instr::SelectTyped(types) => {
-            let types = copy_types(alloc, types)?;
+            let types = copy_selected(alloc, types)?;
             Instr::SelectTyped(Boxed::new(alloc, types)?)
         }
         Instr::BrTable(table) => {
-            let labels = copy_indexes(alloc, &table.labels)?;
+            let labels = copy_labels(alloc, &table.labels)?;
             let default = table.default;
             Instr::BrTable(Boxed::new(alloc, BranchTable { labels, default })?)
         }

@@ -10,7 +10,7 @@ use crate::ops::op_of;
 use crate::types::{BlockTypeReader, CoreTypeReader, lacks};
 use std::alloc::Global;
 use virt_base::{Cursor, NoMemory, next_byte};
-use wasm_ast::{Boxed, BranchTable, ConstExpr, Instr, Instrs, Op};
+use wasm_ast::{Boxed, BranchTable, ConstExpr, Few, Instr, Instrs, Op};
 use wasm_format::{Reader, S64, Stop, U32, Vecs, Walk, read_until};
 
 /// The labels of a `br_table`. No memory is reserved by their count.
@@ -24,7 +24,7 @@ impl Reader for BranchTableReader {
 
     #[tactic(auto, unfolding(wasm_ast::specs::Instructions::branch_table))]
     fn read(&self, alloc: Global, c: &mut Cursor<'_>) -> Result<BranchTable, Stop> {
-        let labels = Vecs(U32).read(alloc, c)?;
+        let labels = Few::new(alloc, Vecs(U32).read(alloc, c)?)?;
         let default = U32.read(alloc, c)?;
         Ok(BranchTable { labels, default })
     }
@@ -78,7 +78,7 @@ fn instr_of(alloc: Global, c: &mut Cursor<'_>, byte: u8) -> Result<Instr, Stop>
     }
     match byte {
         0x1C => {
-            let types = Vecs(CoreTypeReader).read(alloc, c)?;
+            let types = Few::new(alloc, Vecs(CoreTypeReader).read(alloc, c)?)?;
             Ok(Instr::SelectTyped(Boxed::new(alloc, types)?))
         }
         0x42 => Ok(Instr::I64Const(S64.read(alloc, c)?)),

@@ -1,6 +1,6 @@
 ghost use Rattle.std.specs.Prelude.{◌≡◌, ◌<◌};
 ghost use Rattle.virt_base.specs.Place.{place};
-ghost use Rattle.wasm_format.specs.Format.{Format};
+ghost use Rattle.wasm_format.specs.Format.{Format, sized, anything};
 ghost use Rattle.wasm_format.specs.Reads.{Reads};
 ghost use Rattle.wasm_ast.specs.Items.{import_item, import, export_item, export, global, local_run, body, kind_and_funcs, low_elements, high_elements, elements, segment};
 
@@ -10,7 +10,9 @@ use crate::types::{
 };
 use std::alloc::Global;
 use virt_base::{Cursor, next_byte};
-use wasm_ast::{Body, Data, Elements, Export, ExportItem, Import, ImportItem, Indexes, LocalRun};
+use wasm_ast::{
+    Body, Data, Elements, Export, ExportItem, Few, Import, ImportItem, Indexes, LocalRun,
+};
 use wasm_format::{ByteLists, Names, Reader, Stop, U32, Vecs, expect_tag};
 
 /// What an import is.
@@ -250,6 +252,21 @@ impl Reader for ElementsReader {
     }
 }
 
+/// The bytes of data segments.
+#[derive(Clone, Copy)]
+struct FewBytesReader;
+
+impl Reader for FewBytesReader {
+    type Value = Few<u8>;
+
+    ghost format = { λ _. sized anything };
+
+    fn read(&self, alloc: Global, c: &mut Cursor<'_>) -> Result<Few<u8>, Stop> {
+        let bytes = ByteLists.read(alloc, c)?;
+        Ok(Few::new(alloc, bytes)?)
+    }
+}
+
 /// Data segments.
 #[derive(Clone, Copy)]
 pub struct DataReader;
@@ -265,16 +282,16 @@ impl Reader for DataReader {
             None => Err(Stop::Malformed),
             Some(0) => {
                 let offset = ConstExprReader.read(alloc, c)?;
-                let bytes = ByteLists.read(alloc, c)?;
+                let bytes = FewBytesReader.read(alloc, c)?;
                 Ok(Data::Active { offset, bytes })
             }
             Some(1) => Ok(Data::Passive {
-                bytes: ByteLists.read(alloc, c)?,
+                bytes: FewBytesReader.read(alloc, c)?,
             }),
             Some(2) => {
                 let memory = U32.read(alloc, c)?;
                 let offset = ConstExprReader.read(alloc, c)?;
-                let bytes = ByteLists.read(alloc, c)?;
+                let bytes = FewBytesReader.read(alloc, c)?;
                 Ok(Data::ActiveAt {
                     memory,
                     offset,

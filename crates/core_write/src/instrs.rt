@@ -4,12 +4,13 @@ ghost use Rattle.wasm_format.specs.Format.{Format, write_items};
 ghost use Rattle.wasm_ast.specs.Instructions.{branch_table, instr};
 ghost use Rattle.wasm_ast.specs.Expressions.{expr};
 
+use crate::lists::Fews;
 use crate::ops::put_op;
 use crate::types::{BlockTypeWriter, CoreTypeWriter};
 use std::alloc::Global;
 use virt_base::NoMemory;
 use wasm_ast::{BranchTable, ConstExpr, Instr, Instrs};
-use wasm_format::{S64, U32, Vecs, Writer, put_byte};
+use wasm_format::{S64, U32, Writer, put_byte};
 
 /// The labels of a `br_table`.
 #[derive(Clone, Copy)]
@@ -22,7 +23,7 @@ impl Writer for BranchTableWriter {
 
     #[tactic(auto, unfolding(wasm_ast::specs::Instructions::branch_table))]
     fn write(&self, alloc: Global, out: &mut Vec<u8>, value: &BranchTable) -> Result<(), NoMemory> {
-        Vecs(U32).write(alloc, out, &value.labels)?;
+        Fews(U32).write(alloc, out, &value.labels)?;
         U32.write(alloc, out, &value.default)
     }
 }
@@ -46,7 +47,7 @@ impl Writer for InstrWriter {
             }
             Instr::SelectTyped(types) => {
                 put_byte(alloc, out, 0x1C)?;
-                Vecs(CoreTypeWriter).write(alloc, out, types)
+                Fews(CoreTypeWriter).write(alloc, out, types)
             }
             Instr::Unreachable => put_byte(alloc, out, 0x00),
             Instr::Block(ty) => {

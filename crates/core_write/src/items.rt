@@ -2,13 +2,14 @@ ghost use Rattle.wasm_format.specs.Format.{Format};
 ghost use Rattle.wasm_ast.specs.Items.{import_item, import, export_item, export, global, local_run, body, kind_and_funcs, elements, segment};
 
 use crate::instrs::{ConstExprWriter, ExprWriter};
+use crate::lists::FewBytes;
 use crate::types::{
     CoreTypeWriter, GlobalTypeWriter, LimitsWriter, RefTypeWriter, TableTypeWriter,
 };
 use std::alloc::Global;
 use virt_base::NoMemory;
 use wasm_ast::{Body, Data, Elements, Export, ExportItem, Import, ImportItem, Indexes, LocalRun};
-use wasm_format::{ByteLists, Names, U32, Vecs, Writer, put_byte};
+use wasm_format::{Names, U32, Vecs, Writer, put_byte};
 
 /// What an import is.
 #[derive(Clone, Copy)]
@@ -257,11 +258,11 @@ impl Writer for DataWriter {
             Data::Active { offset, bytes } => {
                 put_byte(alloc, out, 0)?;
                 ConstExprWriter.write(alloc, out, offset)?;
-                ByteLists.write(alloc, out, bytes)
+                FewBytes.write(alloc, out, bytes)
             }
             Data::Passive { bytes } => {
                 put_byte(alloc, out, 1)?;
-                ByteLists.write(alloc, out, bytes)
+                FewBytes.write(alloc, out, bytes)
             }
             Data::ActiveAt {
                 memory,
@@ -271,7 +272,7 @@ impl Writer for DataWriter {
                 put_byte(alloc, out, 2)?;
                 U32.write(alloc, out, memory)?;
                 ConstExprWriter.write(alloc, out, offset)?;
-                ByteLists.write(alloc, out, bytes)
+                FewBytes.write(alloc, out, bytes)
             }
         }
     }

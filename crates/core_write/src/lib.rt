@@ -4,6 +4,7 @@
 mod instrs;
 mod items;
 mod laws;
+mod lists;
 mod ops;
 mod sections;
 mod types;

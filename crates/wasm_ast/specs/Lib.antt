@@ -1,4 +1,5 @@
 pub mod Boxed
+pub mod Fews
 pub mod ComponentItems
 pub mod Numeric
 pub mod Types

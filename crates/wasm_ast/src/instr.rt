@@ -1,7 +1,7 @@
 use crate::boxed::Boxed;
-use crate::module::Indexes;
+use crate::few::Few;
 use crate::numeric::NumericOp;
-use virt_base::{CoreType, CoreTypes, Items};
+use virt_base::{CoreType, Items};
 
 /// A reference type (WebAssembly Core 2.0, section 2.3.3).
 #[derive(Debug, Clone, Copy, PartialEq, Eq)]
@@ -91,7 +91,7 @@ pub enum Op {
 /// Where a `br_table` leads: by number, and else to the default.
 #[derive(Debug, Drop)]
 pub struct BranchTable {
-    pub labels: Indexes,
+    pub labels: Few<u32>,
     pub default: u32,
 }
 
@@ -100,7 +100,7 @@ pub struct BranchTable {
 pub enum Instr {
     Plain(Op),
     I64Const(i64),
-    SelectTyped(Boxed<CoreTypes>),
+    SelectTyped(Boxed<Few<CoreType>>),
     Unreachable,
     Block(BlockType),
     Loop(BlockType),

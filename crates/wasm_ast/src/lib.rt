@@ -6,6 +6,7 @@ mod bare;
 mod boxed;
 mod component;
 mod const_expr;
+mod few;
 mod instr;
 mod maybe_type;
 mod module;
@@ -20,6 +21,7 @@ pub use component::{
     OuterSort, Primitive, Section, Sort, Span, TypeAlias, TypeDef, TypeItem, ValType,
 };
 pub use const_expr::{Code, ConstExpr};
+pub use few::Few;
 pub use instr::{BlockType, BranchTable, Instr, Instrs, LoadOp, MemArg, Op, RefType, StoreOp};
 pub use maybe_type::MaybeType;
 pub use module::{

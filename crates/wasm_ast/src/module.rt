@@ -1,6 +1,7 @@
 use crate::const_expr::ConstExpr;
+use crate::few::Few;
 use crate::instr::{Instrs, RefType};
-use virt_base::{Bytes, CoreType, CoreTypes, Items, Text};
+use virt_base::{CoreType, CoreTypes, Items, Text};
 
 /// A function type.
 #[derive(Debug, Drop)]
@@ -142,17 +143,17 @@ pub enum Data {
     /// Kind 0: bytes for memory 0.
     Active {
         offset: ConstExpr,
-        bytes: Bytes,
+        bytes: Few<u8>,
     },
     /// Kind 1.
     Passive {
-        bytes: Bytes,
+        bytes: Few<u8>,
     },
     /// Kind 2: bytes for the memory at an index.
     ActiveAt {
         memory: u32,
         offset: ConstExpr,
-        bytes: Bytes,
+        bytes: Few<u8>,
     },
 }
 
