@@ -6,7 +6,7 @@ ghost use Rattle.adapter_module.specs.Module.{module_of};
 use std::alloc::Global;
 use virt_base::{Items, NoMemory, Text};
 use wasm_ast::{
-    Body, CoreFunc, Data, Export, ExportItem, Global as GlobalItem, Import, Limits, Module,
+    Body, CoreFunc, Data, Export, ExportItem, Global as GlobalItem, Import, Lean, Limits, Module,
 };
 
 /// A function that a module defines and exports: its name, the index of its type, and its body.
@@ -55,17 +55,17 @@ pub fn assemble(alloc: Global, parts: Parts, defined: Vec<Defined>) -> Result<Mo
         at += 1;
     }
     Ok(Module {
-        types,
-        imports,
-        functions,
-        tables: Items::empty(alloc),
-        memories,
-        globals,
-        exports,
+        types: Lean::new(alloc, types)?,
+        imports: Lean::new(alloc, imports)?,
+        functions: Lean::new(alloc, functions)?,
+        tables: Lean::empty(),
+        memories: Lean::new(alloc, memories)?,
+        globals: Lean::new(alloc, globals)?,
+        exports: Lean::new(alloc, exports)?,
         start: None,
-        elements: Items::empty(alloc),
+        elements: Lean::empty(),
         data_count: None,
-        code,
-        segments,
+        code: Lean::new(alloc, code)?,
+        segments: Lean::new(alloc, segments)?,
     })
 }

@@ -3,7 +3,7 @@ use std::alloc::Global;
 use std::mem::size_of;
 use std::test::Fail;
 use virt_base::{Cursor, Text, copy_bytes, next_byte};
-use wasm_ast::{ConstExpr, Data, Elements, Instr, Op, Section, TypeItem};
+use wasm_ast::{ConstExpr, Data, Elements, Instr, Module, Op, Section, TypeItem};
 
 /// The Unicode Standard, table 3-7: overlong forms, surrogates, what is above U+10FFFF, cut forms, and a text.
 const ROWS: &str = "\
@@ -62,8 +62,8 @@ fn an_instruction_is_small(rt: HostRuntime) -> Result<(), Fail> {
 #[test]
 fn items_are_small(rt: HostRuntime) -> Result<(), Fail> {
     let expressions = (size_of::<ConstExpr>(), size_of::<Elements>());
-    let segments = size_of::<Data>();
+    let segments = (size_of::<Data>(), size_of::<Module>());
     let parts = (size_of::<Section>(), size_of::<TypeItem>());
     let sizes = printed(rt.alloc(), &(expressions, segments, parts))?;
-    same("sizes", sizes.as_str(), "((16, 56), 40, (48, 32))")
+    same("sizes", sizes.as_str(), "((16, 56), (40, 176), (48, 32))")
 }

@@ -7,7 +7,7 @@ ghost use Rattle.core_body.specs.Locals.{spread};
 use core_store::{Locals, Shared};
 use std::alloc::Global;
 use virt_base::{CoreType, CoreTypes, Items, NoMemory};
-use wasm_ast::{Boxed, BranchTable, CoreFunc, Few, Instr, Instrs, LocalRun};
+use wasm_ast::{Boxed, BranchTable, CoreFunc, Few, Instr, Instrs, Lean, LocalRun};
 
 /// Function types in order, which an instance shares with its functions.
 pub type SharedFuncs = Items<Shared<CoreFunc>>;
@@ -60,7 +60,7 @@ fn copy_func(alloc: Global, func: &CoreFunc) -> Result<CoreFunc, NoMemory>
 }
 
 /// Copies of function types, each to be shared.
-pub fn share_funcs(alloc: Global, types: &Items<CoreFunc>) -> Result<SharedFuncs, NoMemory>
+pub fn share_funcs(alloc: Global, types: &Lean<CoreFunc>) -> Result<SharedFuncs, NoMemory>
     ensures { IfOk result (λ funcs. funcs ≡ types.now) }
 {
     let mut list = Vec::with_capacity(alloc, types.len())?;

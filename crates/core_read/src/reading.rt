@@ -35,7 +35,7 @@ impl Reader for CoreModules {
     #[tactic(auto, unfolding(wasm_ast::specs::Modules::core_module, wasm_ast::specs::Modules::all_sections))]
     fn read(&self, alloc: Global, c: &mut Cursor<'_>) -> Result<Module, Stop> {
         expect_bytes(c, PREAMBLE.as_slice())?;
-        let progress = read_to_the_end(alloc, c, Progress::start(alloc))?;
+        let progress = read_to_the_end(alloc, c, Progress::start())?;
         Ok(progress.module())
     }
 }
@@ -53,7 +53,7 @@ pub fn read_module(alloc: Global, bytes: &[u8]) -> Result<Module, ReadFault>
         return Err(ReadFault::Malformed(0));
     }
     let mut good = 0;
-    match read_sections(alloc, &mut c, Progress::start(alloc), &mut good) {
+    match read_sections(alloc, &mut c, Progress::start(), &mut good) {
         Ok(progress) => Ok(progress.module()),
         Err(Stop::NoMemory) => Err(ReadFault::NoMemory),
         Err(Stop::Malformed) => Err(ReadFault::Malformed(good as u64)),

@@ -1,6 +1,6 @@
 ghost use Rattle.std.specs.Prelude.{◌≡◌, ◌<◌, ◌==◌, length, OnOk};
 ghost use Rattle.virt_base.specs.Place.{place};
-ghost use Rattle.wasm_format.specs.Format.{Format, sized, vec_of};
+ghost use Rattle.wasm_format.specs.Format.{Format, sized, vec, vec_of};
 ghost use Rattle.wasm_ast.specs.Items.{body};
 ghost use Rattle.wasm_format.specs.Reads.{Reads};
 ghost use Rattle.wasm_ast.specs.Modules.{note, ranked, counted, low_section, high_section, sections, no_sections, is_count_of};
@@ -12,7 +12,7 @@ use crate::types::{CoreFuncReader, LimitsReader, TableTypeReader, lacks};
 use std::alloc::Global;
 use std::marker::Model;
 use virt_base::{Cursor, Items, NoMemory, next_byte};
-use wasm_ast::{Body, CoreSection, Data, Module};
+use wasm_ast::{Body, CoreSection, Data, Lean, Module};
 use wasm_format::{Building, CountedVecs, Reader, Sized, Stop, U32, Vecs, take_name};
 
 /// What is read so far: the sections, and the place of the last one in their order, from 1.
@@ -88,25 +88,40 @@ fn ranked<R: Reader + Drop>(
     }
 }
 
+/// Reads a section's list in the same way.
+fn ranked_list<R: Reader + Drop>(
+    item: R,
+    alloc: Global,
+    c: &mut Cursor<'_>,
+    last: u8,
+    rank: u8,
+) -> Result<Lean<R::Value>, Stop>
+    ensures input { c.new.bytes ≡ c.old.bytes }
+    ensures value { Reads result c.new ((ranked last rank (sized (vec (R.format item)))).read (place c.old)) }
+{
+    let items = ranked(Vecs(item), alloc, c, last, rank)?;
+    Ok(Lean::new(alloc, items)?)
+}
+
 impl Progress {
-    pub fn start(alloc: Global) -> Progress
+    pub fn start() -> Progress
         ensures { result ≡ no_sections }
     {
         Progress {
             rank: 0,
             found: Module {
-                types: Items::empty(alloc),
-                imports: Items::empty(alloc),
-                functions: Items::empty(alloc),
-                tables: Items::empty(alloc),
-                memories: Items::empty(alloc),
-                globals: Items::empty(alloc),
-                exports: Items::empty(alloc),
+                types: Lean::empty(),
+                imports: Lean::empty(),
+                functions: Lean::empty(),
+                tables: Lean::empty(),
+                memories: Lean::empty(),
+                globals: Lean::empty(),
+                exports: Lean::empty(),
                 start: None,
-                elements: Items::empty(alloc),
+                elements: Lean::empty(),
                 data_count: None,
-                code: Items::empty(alloc),
-                segments: Items::empty(alloc),
+                code: Lean::empty(),
+                segments: Lean::empty(),
             },
         }
     }
@@ -131,12 +146,12 @@ impl Progress {
                 Sized(Notes).read(alloc, c)?;
                 Ok(CoreSection::Custom)
             }
-            1 => Ok(CoreSection::Types(ranked(Vecs(CoreFuncReader), alloc, c, last, 1)?)),
-            2 => Ok(CoreSection::Imports(ranked(Vecs(ImportReader), alloc, c, last, 2)?)),
-            3 => Ok(CoreSection::Functions(ranked(Vecs(U32), alloc, c, last, 3)?)),
-            4 => Ok(CoreSection::Tables(ranked(Vecs(TableTypeReader), alloc, c, last, 4)?)),
-            5 => Ok(CoreSection::Memories(ranked(Vecs(LimitsReader), alloc, c, last, 5)?)),
-            6 => Ok(CoreSection::Globals(ranked(Vecs(GlobalReader), alloc, c, last, 6)?)),
+            1 => Ok(CoreSection::Types(ranked_list(CoreFuncReader, alloc, c, last, 1)?)),
+            2 => Ok(CoreSection::Imports(ranked_list(ImportReader, alloc, c, last, 2)?)),
+            3 => Ok(CoreSection::Functions(ranked_list(U32, alloc, c, last, 3)?)),
+            4 => Ok(CoreSection::Tables(ranked_list(TableTypeReader, alloc, c, last, 4)?)),
+            5 => Ok(CoreSection::Memories(ranked_list(LimitsReader, alloc, c, last, 5)?)),
+            6 => Ok(CoreSection::Globals(ranked_list(GlobalReader, alloc, c, last, 6)?)),
             _ => Err(lacks(c, id)),
         }
     }
@@ -160,13 +175,14 @@ impl Progress {
     {
         let last = self.rank;
         match id {
-            7 => Ok(CoreSection::Exports(ranked(Vecs(ExportReader), alloc, c, last, 7)?)),
+            7 => Ok(CoreSection::Exports(ranked_list(ExportReader, alloc, c, last, 7)?)),
             8 => Ok(CoreSection::Start(ranked(U32, alloc, c, last, 8)?)),
-            9 => Ok(CoreSection::Elements(ranked(Vecs(ElementsReader), alloc, c, last, 9)?)),
-            10 => Ok(CoreSection::Code(self.code(alloc, c)?)),
+            9 => Ok(CoreSection::Elements(ranked_list(ElementsReader, alloc, c, last, 9)?)),
+            10 => Ok(CoreSection::Code(Lean::new(alloc, self.code(alloc, c)?)?)),
             11 => {
                 let count = self.found.data_count;
-                Ok(CoreSection::Segments(ranked(Segments { count }, alloc, c, last, 12)?))
+                let segments = ranked(Segments { count }, alloc, c, last, 12)?;
+                Ok(CoreSection::Segments(Lean::new(alloc, segments)?))
             }
             12 => Ok(CoreSection::DataCount(ranked(U32, alloc, c, last, 10)?)),
             _ => Err(lacks(c, id)),

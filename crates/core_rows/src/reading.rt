@@ -213,11 +213,14 @@ fn large_modules_are_read(rt: HostRuntime) -> Result<(), Fail> {
 /// A module of 34 bytes that exports a function which answers 7.
 const SEVEN: &str = "\
 start 0105016000017f03020100070501016600000a0601040041070b => \
-Module { types: Items { items: [CoreFunc { params: Items { items: [] }, results: Items { items: [I32] } }] }, \
-imports: Items { items: [] }, functions: Items { items: [0] }, tables: Items { items: [] }, memories: Items { items: [] }, \
-globals: Items { items: [] }, exports: Items { items: [Export { name: Text { chars: \"f\" }, item: Func(0) }] }, start: None, \
-elements: Items { items: [] }, data_count: None, code: Items { items: [Body { locals: Items { items: [] }, \
-code: Items { items: [Plain(I32Const(7)), End] } }] }, segments: Items { items: [] } }";
+Module { types: Lean { kept: Apart(Apart { inner: Items { items: [\
+CoreFunc { params: Items { items: [] }, results: Items { items: [I32] } }] } }) }, \
+imports: Lean { kept: Empty }, functions: Lean { kept: Apart(Apart { inner: Items { items: [0] } }) }, \
+tables: Lean { kept: Empty }, memories: Lean { kept: Empty }, globals: Lean { kept: Empty }, \
+exports: Lean { kept: Apart(Apart { inner: Items { items: [Export { name: Text { chars: \"f\" }, item: Func(0) }] } }) }, \
+start: None, elements: Lean { kept: Empty }, data_count: None, \
+code: Lean { kept: Apart(Apart { inner: Items { items: [Body { locals: Items { items: [] }, \
+code: Items { items: [Plain(I32Const(7)), End] } }] } }) }, segments: Lean { kept: Empty } }";
 
 fn read(alloc: Global, words: &str) -> Result<String, Fail> {
     shown(alloc, &module_of(alloc, words)?)

@@ -7,7 +7,7 @@ use core_validate::validate;
 use std::alloc::Global;
 use std::test::Fail;
 use virt_base::Items;
-use wasm_ast::{Body, Module};
+use wasm_ast::{Body, Lean, Module};
 
 const ROWS: &str = "\
 # The wrong constant, and the right one.
@@ -135,7 +135,7 @@ fn judge_body(alloc: Global, opcodes: &str) -> Result<String, Fail> {
         code: instrs_of(alloc, opcodes)?,
     })?;
     let mut module = module_of(alloc, "bare code")?;
-    module.code = bodies;
+    module.code = Lean::new(alloc, bodies)?;
     judged(alloc, &module)
 }
 

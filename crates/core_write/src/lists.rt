@@ -6,7 +6,7 @@ ghost use Rattle.wasm_format.specs.Format.{Format, vec, write_items, sized, anyt
 
 use std::alloc::Global;
 use virt_base::{NoMemory, write_u32};
-use wasm_ast::Few;
+use wasm_ast::{Few, Lean};
 use wasm_format::{Writer, put_bytes};
 
 fn put_all<W: Writer>(
@@ -36,6 +36,25 @@ fn put_list<W: Writer>(
 {
     write_u32(alloc, out, items.len() as u32)?;
     put_all(writer, alloc, out, items)
+}
+
+/// A count, and that many.
+#[derive(Drop)]
+pub struct Leans<W>(pub W);
+
+impl<W: Writer> Writer for Leans<W> {
+    type Value = Lean<W::Value>;
+
+    ghost format = { λ s. vec (W.format s.0) };
+
+    fn write(
+        &self,
+        alloc: Global,
+        out: &mut Vec<u8>,
+        value: &Lean<W::Value>,
+    ) -> Result<(), NoMemory> {
+        put_list(&self.0, alloc, out, value.as_slice())
+    }
 }
 
 /// A count, and that many.

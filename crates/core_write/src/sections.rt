@@ -5,11 +5,12 @@ ghost use Rattle.core_write.specs.Written.{list_section, ListFits, number_sectio
 use crate::items::{
     BodyWriter, DataWriter, ElementsWriter, ExportWriter, GlobalWriter, ImportWriter,
 };
+use crate::lists::Leans;
 use crate::types::{CoreFuncWriter, LimitsWriter, TableTypeWriter};
 use std::alloc::Global;
-use virt_base::{Items, NoMemory};
-use wasm_ast::Module;
-use wasm_format::{Sized, U32, Vecs, Writer, put_byte};
+use virt_base::NoMemory;
+use wasm_ast::{Lean, Module};
+use wasm_format::{Sized, U32, Writer, put_byte};
 
 /// Adds a section that holds a list, unless it is empty.
 fn put_list<W: Writer + Drop>(
@@ -17,7 +18,7 @@ fn put_list<W: Writer + Drop>(
     out: &mut Vec<u8>,
     id: u8,
     writer: W,
-    items: &Items<W::Value>,
+    items: &Lean<W::Value>,
 ) -> Result<(), NoMemory>
     requires { ListFits (W.format writer) items.now }
     ensures { OnOk result (out.new.items ≡ out.old.items ++ list_section id (W.format writer) items.now) }
@@ -26,7 +27,7 @@ fn put_list<W: Writer + Drop>(
         return Ok(());
     }
     put_byte(alloc, out, id)?;
-    Sized(Vecs(writer)).write(alloc, out, items)
+    Sized(Leans(writer)).write(alloc, out, items)
 }
 
 /// Adds a section that holds a number, if it is there.

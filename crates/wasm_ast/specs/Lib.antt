@@ -1,5 +1,6 @@
 pub mod Boxed
 pub mod Fews
+pub mod Leans
 pub mod ComponentItems
 pub mod Numeric
 pub mod Types

@@ -8,6 +8,7 @@ mod component;
 mod const_expr;
 mod few;
 mod instr;
+mod lean;
 mod maybe_type;
 mod module;
 mod numeric;
@@ -23,6 +24,7 @@ pub use component::{
 pub use const_expr::{Code, ConstExpr};
 pub use few::Few;
 pub use instr::{BlockType, BranchTable, Instr, Instrs, LoadOp, MemArg, Op, RefType, StoreOp};
+pub use lean::Lean;
 pub use maybe_type::MaybeType;
 pub use module::{
     Body, CoreFunc, Data, Elements, Export, ExportItem, Exprs, Global, GlobalType, Import,

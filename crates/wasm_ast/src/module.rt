@@ -1,6 +1,7 @@
 use crate::const_expr::ConstExpr;
 use crate::few::Few;
 use crate::instr::{Instrs, RefType};
+use crate::lean::Lean;
 use virt_base::{CoreType, CoreTypes, Items, Text};
 
 /// A function type.
@@ -160,16 +161,16 @@ pub enum Data {
 /// A core module (WebAssembly Core 2.0, section 2.5): a list for each section. An absent section is an empty list.
 #[derive(Debug, Drop)]
 pub struct Module {
-    pub types: Items<CoreFunc>,
-    pub imports: Items<Import>,
-    pub functions: Indexes,
-    pub tables: Items<TableType>,
-    pub memories: Items<Limits>,
-    pub globals: Items<Global>,
-    pub exports: Items<Export>,
+    pub types: Lean<CoreFunc>,
+    pub imports: Lean<Import>,
+    pub functions: Lean<u32>,
+    pub tables: Lean<TableType>,
+    pub memories: Lean<Limits>,
+    pub globals: Lean<Global>,
+    pub exports: Lean<Export>,
     pub start: Option<u32>,
-    pub elements: Items<Elements>,
+    pub elements: Lean<Elements>,
     pub data_count: Option<u32>,
-    pub code: Items<Body>,
-    pub segments: Items<Data>,
+    pub code: Lean<Body>,
+    pub segments: Lean<Data>,
 }

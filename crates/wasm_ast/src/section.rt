@@ -1,22 +1,20 @@
-use crate::module::{
-    Body, CoreFunc, Data, Elements, Export, Global, Import, Indexes, Limits, TableType,
-};
-use virt_base::Items;
+use crate::lean::Lean;
+use crate::module::{Body, CoreFunc, Data, Elements, Export, Global, Import, Limits, TableType};
 
 /// A section of a core module (WebAssembly Core 2.0, section 5.5.2). Of a custom one nothing is kept.
 #[derive(Debug, Drop)]
 pub enum CoreSection {
     Custom,
-    Types(Items<CoreFunc>),
-    Imports(Items<Import>),
-    Functions(Indexes),
-    Tables(Items<TableType>),
-    Memories(Items<Limits>),
-    Globals(Items<Global>),
-    Exports(Items<Export>),
+    Types(Lean<CoreFunc>),
+    Imports(Lean<Import>),
+    Functions(Lean<u32>),
+    Tables(Lean<TableType>),
+    Memories(Lean<Limits>),
+    Globals(Lean<Global>),
+    Exports(Lean<Export>),
     Start(u32),
-    Elements(Items<Elements>),
+    Elements(Lean<Elements>),
     DataCount(u32),
-    Code(Items<Body>),
-    Segments(Items<Data>),
+    Code(Lean<Body>),
+    Segments(Lean<Data>),
 }
