@@ -6,6 +6,8 @@ mod files_and_sinks;
 #[cfg(test)]
 mod formats;
 #[cfg(test)]
+mod kept_types;
+#[cfg(test)]
 mod numbers;
 #[cfg(test)]
 mod rows;

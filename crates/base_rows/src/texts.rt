@@ -65,5 +65,5 @@ fn items_are_small(rt: HostRuntime) -> Result<(), Fail> {
     let segments = (size_of::<Data>(), size_of::<Module>());
     let parts = (size_of::<Section>(), size_of::<TypeItem>());
     let sizes = printed(rt.alloc(), &(expressions, segments, parts))?;
-    same("sizes", sizes.as_str(), "((16, 56), (40, 176), (48, 32))")
+    same("sizes", sizes.as_str(), "((16, 56), (40, 176), (48, 24))")
 }

@@ -1,6 +1,7 @@
 pub mod PlainLemmas
 pub mod CoreInstanceLaws
 pub mod TypeLaws
+pub mod Counted
 pub mod ItemLaws
 pub mod TypeSectionLaws
 pub mod ComponentLaws

@@ -8,10 +8,10 @@ ghost use Rattle.comp_grammar.specs.TypeSections.{type_alias, definition, declar
 use crate::aparts::Aparts;
 use crate::due::Due;
 use crate::externs::{DescReader, ExternNames, lacks};
-use crate::types::TypeDefReader;
+use crate::types::KeptTypeReader;
 use std::alloc::Global;
 use virt_base::{Cursor, Items, NoMemory, next_byte};
-use wasm_ast::{TypeAlias, TypeDef, TypeItem};
+use wasm_ast::{KeptType, TypeAlias, TypeItem};
 use wasm_format::{Names, Reader, Stop, U32, Walk, expect_tag, read_until};
 
 /// Aliases in instance types.
@@ -49,7 +49,7 @@ fn definition(alloc: Global, c: &mut Cursor<'_>) -> Result<TypeItem, Stop>
     ensures input { c.new.bytes ≡ c.old.bytes }
     ensures value { Reads result c.new (definition.read (place c.old)) }
 {
-    Ok(TypeItem::Define(TypeDefReader.read(alloc, c)?))
+    Ok(TypeItem::Define(KeptTypeReader.read(alloc, c)?))
 }
 
 /// What an instance type declares.
@@ -60,7 +60,7 @@ fn declaration(alloc: Global, c: &mut Cursor<'_>) -> Result<TypeItem, Stop>
 {
     match next_byte(c) {
         None => Err(Stop::Malformed),
-        Some(1) => Ok(TypeItem::Define(TypeDefReader.read(alloc, c)?)),
+        Some(1) => Ok(TypeItem::Define(KeptTypeReader.read(alloc, c)?)),
         Some(2) => Ok(TypeItem::Alias(TypeAliasReader.read(alloc, c)?)),
         Some(4) => {
             let name = Aparts(ExternNames).read(alloc, c)?;
@@ -72,25 +72,11 @@ fn declaration(alloc: Global, c: &mut Cursor<'_>) -> Result<TypeItem, Stop>
 }
 
 /// The number of declarations of an instance type; 0 of every other type.
-fn declarations_in(def: &TypeDef) -> u32
+#[tactic(auto, using(comp_grammar::proofs::Counted::declarations_counted))]
+fn declarations_in(def: &KeptType) -> u32
     ensures { result ≡ declarations_in def.now }
 {
-    match def {
-        TypeDef::Instance { declarations } => *declarations,
-        TypeDef::Primitive(_)
-        | TypeDef::Record { .. }
-        | TypeDef::Variant { .. }
-        | TypeDef::List(_)
-        | TypeDef::Tuple { .. }
-        | TypeDef::Flags { .. }
-        | TypeDef::Enum { .. }
-        | TypeDef::Option(_)
-        | TypeDef::Result { .. }
-        | TypeDef::Own(_)
-        | TypeDef::Borrow(_)
-        | TypeDef::Func { .. }
-        | TypeDef::Resource { .. } => 0,
-    }
+    def.declarations().unwrap_or(0)
 }
 
 /// The number of declarations that an item opens.

@@ -4,11 +4,10 @@ ghost use Rattle.wasm_format.specs.Format.{Format};
 ghost use Rattle.wasm_format.specs.Reads.{Reads};
 ghost use Rattle.comp_grammar.specs.Types.{primitive_of, primitive_type, indexed_type, val_type, maybe_type, label_type, case_type, func_result, destructor, aggregate_def, other_def, type_def};
 
-use crate::aparts::Aparts;
 use crate::externs::lacks;
 use std::alloc::Global;
 use virt_base::{Cursor, next_byte};
-use wasm_ast::{CaseType, LabelType, MaybeType, Primitive, TypeDef, ValType};
+use wasm_ast::{CaseType, KeptType, LabelType, MaybeType, Primitive, TypeDef, ValType};
 use wasm_format::{Names, Reader, S33Index, Stop, U32, Vecs, expect_tag, next_is_tag};
 
 /// The primitive type of a tag that was taken.
@@ -180,20 +179,20 @@ fn aggregate_def(alloc: Global, c: &mut Cursor<'_>, byte: u8) -> Result<TypeDef,
 {
     match byte {
         0x72 => Ok(TypeDef::Record {
-            fields: Aparts(Vecs(LabelTypeReader)).read(alloc, c)?,
+            fields: Vecs(LabelTypeReader).read(alloc, c)?,
         }),
         0x71 => Ok(TypeDef::Variant {
-            cases: Aparts(Vecs(CaseTypeReader)).read(alloc, c)?,
+            cases: Vecs(CaseTypeReader).read(alloc, c)?,
         }),
         0x70 => Ok(TypeDef::List(ValTypeReader.read(alloc, c)?)),
         0x6F => Ok(TypeDef::Tuple {
-            types: Aparts(Vecs(ValTypeReader)).read(alloc, c)?,
+            types: Vecs(ValTypeReader).read(alloc, c)?,
         }),
         0x6E => Ok(TypeDef::Flags {
-            labels: Aparts(Vecs(Names)).read(alloc, c)?,
+            labels: Vecs(Names).read(alloc, c)?,
         }),
         0x6D => Ok(TypeDef::Enum {
-            labels: Aparts(Vecs(Names)).read(alloc, c)?,
+            labels: Vecs(Names).read(alloc, c)?,
         }),
         _ => Err(lacks(c, byte)),
     }
@@ -216,7 +215,7 @@ fn other_def(alloc: Global, c: &mut Cursor<'_>, byte: u8) -> Result<TypeDef, Sto
         0x69 => Ok(TypeDef::Own(U32.read(alloc, c)?)),
         0x68 => Ok(TypeDef::Borrow(U32.read(alloc, c)?)),
         0x40 => {
-            let params = Aparts(Vecs(LabelTypeReader)).read(alloc, c)?;
+            let params = Vecs(LabelTypeReader).read(alloc, c)?;
             let result = MaybeType::new(FuncResultReader.read(alloc, c)?);
             Ok(TypeDef::Func { params, result })
         }
@@ -234,7 +233,7 @@ fn other_def(alloc: Global, c: &mut Cursor<'_>, byte: u8) -> Result<TypeDef, Sto
 
 /// Definitions of types; of instance types without their declarations.
 #[derive(Clone, Copy)]
-pub struct TypeDefReader;
+struct TypeDefReader;
 
 impl Reader for TypeDefReader {
     type Value = TypeDef;
@@ -255,5 +254,20 @@ impl Reader for TypeDefReader {
                 }
             }
         }
+    }
+}
+
+/// Definitions as sections keep them.
+#[derive(Clone, Copy)]
+pub struct KeptTypeReader;
+
+impl Reader for KeptTypeReader {
+    type Value = KeptType;
+
+    ghost format = { λ _. type_def };
+
+    fn read(&self, alloc: Global, c: &mut Cursor<'_>) -> Result<KeptType, Stop> {
+        let def = TypeDefReader.read(alloc, c)?;
+        Ok(KeptType::new(alloc, def)?)
     }
 }

@@ -1,12 +1,25 @@
 -- The first definition of a section of types is that of the first items, and the others are those of the items behind.
 use Rattle.std.proofs.Common.{◌≡◌, ◌∙◌, ◌+◌, ◌-◌, ◌<◌, ap, sym, refl, ℕ, zero, suc, List, [], ◌∷◌, take, drop, arith}
+use Rattle.std.specs.Prelude.{unwrap_or}
+use Rattle.wasm_ast.specs.declared.component.TypeDef.{TypeDef}
 use Rattle.wasm_ast.specs.declared.component.TypeDef.TheVariants as defs
 use Rattle.wasm_ast.specs.declared.component.TypeItem.{TypeItem}
 use Rattle.wasm_ast.specs.declared.component.TypeItem.TheVariants as items
+use Rattle.wasm_ast.specs.KeptTypes.{declaration_count, resource_destructor}
 use Rattle.comp_types.specs.Declarations.{Declaration, Declarations, ATypeDef, AnInstanceType, ATypeAlias, ATypeExport, Done, Then, first_of, behind, grouped}
 use Rattle.comp_types.specs.Spaces.{Space}
 use Rattle.comp_link.specs.Plans.{of_type}
-use Rattle.comp_linking.specs.Firsts.{declared_by, taken, of_item}
+use Rattle.comp_linking.specs.Firsts.{declared_by, destructor_in, taken, of_item}
+
+-- ---- what is told of a definition at once
+
+pub declarations_counted : (def : TypeDef) → unwrap_or (declaration_count def) 0 ≡ declared_by (items.Define def)
+declarations_counted (defs.Instance n) = refl
+declarations_counted _ = refl
+
+pub destructor_told : (def : TypeDef) → resource_destructor def ≡ destructor_in (items.Define def)
+destructor_told (defs.Resource destructor) = refl
+destructor_told _ = refl
 
 -- ---- so many definitions, and so many more
 

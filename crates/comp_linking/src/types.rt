@@ -16,15 +16,15 @@ use comp_scopes::Scope;
 use comp_validate::define_types;
 use std::alloc::Global;
 use virt_base::NoMemory;
-use wasm_ast::{TypeDef, TypeItem};
+use wasm_ast::TypeItem;
 
 /// How many declarations stand behind an item.
+#[tactic(auto, using(crate::proofs::FirstLemmas::declarations_counted))]
 fn declared_by(item: &TypeItem) -> u32
     ensures { result ≡ declared_by item.now }
 {
     match item {
-        TypeItem::Define(TypeDef::Instance { declarations }) => *declarations,
-        TypeItem::Define(_) => 0,
+        TypeItem::Define(def) => def.declarations().unwrap_or(0),
         TypeItem::Alias(_) => 0,
         TypeItem::Export { name: _, desc: _ } => 0,
     }
@@ -53,12 +53,12 @@ fn first_length(items: &[TypeItem]) -> Result<usize, NoMemory>
 }
 
 /// The destructor of a resource; nothing of another type.
+#[tactic(auto, using(crate::proofs::FirstLemmas::destructor_told))]
 fn destructor_in(item: &TypeItem) -> Option<Option<u32>>
     ensures { result ≡ destructor_in item.now }
 {
     match item {
-        TypeItem::Define(TypeDef::Resource { destructor }) => Some(*destructor),
-        TypeItem::Define(_) => None,
+        TypeItem::Define(def) => def.destructor(),
         TypeItem::Alias(_) => None,
         TypeItem::Export { name: _, desc: _ } => None,
     }

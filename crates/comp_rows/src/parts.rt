@@ -5,7 +5,7 @@ use crate::words::{named, said, shown};
 use comp_read::read_component;
 use std::alloc::Global;
 use std::test::Fail;
-use wasm_ast::{Component, Section, Span, TypeDef, TypeItem};
+use wasm_ast::{Component, Section, Span, TypeItem};
 
 fn part(alloc: Global, before: &str, span: Span) -> Result<String, Fail> {
     let mut words = shown(alloc, before, &span.from)?;
@@ -15,11 +15,13 @@ fn part(alloc: Global, before: &str, span: Span) -> Result<String, Fail> {
 
 /// An instance type by the number of its declarations.
 fn type_item(alloc: Global, item: &TypeItem) -> Result<String, Fail> {
-    match item {
-        TypeItem::Define(TypeDef::Instance { declarations }) => {
-            shown(alloc, " instance ", declarations)
-        }
-        _ => said(alloc, " other"),
+    let declarations = match item {
+        TypeItem::Define(def) => def.declarations(),
+        _ => None,
+    };
+    match declarations {
+        Some(declarations) => shown(alloc, " instance ", &declarations),
+        None => said(alloc, " other"),
     }
 }
 

@@ -5,6 +5,7 @@ use Rattle.wasm_ast.specs.declared.component.TypeDef.{TypeDef}
 use Rattle.wasm_ast.specs.declared.component.TypeDef.TheVariants as defs
 use Rattle.wasm_ast.specs.declared.component.TypeItem.{TypeItem}
 use Rattle.wasm_ast.specs.declared.component.TypeItem.TheVariants as items
+use Rattle.wasm_ast.specs.KeptTypes.{declaration_count}
 use Rattle.comp_types.specs.Declarations.{Declaration, Declarations, ATypeDef, AnInstanceType, ATypeAlias, ATypeExport, Done, Then, first_of, behind, defined, grouped}
 use Rattle.comp_types.specs.Spaces.{Space}
 use Rattle.comp_types.specs.Added.{opened, instance_type, after_declaration, after_declarations}
@@ -13,7 +14,7 @@ use Rattle.comp_types.specs.Validity.{IsValidDeclaration, BreaksDeclaration}
 use Rattle.comp_around.specs.declared.scopes.Scopes.{Scopes}
 use Rattle.comp_validate.specs.Closing.{closed}
 use Rattle.comp_validate.specs.Stack.{IsReady, one_less}
-use Rattle.comp_validate.specs.Rest.{in_front, alone, def_count, item_count, Wholly, Rest}
+use Rattle.comp_validate.specs.Rest.{in_front, alone, item_count, Wholly, Rest}
 
 -- ---- a declaration in front
 
@@ -73,11 +74,11 @@ end_deep (suc n) counts around t s x rule e deep = wholly_deep (t ∷ around) s 
 
 -- ---- items
 
-plain_defined : (d : TypeDef) (ds : Declarations) → def_count d ≡ None → defined d ds ≡ Then (ATypeDef d) ds
+plain_defined : (d : TypeDef) (ds : Declarations) → declaration_count d ≡ None → defined d ds ≡ Then (ATypeDef d) ds
 plain_defined (defs.Instance n) ds e = (let never : Some n ≡ None = e in absurd (cc))
 plain_defined _ ds e = refl
 
-open_defined : (d : TypeDef) (n : ℕ) (ds : Declarations) → def_count d ≡ Some n → defined d ds ≡ Then (AnInstanceType (first_of n ds)) (behind n ds)
+open_defined : (d : TypeDef) (n : ℕ) (ds : Declarations) → declaration_count d ≡ Some n → defined d ds ≡ Then (AnInstanceType (first_of n ds)) (behind n ds)
 open_defined (defs.Instance m) n ds e = (let same : m ≡ n = cc in (λ i. Then (AnInstanceType (first_of (same i) ds)) (behind (same i) ds)))
 open_defined _ n ds e = (let never : None ≡ Some n = e in absurd (cc))
 

@@ -1,10 +1,9 @@
 -- What is still to be judged of a section of types while instance types are open: each has so many declarations left, and then it is
 -- closed. `whole` is what is to be said of the whole section, of the scopes at its end and the answer.
 use Rattle.std.specs.Prelude.{◌≡◌, ℕ, List, [], ◌∷◌, Option, Some, None, IsTrue, ◌⊎◌, ⊤}
-use Rattle.wasm_ast.specs.declared.component.TypeDef.{TypeDef}
-use Rattle.wasm_ast.specs.declared.component.TypeDef.TheVariants as defs
 use Rattle.wasm_ast.specs.declared.component.TypeItem.{TypeItem}
 use Rattle.wasm_ast.specs.declared.component.TypeItem.TheVariants as items
+use Rattle.wasm_ast.specs.KeptTypes.{declaration_count}
 use Rattle.comp_types.specs.Declarations.{Declaration, Declarations, ATypeDef, ATypeAlias, ATypeExport, Then, first_of, behind, defined}
 use Rattle.comp_types.specs.Spaces.{Space}
 use Rattle.comp_types.specs.Definitions.{types_in}
@@ -30,12 +29,8 @@ alone (items.Alias a) = ATypeAlias a
 alone (items.Export name desc) = ATypeExport name desc
 
 -- how many declarations stand behind an instance type
-abbrev pub def_count : TypeDef → Option ℕ
-def_count (defs.Instance n) = Some n
-def_count _ = None
-
 abbrev pub item_count : TypeItem → Option ℕ
-item_count (items.Define d) = def_count d
+item_count (items.Define d) = declaration_count d
 item_count (items.Alias a) = None
 item_count (items.Export name desc) = None
 

@@ -1,53 +1,39 @@
 ghost use Rattle.std.specs.Prelude.{◌≡◌, List, IfOk};
-ghost use Rattle.comp_types.specs.Declarations.{ATypeAlias};
+ghost use Rattle.comp_types.specs.Declarations.{ATypeAlias, ATypeDef};
 ghost use Rattle.comp_types.specs.Definitions.{AType};
 ghost use Rattle.comp_types.specs.Spaces.{Space};
 ghost use Rattle.comp_around.specs.Around.{StandAll};
 ghost use Rattle.comp_around.specs.Judged.{JudgedIn};
-ghost use Rattle.comp_validate.specs.Rest.{alone, def_count, item_count};
+ghost use Rattle.comp_scopes.specs.Judged.{Judged};
+ghost use Rattle.comp_scopes.specs.Stands.{Stands};
+ghost use Rattle.comp_validate.specs.Rest.{alone, item_count};
 
 use comp_around::Scopes;
 use comp_defining::define_type;
 use comp_externs::define_type_export;
 use comp_instances::define_type_export_alias;
 use comp_outer::define_outer_type;
+use comp_scopes::Scope;
 use std::alloc::Global;
 use virt_base::NoMemory;
-use wasm_ast::{TypeAlias, TypeDef, TypeItem};
-
-fn def_count(def: &TypeDef) -> Option<u32>
-    ensures { result ≡ def_count def.now }
-{
-    match def {
-        TypeDef::Instance { declarations } => Some(*declarations),
-        TypeDef::Primitive(_) => None,
-        TypeDef::Record { fields: _ } => None,
-        TypeDef::Variant { cases: _ } => None,
-        TypeDef::List(_) => None,
-        TypeDef::Tuple { types: _ } => None,
-        TypeDef::Flags { labels: _ } => None,
-        TypeDef::Enum { labels: _ } => None,
-        TypeDef::Option(_) => None,
-        TypeDef::Result { ok: _, err: _ } => None,
-        TypeDef::Own(_) => None,
-        TypeDef::Borrow(_) => None,
-        TypeDef::Func {
-            params: _,
-            result: _,
-        } => None,
-        TypeDef::Resource { destructor: _ } => None,
-    }
-}
+use wasm_ast::{KeptType, TypeAlias, TypeItem};
 
 /// How many declarations stand behind an item, if it is an instance type.
 pub fn item_count(item: &TypeItem) -> Option<u32>
     ensures { result ≡ item_count item.now }
 {
     match item {
-        TypeItem::Define(def) => def_count(def),
+        TypeItem::Define(def) => def.declarations(),
         TypeItem::Alias(_) => None,
         TypeItem::Export { name: _, desc: _ } => None,
     }
+}
+
+fn define_kept(alloc: Global, scope: &mut Scope, kept: &KeptType) -> Result<Option<u32>, NoMemory>
+    ensures { IfOk result (λ rule. (around : List Space) → (s : Space) → Stands s scope.old → Judged around s (AType (ATypeDef kept.now)) scope.new rule) }
+{
+    let def = kept.def(alloc)?;
+    define_type(alloc, scope, &def)
 }
 
 fn define_type_alias(
@@ -74,7 +60,7 @@ pub fn define_alone(
     ensures { IfOk result (λ rule. (around : List Space) → (s : Space) → StandAll around s scopes.old → JudgedIn around s (AType (alone item.now)) scopes.new rule) }
 {
     match item {
-        TypeItem::Define(def) => define_type(alloc, &mut scopes.inner, def),
+        TypeItem::Define(def) => define_kept(alloc, &mut scopes.inner, def),
         TypeItem::Alias(alias) => define_type_alias(alloc, scopes, alias),
         TypeItem::Export { name, desc } => {
             define_type_export(alloc, &mut scopes.inner, name, *desc)

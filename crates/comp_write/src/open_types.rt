@@ -5,7 +5,7 @@ ghost use Rattle.comp_grammar.specs.TypeSections.{is_none_open, declared, opened
 use std::alloc::Global;
 use std::marker::Model;
 use virt_base::NoMemory;
-use wasm_ast::{TypeDef, TypeItem};
+use wasm_ast::{KeptType, TypeItem};
 
 /// The instance types that are open at a place in a section of types: how many declarations each still has, the innermost first.
 #[derive(Drop)]
@@ -76,25 +76,11 @@ impl OpenTypes {
 }
 
 /// The number of declarations of an instance type; 0 of every other type.
-fn declarations_in(def: &TypeDef) -> u32
+#[tactic(auto, using(comp_grammar::proofs::Counted::declarations_counted))]
+fn declarations_in(def: &KeptType) -> u32
     ensures { result ≡ declarations_in def.now }
 {
-    match def {
-        TypeDef::Instance { declarations } => *declarations,
-        TypeDef::Primitive(_)
-        | TypeDef::Record { .. }
-        | TypeDef::Variant { .. }
-        | TypeDef::List(_)
-        | TypeDef::Tuple { .. }
-        | TypeDef::Flags { .. }
-        | TypeDef::Enum { .. }
-        | TypeDef::Option(_)
-        | TypeDef::Result { .. }
-        | TypeDef::Own(_)
-        | TypeDef::Borrow(_)
-        | TypeDef::Func { .. }
-        | TypeDef::Resource { .. } => 0,
-    }
+    def.declarations().unwrap_or(0)
 }
 
 /// The number of declarations that an item opens.

@@ -5,7 +5,7 @@ ghost use Rattle.comp_write.specs.Forms.{ItemsFit, items_bytes};
 
 use crate::externs::{DescWriter, ExternNameWriter};
 use crate::open_types::OpenTypes;
-use crate::types::TypeDefWriter;
+use crate::types::KeptTypeWriter;
 use std::alloc::Global;
 use virt_base::{Items, NoMemory, write_u32};
 use wasm_ast::{TypeAlias, TypeItem};
@@ -52,7 +52,7 @@ impl Writer for DeclarationWriter {
         match value {
             TypeItem::Define(def) => {
                 put_byte(alloc, out, 1)?;
-                TypeDefWriter.write(alloc, out, def)
+                KeptTypeWriter.write(alloc, out, def)
             }
             TypeItem::Alias(alias) => {
                 put_byte(alloc, out, 2)?;
@@ -79,7 +79,7 @@ impl Writer for DefinitionWriter {
     #[tactic(auto, unfolding(comp_grammar::specs::TypeSections::definition))]
     fn write(&self, alloc: Global, out: &mut Vec<u8>, value: &TypeItem) -> Result<(), NoMemory> {
         match value {
-            TypeItem::Define(def) => TypeDefWriter.write(alloc, out, def),
+            TypeItem::Define(def) => KeptTypeWriter.write(alloc, out, def),
             TypeItem::Alias(_) | TypeItem::Export { .. } => unreachable!(),
         }
     }

@@ -3,7 +3,7 @@ ghost use Rattle.comp_grammar.specs.Types.{primitive, val_type, maybe_type, labe
 
 use std::alloc::Global;
 use virt_base::NoMemory;
-use wasm_ast::{CaseType, LabelType, Primitive, TypeDef, ValType};
+use wasm_ast::{CaseType, KeptType, LabelType, Primitive, TypeDef, ValType};
 use wasm_format::{Names, S33Index, U32, Vecs, Writer, put_byte};
 
 /// Primitive types.
@@ -162,7 +162,7 @@ impl Writer for DestructorWriter {
 
 /// Definitions of types; of an instance type without its declarations.
 #[derive(Clone, Copy)]
-pub struct TypeDefWriter;
+struct TypeDefWriter;
 
 impl Writer for TypeDefWriter {
     type Value = TypeDef;
@@ -229,5 +229,20 @@ impl Writer for TypeDefWriter {
                 DestructorWriter.write(alloc, out, destructor)
             }
         }
+    }
+}
+
+/// Definitions as sections keep them.
+#[derive(Clone, Copy)]
+pub struct KeptTypeWriter;
+
+impl Writer for KeptTypeWriter {
+    type Value = KeptType;
+
+    ghost format = { λ _. type_def };
+
+    fn write(&self, alloc: Global, out: &mut Vec<u8>, value: &KeptType) -> Result<(), NoMemory> {
+        let def = value.def(alloc)?;
+        TypeDefWriter.write(alloc, out, &def)
     }
 }

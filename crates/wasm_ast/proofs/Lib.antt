@@ -3,3 +3,4 @@ pub mod InstructionLaws
 pub mod ItemLaws
 pub mod ModuleLaws
 pub mod ComponentGrammar
+pub mod JoinedLemmas

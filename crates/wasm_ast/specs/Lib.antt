@@ -8,5 +8,7 @@ pub mod Instructions
 pub mod Expressions
 pub mod ConstExprs
 pub mod MaybeTypes
+pub mod JoinedLabels
+pub mod KeptTypes
 pub mod Items
 pub mod Modules

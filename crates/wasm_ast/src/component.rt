@@ -1,5 +1,6 @@
 use crate::apart::Apart;
 use crate::boxed::Boxed;
+use crate::kept_type::KeptType;
 use crate::maybe_type::MaybeType;
 use crate::module::Module;
 use virt_base::{Items, Text};
@@ -141,25 +142,25 @@ pub struct CaseType {
 /// Labels in order.
 pub type Labels = Items<Text>;
 
-/// A type's definition (Component Model, Binary.md, "Type Definitions"). Its lists lie apart, so that one without parts is small.
+/// A type's definition (Component Model, Binary.md, "Type Definitions").
 #[derive(Debug, Drop)]
 pub enum TypeDef {
     Primitive(Primitive),
     Record {
-        fields: Apart<Items<LabelType>>,
+        fields: Items<LabelType>,
     },
     Variant {
-        cases: Apart<Items<CaseType>>,
+        cases: Items<CaseType>,
     },
     List(ValType),
     Tuple {
-        types: Apart<Items<ValType>>,
+        types: Items<ValType>,
     },
     Flags {
-        labels: Apart<Labels>,
+        labels: Labels,
     },
     Enum {
-        labels: Apart<Labels>,
+        labels: Labels,
     },
     Option(ValType),
     Result {
@@ -169,7 +170,7 @@ pub enum TypeDef {
     Own(u32),
     Borrow(u32),
     Func {
-        params: Apart<Items<LabelType>>,
+        params: Items<LabelType>,
         result: MaybeType,
     },
     /// An instance type, whose so many declarations follow in the list.
@@ -202,7 +203,7 @@ pub enum TypeAlias {
 #[derive(Debug, Drop)]
 pub enum TypeItem {
     /// A definition: of the section, or declared in the innermost instance type that is not whole.
-    Define(TypeDef),
+    Define(KeptType),
     /// An alias that an instance type declares.
     Alias(TypeAlias),
     /// An export that an instance type declares.

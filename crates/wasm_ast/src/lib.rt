@@ -6,8 +6,11 @@ mod bare;
 mod boxed;
 mod component;
 mod const_expr;
+mod copies;
 mod few;
 mod instr;
+mod joined_labels;
+mod kept_type;
 mod lean;
 mod maybe_type;
 mod module;
@@ -24,6 +27,7 @@ pub use component::{
 pub use const_expr::{Code, ConstExpr};
 pub use few::Few;
 pub use instr::{BlockType, BranchTable, Instr, Instrs, LoadOp, MemArg, Op, RefType, StoreOp};
+pub use kept_type::KeptType;
 pub use lean::Lean;
 pub use maybe_type::MaybeType;
 pub use module::{

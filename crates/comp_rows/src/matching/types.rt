@@ -8,7 +8,7 @@ use comp_types::{ItemType, KnownValue, TypeItem};
 use std::alloc::Global;
 use std::test::Fail;
 use virt_base::{Items, Text};
-use wasm_ast::{Apart, CaseType, LabelType, Labels, MaybeType, Primitive, TypeDef, ValType};
+use wasm_ast::{CaseType, LabelType, Labels, MaybeType, Primitive, TypeDef, ValType};
 
 /// The types that were read so far.
 #[derive(Drop)]
@@ -133,19 +133,19 @@ impl Types {
             "own" => TypeDef::Own(self.resource(rest)?),
             "borrow" => TypeDef::Borrow(self.resource(rest)?),
             "tuple" => TypeDef::Tuple {
-                types: Apart::new(alloc, tuple(alloc, number(rest)?, stack)?)?,
+                types: tuple(alloc, number(rest)?, stack)?,
             },
             "enum" => TypeDef::Enum {
-                labels: Apart::new(alloc, labels(alloc, rest)?)?,
+                labels: labels(alloc, rest)?,
             },
             "flags" => TypeDef::Flags {
-                labels: Apart::new(alloc, labels(alloc, rest)?)?,
+                labels: labels(alloc, rest)?,
             },
             "record" => TypeDef::Record {
-                fields: Apart::new(alloc, fields(alloc, rest, stack)?)?,
+                fields: fields(alloc, rest, stack)?,
             },
             "variant" => TypeDef::Variant {
-                cases: Apart::new(alloc, cases(alloc, rest, stack)?)?,
+                cases: cases(alloc, rest, stack)?,
             },
             _ => return Err(Fail::from("an unknown form")),
         };
@@ -212,7 +212,6 @@ impl Types {
             let ty = first_value(&mut types)?;
             params.push(LabelType { label, ty })?;
         }
-        let params = Apart::new(alloc, params)?;
         let mut answer = self.stack(alloc, behind)?;
         let result = MaybeType::new(first(&mut answer)?);
         let kind = kind_of(alloc, &self.scope, &TypeDef::Func { params, result })?;

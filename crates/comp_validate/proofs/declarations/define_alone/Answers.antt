@@ -10,9 +10,9 @@ use Rattle.comp_validate.proofs.declarations.define_alone.Goals as goal
 
 pub returns-in-Define : goal.returns-in-Define
 returns-in-Define c =
-    IfOk-weaker c.define_type.result _ _ (λ rule k around s h.
-    subst (λ (i : TypeItem). JudgedIn around s (AType (alone i)) (record c.args.scopes.now { inner = c.define_type.new.scope }) rule) (sym c.in-Define.is)
-    (judged_inner around s (AType (ATypeDef c.in-Define.def)) c.args.scopes.now c.define_type.new.scope rule h (k around s h.inner))) c.define_type.ensures
+    IfOk-weaker c.define_kept.result _ _ (λ rule k around s h.
+    subst (λ (i : TypeItem). JudgedIn around s (AType (alone i)) (record c.args.scopes.now { inner = c.define_kept.new.scope }) rule) (sym c.in-Define.is)
+    (judged_inner around s (AType (ATypeDef c.in-Define.def)) c.args.scopes.now c.define_kept.new.scope rule h (k around s h.inner))) c.define_kept.ensures
 
 pub returns-in-Alias : goal.returns-in-Alias
 returns-in-Alias c =
