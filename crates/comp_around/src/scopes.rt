@@ -10,6 +10,9 @@ use std::alloc::Global;
 use std::mem;
 use virt_base::NoMemory;
 
+/// A walk over more parts than these in all takes seconds. A thousand types of half a million parts have fewer.
+const MOST_WALKED: u64 = 536_870_912;
+
 /// A scope further out, and how many instance types stand between it and its component.
 #[derive(Drop)]
 pub struct Level {
@@ -25,6 +28,8 @@ pub struct Scopes {
     inside: usize,
     /// From the outside in.
     outer: Vec<Level>,
+    /// How many parts of types, written out, were walked over so far: no answer but `NoMemory` rests on it.
+    walked: u64,
 }
 
 impl Scopes {
@@ -38,7 +43,21 @@ impl Scopes {
             inner: Scope::new(alloc, true, 0),
             inside: 0,
             outer: Vec::new(alloc),
+            walked: 0,
         }
+    }
+
+    /// Counts parts of types that are to be compared, or searched for resources: small components can have types that are large when
+    /// they are written out, so that all such walks together have a bound.
+    pub fn walk(&mut self, parts: u64) -> Result<(), NoMemory>
+        ensures { OnOk result ((around : List Space) → (s : Space) → StandAll around s self.old → StandAll around s self.new) }
+    {
+        let walked = self.walked.saturating_add(parts);
+        if walked > MOST_WALKED {
+            return Err(NoMemory);
+        }
+        self.walked = walked;
+        Ok(())
     }
 
     fn open_scope(

@@ -11,6 +11,7 @@ mod resources;
 mod rules;
 mod sizes;
 mod stated;
+mod walks;
 
 use crate::words::{broken_rule, said};
 use comp_read::read_component;

@@ -147,6 +147,11 @@ impl InstanceEntries {
         self.has_resource
     }
 
+    /// How many parts a walk comes by that makes other resources of theirs; no clause speaks of it.
+    pub fn walked(&self) -> u32 {
+        self.walked
+    }
+
     /// Whether memory can't be thought to suffice for a walk that makes each part with a resource anew, as often as it stands in
     /// them.
     pub fn is_too_large(&self) -> bool {

@@ -8,6 +8,7 @@ ghost use Rattle.comp_scopes.specs.Judged.{Judged};
 ghost use Rattle.comp_scopes.specs.Stands.{Stands};
 ghost use Rattle.comp_validate.specs.Rest.{alone, item_count};
 
+use crate::walks::{parts_of_desc, parts_of_type_alias};
 use comp_around::Scopes;
 use comp_defining::define_type;
 use comp_externs::define_type_export;
@@ -51,12 +52,7 @@ fn define_type_alias(
     }
 }
 
-/// An item that is no instance type: the least rule that it breaks, or else it is added.
-pub fn define_alone(
-    alloc: Global,
-    scopes: &mut Scopes,
-    item: &TypeItem,
-) -> Result<Option<u32>, NoMemory>
+fn add_alone(alloc: Global, scopes: &mut Scopes, item: &TypeItem) -> Result<Option<u32>, NoMemory>
     ensures { IfOk result (λ rule. (around : List Space) → (s : Space) → StandAll around s scopes.old → JudgedIn around s (AType (alone item.now)) scopes.new rule) }
 {
     match item {
@@ -66,4 +62,25 @@ pub fn define_alone(
             define_type_export(alloc, &mut scopes.inner, name, *desc)
         }
     }
+}
+
+fn walked(scopes: &Scopes, item: &TypeItem) -> u64 {
+    match item {
+        TypeItem::Alias(alias) => parts_of_type_alias(scopes, alias),
+        TypeItem::Export { name: _, desc } => parts_of_desc(&scopes.inner, *desc),
+        TypeItem::Define(_) => 0,
+    }
+}
+
+/// An item that is no instance type: the least rule that it breaks, or else it is added.
+pub fn define_alone(
+    alloc: Global,
+    scopes: &mut Scopes,
+    item: &TypeItem,
+) -> Result<Option<u32>, NoMemory>
+    ensures { IfOk result (λ rule. (around : List Space) → (s : Space) → StandAll around s scopes.old → JudgedIn around s (AType (alone item.now)) scopes.new rule) }
+{
+    let parts = walked(scopes, item);
+    scopes.walk(parts)?;
+    add_alone(alloc, scopes, item)
 }

@@ -4,6 +4,7 @@ ghost use Rattle.comp_types.specs.Spaces.{Space};
 ghost use Rattle.comp_around.specs.Around.{StandAll};
 ghost use Rattle.comp_around.specs.Judged.{JudgedEach, JudgedIn};
 
+use crate::walks::{parts_of_alias, parts_of_export, parts_of_import, parts_of_instance};
 use comp_around::Scopes;
 use comp_externs::{define_export, define_import};
 use comp_instances::{define_export_alias, define_instance};
@@ -20,6 +21,9 @@ pub trait Defines {
 
     ghost definition: { Self → Definition };
 
+    /// How many parts of types it is judged by walking over.
+    fn walked(&self, scopes: &Scopes) -> u64;
+
     /// The least rule that it breaks, or else it is added.
     fn define(&self, alloc: Global, scopes: &mut Scopes) -> Result<Option<u32>, NoMemory>
         ensures { IfOk result (λ rule. (around : List Space) → (s : Space) → StandAll around s scopes.old → JudgedIn around s (definition self.now) scopes.new rule) };
@@ -27,6 +31,10 @@ pub trait Defines {
 
 impl Defines for CoreInstance {
     ghost definition = { λ i. ACoreInstance i };
+
+    fn walked(&self, _scopes: &Scopes) -> u64 {
+        0
+    }
 
     fn define(&self, alloc: Global, scopes: &mut Scopes) -> Result<Option<u32>, NoMemory> {
         define_core_instance(alloc, &mut scopes.inner, self)
@@ -36,6 +44,10 @@ impl Defines for CoreInstance {
 impl Defines for Instance {
     ghost definition = { λ i. AnInstance i };
 
+    fn walked(&self, scopes: &Scopes) -> u64 {
+        parts_of_instance(&scopes.inner, self)
+    }
+
     fn define(&self, alloc: Global, scopes: &mut Scopes) -> Result<Option<u32>, NoMemory> {
         define_instance(alloc, &mut scopes.inner, self)
     }
@@ -43,6 +55,10 @@ impl Defines for Instance {
 
 impl Defines for Alias {
     ghost definition = { λ a. AnAlias a };
+
+    fn walked(&self, scopes: &Scopes) -> u64 {
+        parts_of_alias(scopes, self)
+    }
 
     fn define(&self, alloc: Global, scopes: &mut Scopes) -> Result<Option<u32>, NoMemory> {
         match self {
@@ -66,6 +82,10 @@ impl Defines for Alias {
 impl Defines for Canon {
     ghost definition = { λ c. ACanon c };
 
+    fn walked(&self, _scopes: &Scopes) -> u64 {
+        0
+    }
+
     fn define(&self, alloc: Global, scopes: &mut Scopes) -> Result<Option<u32>, NoMemory> {
         define_canon(alloc, &mut scopes.inner, self)
     }
@@ -73,6 +93,10 @@ impl Defines for Canon {
 
 impl Defines for ComponentImport {
     ghost definition = { λ i. AnImport i };
+
+    fn walked(&self, scopes: &Scopes) -> u64 {
+        parts_of_import(&scopes.inner, self)
+    }
 
     fn define(&self, alloc: Global, scopes: &mut Scopes) -> Result<Option<u32>, NoMemory> {
         define_import(alloc, &mut scopes.inner, self)
@@ -82,9 +106,26 @@ impl Defines for ComponentImport {
 impl Defines for ComponentExport {
     ghost definition = { λ e. AnExport e };
 
+    fn walked(&self, scopes: &Scopes) -> u64 {
+        parts_of_export(&scopes.inner, self)
+    }
+
     fn define(&self, alloc: Global, scopes: &mut Scopes) -> Result<Option<u32>, NoMemory> {
         define_export(alloc, &mut scopes.inner, self)
     }
+}
+
+/// A definition whose walks are counted.
+fn define_counted<T: Defines>(
+    alloc: Global,
+    scopes: &mut Scopes,
+    item: &T,
+) -> Result<Option<u32>, NoMemory>
+    ensures { IfOk result (λ rule. (around : List Space) → (s : Space) → StandAll around s scopes.old → JudgedIn around s (T.definition item.now) scopes.new rule) }
+{
+    let parts = item.walked(scopes);
+    scopes.walk(parts)?;
+    item.define(alloc, scopes)
 }
 
 /// The definitions of a section in order: the least rule that the first at fault breaks, or else all of them are added.
@@ -97,7 +138,7 @@ pub fn define_all<T: Defines>(
 {
     let mut rest = items;
     while let Some((item, more)) = rest.split_first() {
-        if let Some(rule) = item.define(alloc, scopes)? {
+        if let Some(rule) = define_counted(alloc, scopes, item)? {
             return Ok(Some(rule));
         }
         rest = more;

@@ -10,6 +10,7 @@ mod nested;
 mod open_types;
 mod sections;
 mod type_sections;
+mod walks;
 mod whole;
 
 pub use fault::CompFault;

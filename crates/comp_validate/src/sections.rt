@@ -7,6 +7,7 @@ ghost use Rattle.comp_around.specs.Around.{StandAll};
 ghost use Rattle.comp_validate.specs.Judged.{JudgedPart};
 
 use crate::nested::add_nested;
+use crate::walks::searched_in;
 use comp_around::Scopes;
 use comp_scopes::{Shared, valid_module};
 use std::alloc::Global;
@@ -31,12 +32,20 @@ pub fn define_module(
     }
 }
 
-/// Closes the scope of a component in the component, and adds it.
-pub fn close_nested(alloc: Global, scopes: &mut Scopes) -> Result<(), NoMemory>
+fn add_closed(alloc: Global, scopes: &mut Scopes) -> Result<(), NoMemory>
     ensures { OnOk result ((around : List Space) → (t s : Space) → StandAll (t ∷ around) s scopes.old → StandAll around (and_nested t s) scopes.new) }
 {
     match scopes.close() {
         None => Ok(()),
         Some(inner) => add_nested(alloc, &mut scopes.inner, inner),
     }
+}
+
+/// Closes the scope of a component in the component, and adds it.
+pub fn close_nested(alloc: Global, scopes: &mut Scopes) -> Result<(), NoMemory>
+    ensures { OnOk result ((around : List Space) → (t s : Space) → StandAll (t ∷ around) s scopes.old → StandAll around (and_nested t s) scopes.new) }
+{
+    let parts = searched_in(scopes.inner.exports.entries());
+    scopes.walk(parts)?;
+    add_closed(alloc, scopes)
 }
