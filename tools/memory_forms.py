@@ -39,9 +39,43 @@ def forms(size):
     def data(item):
         return in_module(section(12, leb(size // len(item))), section(11, many(item)))
 
+    def globals_of(item):
+        return in_module(section(6, many(b"\x7f\0" + item)))
+
+    def bodies_of(code):
+        body = b"\0" + code
+        item = leb(len(body)) + body
+        count = size // len(item)
+        return in_module(one_type, section(3, leb(count) + b"\0" * count), section(10, many(item)))
+
     one_type = section(1, b"\1\x60\0\0")
     bodies = size // 3
-    return {
+    own = {
+        "select_0": b"\x1c\0",
+        "select_1": b"\x1c\1\x7f",
+        "select_2": b"\x1c\2\x7f\x7e",
+        "select_4": b"\x1c\4" + b"\x7f" * 4,
+        "select_5": b"\x1c\5" + b"\x7f" * 5,
+        "table_0": b"\x0e\0\0",
+        "table_1": b"\x0e\1\0\0",
+        "table_3": b"\x0e\3" + b"\0" * 4,
+        "table_4": b"\x0e\4" + b"\0" * 5,
+    }
+    with_own = {}
+    for name, code in own.items():
+        for times in (1, 7):
+            expr = code * times + b"\x0b"
+            with_own.update({
+                f"{name}_{times}_exprs": elements(expr),
+                f"{name}_{times}_offsets": in_module(section(9, many(b"\0" + expr + b"\0"))),
+                f"{name}_{times}_data": data(b"\0" + expr + b"\0"),
+                f"{name}_{times}_globals": globals_of(expr),
+                f"{name}_{times}_bodies": bodies_of(expr),
+            })
+    all_selects = b"".join(b"\x1c\1" + bytes([ty]) + b"\x0b" for ty in (0x7f, 0x7e, 0x70, 0x6f))
+    with_all = MODULE + section(9, b"\1\5\x70\5\x1c\0\x0b" + all_selects)
+    return with_own | {
+        "select_modules": COMPONENT + section(1, with_all) * (size // (len(with_all) + 2)),
         "custom": COMPONENT + b"\0\1\0" * (size // 3),
         "modules": COMPONENT + section(1, MODULE) * (size // 10),
         "aliases": COMPONENT + section(6, many(b"\3\2\0\0")),

@@ -3,7 +3,9 @@ use std::alloc::Global;
 use std::mem::size_of;
 use std::test::Fail;
 use virt_base::{Cursor, Text, copy_bytes, next_byte};
-use wasm_ast::{ConstExpr, Data, Elements, Instr, Module, Op, Section, TypeItem};
+use wasm_ast::{
+    BranchTable, ConstExpr, Data, Elements, Instr, Module, Op, Section, SelectTypes, TypeItem,
+};
 
 /// The Unicode Standard, table 3-7: overlong forms, surrogates, what is above U+10FFFF, cut forms, and a text.
 const ROWS: &str = "\
@@ -54,11 +56,13 @@ fn keeps_lists(rt: HostRuntime) -> Result<(), Fail> {
 
 #[test]
 fn an_instruction_is_small(rt: HostRuntime) -> Result<(), Fail> {
-    let sizes = printed(rt.alloc(), &(size_of::<Op>(), size_of::<Instr>()))?;
-    same("sizes", sizes.as_str(), "(12, 16)")
+    let instructions = (size_of::<Op>(), size_of::<Instr>());
+    let lists = (size_of::<SelectTypes>(), size_of::<BranchTable>());
+    let sizes = printed(rt.alloc(), &(instructions, lists))?;
+    same("sizes", sizes.as_str(), "((12, 16), (24, 24))")
 }
 
-/// Of the bytes that spell them, lists of these take at most 24 times as many, but for expressions that select by no type.
+/// Of the bytes that spell them, lists of these take at most 24 times as many.
 #[test]
 fn items_are_small(rt: HostRuntime) -> Result<(), Fail> {
     let expressions = (size_of::<ConstExpr>(), size_of::<Elements>());

@@ -2,8 +2,9 @@ ghost use Rattle.std.specs.Prelude.{◌≡◌};
 ghost use Rattle.comp_read.specs.Answers.{Answers};
 
 use crate::nesting::{PREAMBLE, read_sections};
+use core_read::SelectLists;
 use std::alloc::Global;
-use virt_base::Cursor;
+use virt_base::{Cursor, NoMemory};
 use wasm_ast::Component;
 use wasm_format::{Stop, expect_bytes};
 
@@ -25,6 +26,27 @@ const DEPTH_INSIDE: u32 = 99;
 /// The first depth at which none may.
 const TOO_DEEP: u64 = 101;
 
+fn read_sharing(
+    selects: &SelectLists,
+    alloc: Global,
+    bytes: &[u8],
+) -> Result<Component, CompReadFault>
+    ensures { Answers result bytes.now }
+{
+    let mut c = Cursor { bytes, at: 0 };
+    if expect_bytes(&mut c, PREAMBLE.as_slice()).is_err() {
+        return Err(CompReadFault::Malformed(0));
+    }
+    let mut good = 0;
+    match read_sections(selects, alloc, &mut c, DEPTH_INSIDE, &mut good) {
+        Ok(component) => Ok(component),
+        Err(Stop::NoMemory) => Err(CompReadFault::NoMemory),
+        Err(Stop::Malformed) => Err(CompReadFault::Malformed(good as u64)),
+        Err(Stop::Unsupported { at, byte }) => Err(CompReadFault::Unsupported(at as u64, byte)),
+        Err(Stop::TooNested) => Err(CompReadFault::TooNested(TOO_DEEP)),
+    }
+}
+
 /// Reads a component (Component Model, Binary.md): `Ok` exactly where one of which at most 100 stand in one another spells the
 /// bytes, and then that one.
 ///
@@ -35,16 +57,8 @@ const TOO_DEEP: u64 = 101;
 pub fn read_component(alloc: Global, bytes: &[u8]) -> Result<Component, CompReadFault>
     ensures { Answers result bytes.now }
 {
-    let mut c = Cursor { bytes, at: 0 };
-    if expect_bytes(&mut c, PREAMBLE.as_slice()).is_err() {
-        return Err(CompReadFault::Malformed(0));
-    }
-    let mut good = 0;
-    match read_sections(alloc, &mut c, DEPTH_INSIDE, &mut good) {
-        Ok(component) => Ok(component),
-        Err(Stop::NoMemory) => Err(CompReadFault::NoMemory),
-        Err(Stop::Malformed) => Err(CompReadFault::Malformed(good as u64)),
-        Err(Stop::Unsupported { at, byte }) => Err(CompReadFault::Unsupported(at as u64, byte)),
-        Err(Stop::TooNested) => Err(CompReadFault::TooNested(TOO_DEEP)),
+    match SelectLists::new(alloc) {
+        Ok(selects) => read_sharing(&selects, alloc, bytes),
+        Err(NoMemory) => Err(CompReadFault::NoMemory),
     }
 }

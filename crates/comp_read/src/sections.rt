@@ -10,7 +10,7 @@ use comp_items::{
     AliasReader, CanonReader, CoreInstanceReader, ExportReader, ImportReader, InstanceReader,
     TypeItemsReader, lacks,
 };
-use core_read::CoreModules;
+use core_read::{CoreModules, SelectLists};
 use std::alloc::Global;
 use virt_base::Cursor;
 use wasm_ast::{Boxed, Module, Section, Span};
@@ -74,18 +74,27 @@ fn read_custom(alloc: Global, c: &mut Cursor<'_>) -> Result<Span, Stop>
 
 /// A core module, behind its id.
 #[tactic(auto, unfolding(comp_grammar::specs::Components::placed_module))]
-fn read_core_module(alloc: Global, c: &mut Cursor<'_>) -> Result<(Span, Module), Stop>
+fn read_core_module(
+    selects: &SelectLists,
+    alloc: Global,
+    c: &mut Cursor<'_>,
+) -> Result<(Span, Module), Stop>
     ensures input { c.new.bytes ≡ c.old.bytes }
     ensures value { Reads result c.new ((sized placed_module).read (place c.old)) }
 {
-    let item = CoreModules;
+    let item = CoreModules(selects);
     let make = BesideModule;
     Sized(Spanned { item, make }).read(alloc, c)
 }
 
 /// A section of id 0 to 2, whose id was taken.
 #[tactic(auto, unfolding(comp_grammar::specs::Components::low_section), using(comp_grammar::proofs::PlainLemmas::plains))]
-pub fn low_section(alloc: Global, c: &mut Cursor<'_>, id: u8) -> Result<Section, Stop>
+pub fn low_section(
+    selects: &SelectLists,
+    alloc: Global,
+    c: &mut Cursor<'_>,
+    id: u8,
+) -> Result<Section, Stop>
     requires { 0 < c.old.at }
     ensures input { c.new.bytes ≡ c.old.bytes }
     ensures value { ReadsAs plain_section result c.new ((low_section id).read (place c.old)) }
@@ -93,7 +102,7 @@ pub fn low_section(alloc: Global, c: &mut Cursor<'_>, id: u8) -> Result<Section,
     match id {
         0 => Ok(Section::Custom(read_custom(alloc, c)?)),
         1 => {
-            let (span, module) = read_core_module(alloc, c)?;
+            let (span, module) = read_core_module(selects, alloc, c)?;
             Ok(Section::CoreModule(span, Boxed::new(alloc, module)?))
         }
         2 => Ok(Section::CoreInstances(Sized(Vecs(CoreInstanceReader)).read(alloc, c)?)),

@@ -67,7 +67,7 @@ label-known (a ∷ ts) l rs e f = let g : l ≡ known ts = cc in (ts, f ∙ g)
 leaf-known : (c : Context) (labels : Labels) (i : Instr) (takes : List CoreType) (rs : List Operand) → Types c labels i (known takes) rs → MayGoOn i → (us : List CoreType) × (rs ≡ known us)
 leaf-known c labels (code.Plain o) takes rs h g = shape-known (shape c o) takes rs h
 leaf-known c labels (code.I64Const n) takes rs h g = shape-known (Fixed [] (I64 ∷ [])) takes rs h
-leaf-known c labels (code.SelectTyped ts) takes rs h g = shape-known (select_shape ts.value) takes rs h
+leaf-known c labels (code.SelectTyped ts) takes rs h g = shape-known (select_shape ts) takes rs h
 leaf-known c labels (code.Call n) takes rs h g = shape-known (call_shape (function_type c n)) takes rs h
 leaf-known c labels (code.CallIndirect ty table) takes rs h g = shape-known (indirect_shape (slice_get c.tables table) (slice_get c.types ty)) takes rs h
 leaf-known c labels (code.BrIf n) takes rs h g = label-known takes h.0 rs h.2 h.3

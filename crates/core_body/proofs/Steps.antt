@@ -147,7 +147,7 @@ module _ (c : Context) where
   use-sound : (outer : List Level) (l : Level) (i : Instr) (is : List Instr) → Opens c (apply (use_of c (labels_of (l ∷ outer)) l.stack i) l outer) is → Remains c outer l (i ∷ is)
   use-sound outer l (code.Plain o) is h = shape-sound outer l (code.Plain o) is (shape c o) (λ ps rs d. d) h
   use-sound outer l (code.I64Const n) is h = shape-sound outer l (code.I64Const n) is (Fixed [] (I64 ∷ [])) (λ ps rs d. d) h
-  use-sound outer l (code.SelectTyped ts) is h = shape-sound outer l (code.SelectTyped ts) is (select_shape ts.value) (λ ps rs d. d) h
+  use-sound outer l (code.SelectTyped ts) is h = shape-sound outer l (code.SelectTyped ts) is (select_shape ts) (λ ps rs d. d) h
   use-sound outer l (code.Call n) is h = shape-sound outer l (code.Call n) is (call_shape (function_type c n)) (λ ps rs d. d) h
   use-sound outer l (code.CallIndirect ty table) is h =
       shape-sound outer l (code.CallIndirect ty table) is (indirect_shape (slice_get c.tables table) (slice_get c.types ty)) (λ ps rs d. d) h
@@ -214,7 +214,7 @@ module _ (c : Context) where
       After c (labels_of outer) l (Rest c outer l.results) rest → Opens c (apply (use_of c (labels_of (l ∷ outer)) l.stack i) l outer) (spell ts rest)
   use-complete outer l (code.Plain o) ts rest ps rs fs d fit typed after = shape-complete outer l (shape c o) ts rest ps rs fs d fit typed after
   use-complete outer l (code.I64Const n) ts rest ps rs fs d fit typed after = shape-complete outer l (Fixed [] (I64 ∷ [])) ts rest ps rs fs d fit typed after
-  use-complete outer l (code.SelectTyped us) ts rest ps rs fs d fit typed after = shape-complete outer l (select_shape us.value) ts rest ps rs fs d fit typed after
+  use-complete outer l (code.SelectTyped us) ts rest ps rs fs d fit typed after = shape-complete outer l (select_shape us) ts rest ps rs fs d fit typed after
   use-complete outer l (code.Call n) ts rest ps rs fs d fit typed after = shape-complete outer l (call_shape (function_type c n)) ts rest ps rs fs d fit typed after
   use-complete outer l (code.CallIndirect ty table) ts rest ps rs fs d fit typed after =
       shape-complete outer l (indirect_shape (slice_get c.tables table) (slice_get c.types ty)) ts rest ps rs fs d fit typed after

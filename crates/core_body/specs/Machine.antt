@@ -149,7 +149,7 @@ of_table (Some l) labels os ms = if each_takes labels (like l (under os)) ms the
 abbrev pub use_of : Context → Labels → List Operand → Instr → Use
 use_of c labels os (code.Plain o) = of_shape os (shape c o)
 use_of c labels os (code.I64Const n) = of_shape os (Fixed [] (I64 ∷ []))
-use_of c labels os (code.SelectTyped ts) = of_shape os (select_shape ts.value)
+use_of c labels os (code.SelectTyped ts) = of_shape os (select_shape ts)
 use_of c labels os (code.Call n) = of_shape os (call_shape (function_type c n))
 use_of c labels os (code.CallIndirect ty table) = of_shape os (indirect_shape (slice_get c.tables table) (slice_get c.types ty))
 use_of c labels os code.Unreachable = Dies []

@@ -93,7 +93,7 @@ HasShape OneReference ps rs = (t : CoreType) × IsReference t × (ps ≡ Known t
 abbrev pub Types : Context → Labels → Instr → List Operand → List Operand → Type 0
 Types c labels (code.Plain o) ps rs = HasShape (shape c o) ps rs
 Types c labels (code.I64Const n) ps rs = HasShape (Fixed [] (I64 ∷ [])) ps rs
-Types c labels (code.SelectTyped ts) ps rs = HasShape (select_shape ts.value) ps rs
+Types c labels (code.SelectTyped ts) ps rs = HasShape (select_shape ts) ps rs
 Types c labels (code.Call n) ps rs = HasShape (call_shape (function_type c n)) ps rs
 Types c labels (code.CallIndirect ty table) ps rs = HasShape (indirect_shape (slice_get c.tables table) (slice_get c.types ty)) ps rs
 Types c labels code.Unreachable ps rs = Unit {0}

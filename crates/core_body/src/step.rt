@@ -26,7 +26,7 @@ use crate::stack::Stack;
 use std::alloc::Global;
 use std::collections::BTreeSet;
 use virt_base::{CoreType, NoMemory};
-use wasm_ast::{BlockType, BranchTable, Few, Instr, Op, RefType};
+use wasm_ast::{BlockType, BranchTable, Instr, Op, RefType};
 
 /// The results of a block's type.
 fn block_results(scope: &Scope<'_>, ty: BlockType) -> Source
@@ -188,11 +188,11 @@ fn plain(scope: &Scope<'_>, p: &mut Progress, op: Op) -> Result<Verdict, NoMemor
 fn typed_select(
     scope: &Scope<'_>,
     p: &mut Progress,
-    types: &Few<CoreType>,
+    types: &[CoreType],
 ) -> Result<Verdict, NoMemory>
     ensures { IfOk result (λ v. Says v (state_of (context_of scope.now) p.new) (applied (context_of scope.now) (of_shape (level_of (context_of scope.now) p.old.stack) (select_shape types.now)) (state_of (context_of scope.now) p.old))) }
 {
-    match types.as_slice() {
+    match types {
         [t] => exchange_few(scope, p, Takes::Three(*t, *t, CoreType::I32), Some(*t)),
         _ => Ok(Verdict::Refused),
     }
@@ -491,7 +491,7 @@ fn step(
     match instr {
         Instr::Plain(op) => plain(scope, p, *op),
         Instr::I64Const(_) => exchange_few(scope, p, Takes::Nothing, Some(CoreType::I64)),
-        Instr::SelectTyped(types) => typed_select(scope, p, types),
+        Instr::SelectTyped(types) => typed_select(scope, p, types.get().as_slice()),
         Instr::Unreachable => Ok(die(scope, p, Source::Nothing)),
         Instr::Block(_) | Instr::Loop(_) | Instr::If(_) => open(scope, p, instr),
         Instr::Else => otherwise(scope, p),

@@ -6,7 +6,7 @@ ghost use Rattle.core_body.specs.Locals.{spread};
 
 use core_store::{Locals, Shared};
 use std::alloc::Global;
-use virt_base::{CoreType, CoreTypes, Items, NoMemory};
+use virt_base::{CoreTypes, Items, NoMemory};
 use wasm_ast::{Boxed, BranchTable, CoreFunc, Few, Instr, Instrs, Lean, LocalRun};
 
 /// Function types in order, which an instance shares with its functions.
@@ -16,13 +16,6 @@ fn copy_types(alloc: Global, types: &CoreTypes) -> Result<CoreTypes, NoMemory>
     ensures { IfOk result (λ copy. copy ≡ types.now) }
 {
     Ok(Items::new(Vec::from_slice(alloc, types.as_slice())?))
-}
-
-fn copy_selected(alloc: Global, types: &Few<CoreType>) -> Result<Few<CoreType>, NoMemory>
-    ensures { IfOk result (λ copy. copy ≡ types.now) }
-{
-    let copy = Items::new(Vec::from_slice(alloc, types.as_slice())?);
-    Few::new(alloc, copy)
 }
 
 fn copy_labels(alloc: Global, labels: &Few<u32>) -> Result<Few<u32>, NoMemory>
@@ -77,10 +70,7 @@ fn copy_instr(alloc: Global, instr: &Instr) -> Result<Instr, NoMemory>
     Ok(match instr {
         Instr::Plain(op) => Instr::Plain(*op),
         Instr::I64Const(n) => Instr::I64Const(*n),
-        Instr::SelectTyped(types) => {
-            let types = copy_selected(alloc, types)?;
-            Instr::SelectTyped(Boxed::new(alloc, types)?)
-        }
+        Instr::SelectTyped(types) => Instr::SelectTyped(types.share()?),
         Instr::BrTable(table) => {
             let labels = copy_labels(alloc, &table.labels)?;
             let default = table.default;

@@ -7,6 +7,7 @@ ghost use Rattle.wasm_ast.specs.Expressions.{nested, expr, after_instr};
 
 use crate::nesting::Nesting;
 use crate::ops::op_of;
+use crate::select_lists::SelectLists;
 use crate::types::{BlockTypeReader, CoreTypeReader, lacks};
 use std::alloc::Global;
 use virt_base::{Cursor, NoMemory, next_byte};
@@ -68,7 +69,12 @@ fn control(alloc: Global, c: &mut Cursor<'_>, byte: u8) -> Result<Instr, Stop>
 
 /// The instruction of an opcode that was taken, and is not that of `else`.
 #[tactic(auto, unfolding(wasm_ast::specs::Instructions::instr_of))]
-fn instr_of(alloc: Global, c: &mut Cursor<'_>, byte: u8) -> Result<Instr, Stop>
+fn instr_of(
+    selects: &SelectLists,
+    alloc: Global,
+    c: &mut Cursor<'_>,
+    byte: u8,
+) -> Result<Instr, Stop>
     requires { 0 < c.old.at }
     ensures input { c.new.bytes ≡ c.old.bytes }
     ensures value { Reads result c.new ((instr_of byte).read (place c.old)) }
@@ -78,8 +84,8 @@ fn instr_of(alloc: Global, c: &mut Cursor<'_>, byte: u8) -> Result<Instr, Stop>
     }
     match byte {
         0x1C => {
-            let types = Few::new(alloc, Vecs(CoreTypeReader).read(alloc, c)?)?;
-            Ok(Instr::SelectTyped(Boxed::new(alloc, types)?))
+            let types = Vecs(CoreTypeReader).read(alloc, c)?;
+            Ok(Instr::SelectTyped(selects.of(alloc, types)?))
         }
         0x42 => Ok(Instr::I64Const(S64.read(alloc, c)?)),
         _ => Ok(Instr::Plain(op_of(alloc, c, byte)?)),
@@ -87,7 +93,12 @@ fn instr_of(alloc: Global, c: &mut Cursor<'_>, byte: u8) -> Result<Instr, Stop>
 }
 
 #[tactic(auto, unfolding(wasm_ast::specs::Instructions::instr))]
-fn read_instr(alloc: Global, c: &mut Cursor<'_>, may_else: bool) -> Result<Instr, Stop>
+fn read_instr(
+    selects: &SelectLists,
+    alloc: Global,
+    c: &mut Cursor<'_>,
+    may_else: bool,
+) -> Result<Instr, Stop>
     ensures input { c.new.bytes ≡ c.old.bytes }
     ensures value { Reads result c.new ((instr may_else).read (place c.old)) }
 {
@@ -100,18 +111,18 @@ fn read_instr(alloc: Global, c: &mut Cursor<'_>, may_else: bool) -> Result<Instr
                 Err(Stop::Malformed)
             }
         }
-        Some(byte) => instr_of(alloc, c, byte),
+        Some(byte) => instr_of(selects, alloc, c, byte),
     }
 }
 
-impl Walk for Nesting {
+impl<'a> Walk for Nesting<'a> {
     type Item = Instr;
 
     ghost sections = { nested };
 
     #[tactic(auto, unfolding(wasm_ast::specs::Expressions::nested))]
     fn read_item(&self, alloc: Global, c: &mut Cursor<'_>) -> Result<Instr, Stop> {
-        read_instr(alloc, c, self.may_else())
+        read_instr(self.selects, alloc, c, self.may_else())
     }
 
     #[tactic(auto, unfolding(wasm_ast::specs::Expressions::nested))]
@@ -148,30 +159,30 @@ impl Walk for Nesting {
 
 /// Expressions, up to the instruction that closes them.
 #[derive(Clone, Copy)]
-pub struct ExprReader;
+pub struct ExprReader<'a>(pub &'a SelectLists);
 
-impl Reader for ExprReader {
+impl<'a> Reader for ExprReader<'a> {
     type Value = Instrs;
 
     ghost format = { λ _. expr };
 
     #[tactic(auto, unfolding(wasm_ast::specs::Expressions::expr))]
     fn read(&self, alloc: Global, c: &mut Cursor<'_>) -> Result<Instrs, Stop> {
-        read_until(alloc, c, Nesting::start(alloc))
+        read_until(alloc, c, Nesting::start(alloc, self.0))
     }
 }
 
 /// Constant expressions.
 #[derive(Clone, Copy)]
-pub struct ConstExprReader;
+pub struct ConstExprReader<'a>(pub &'a SelectLists);
 
-impl Reader for ConstExprReader {
+impl<'a> Reader for ConstExprReader<'a> {
     type Value = ConstExpr;
 
     ghost format = { λ _. expr };
 
     fn read(&self, alloc: Global, c: &mut Cursor<'_>) -> Result<ConstExpr, Stop> {
-        let code = ExprReader.read(alloc, c)?;
+        let code = ExprReader(self.0).read(alloc, c)?;
         Ok(ConstExpr::new(alloc, code)?)
     }
 }

@@ -5,6 +5,7 @@ ghost use Rattle.wasm_format.specs.Reads.{Reads};
 ghost use Rattle.wasm_ast.specs.Items.{import_item, import, export_item, export, global, local_run, body, kind_and_funcs, low_elements, high_elements, elements, segment};
 
 use crate::instrs::{ConstExprReader, ExprReader};
+use crate::select_lists::SelectLists;
 use crate::types::{
     CoreTypeReader, GlobalTypeReader, LimitsReader, RefTypeReader, TableTypeReader, lacks,
 };
@@ -96,9 +97,9 @@ impl Reader for ExportReader {
 
 /// Globals.
 #[derive(Clone, Copy)]
-pub struct GlobalReader;
+pub struct GlobalReader<'a>(pub &'a SelectLists);
 
-impl Reader for GlobalReader {
+impl<'a> Reader for GlobalReader<'a> {
     type Value = wasm_ast::Global;
 
     ghost format = { λ _. global };
@@ -106,7 +107,7 @@ impl Reader for GlobalReader {
     #[tactic(auto, unfolding(wasm_ast::specs::Items::global))]
     fn read(&self, alloc: Global, c: &mut Cursor<'_>) -> Result<wasm_ast::Global, Stop> {
         let ty = GlobalTypeReader.read(alloc, c)?;
-        let init = ConstExprReader.read(alloc, c)?;
+        let init = ConstExprReader(self.0).read(alloc, c)?;
         Ok(wasm_ast::Global { ty, init })
     }
 }
@@ -130,9 +131,9 @@ impl Reader for LocalRunReader {
 
 /// Bodies of functions.
 #[derive(Clone, Copy)]
-pub struct BodyReader;
+pub struct BodyReader<'a>(pub &'a SelectLists);
 
-impl Reader for BodyReader {
+impl<'a> Reader for BodyReader<'a> {
     type Value = Body;
 
     ghost format = { λ _. body };
@@ -140,7 +141,7 @@ impl Reader for BodyReader {
     #[tactic(auto, unfolding(wasm_ast::specs::Items::body))]
     fn read(&self, alloc: Global, c: &mut Cursor<'_>) -> Result<Body, Stop> {
         let locals = Vecs(LocalRunReader).read(alloc, c)?;
-        let code = ExprReader.read(alloc, c)?;
+        let code = ExprReader(self.0).read(alloc, c)?;
         Ok(Body { locals, code })
     }
 }
@@ -156,14 +157,19 @@ fn kind_and_funcs(alloc: Global, c: &mut Cursor<'_>) -> Result<Indexes, Stop>
 
 /// An element segment of functions, whose kind was taken.
 #[tactic(auto, unfolding(wasm_ast::specs::Items::low_elements))]
-fn low_elements(alloc: Global, c: &mut Cursor<'_>, kind: u8) -> Result<Elements, Stop>
+fn low_elements(
+    expr: ConstExprReader<'_>,
+    alloc: Global,
+    c: &mut Cursor<'_>,
+    kind: u8,
+) -> Result<Elements, Stop>
     requires { 0 < c.old.at }
     ensures input { c.new.bytes ≡ c.old.bytes }
     ensures value { Reads result c.new ((low_elements kind).read (place c.old)) }
 {
     match kind {
         0 => {
-            let offset = ConstExprReader.read(alloc, c)?;
+            let offset = expr.read(alloc, c)?;
             let funcs = Vecs(U32).read(alloc, c)?;
             Ok(Elements::ActiveFuncs { offset, funcs })
         }
@@ -173,7 +179,7 @@ fn low_elements(alloc: Global, c: &mut Cursor<'_>, kind: u8) -> Result<Elements,
         }
         2 => {
             let table = U32.read(alloc, c)?;
-            let offset = ConstExprReader.read(alloc, c)?;
+            let offset = expr.read(alloc, c)?;
             let funcs = kind_and_funcs(alloc, c)?;
             Ok(Elements::ActiveFuncsAt {
                 table,
@@ -191,27 +197,32 @@ fn low_elements(alloc: Global, c: &mut Cursor<'_>, kind: u8) -> Result<Elements,
 
 /// An element segment of expressions, whose kind was taken.
 #[tactic(auto, unfolding(wasm_ast::specs::Items::high_elements))]
-fn high_elements(alloc: Global, c: &mut Cursor<'_>, kind: u8) -> Result<Elements, Stop>
+fn high_elements(
+    expr: ConstExprReader<'_>,
+    alloc: Global,
+    c: &mut Cursor<'_>,
+    kind: u8,
+) -> Result<Elements, Stop>
     requires { 0 < c.old.at }
     ensures input { c.new.bytes ≡ c.old.bytes }
     ensures value { Reads result c.new ((high_elements kind).read (place c.old)) }
 {
     match kind {
         4 => {
-            let offset = ConstExprReader.read(alloc, c)?;
-            let exprs = Vecs(ConstExprReader).read(alloc, c)?;
+            let offset = expr.read(alloc, c)?;
+            let exprs = Vecs(expr).read(alloc, c)?;
             Ok(Elements::ActiveExprs { offset, exprs })
         }
         5 => {
             let ty = RefTypeReader.read(alloc, c)?;
-            let exprs = Vecs(ConstExprReader).read(alloc, c)?;
+            let exprs = Vecs(expr).read(alloc, c)?;
             Ok(Elements::PassiveExprs { ty, exprs })
         }
         6 => {
             let table = U32.read(alloc, c)?;
-            let offset = ConstExprReader.read(alloc, c)?;
+            let offset = expr.read(alloc, c)?;
             let ty = RefTypeReader.read(alloc, c)?;
-            let exprs = Vecs(ConstExprReader).read(alloc, c)?;
+            let exprs = Vecs(expr).read(alloc, c)?;
             Ok(Elements::ActiveExprsAt {
                 table,
                 offset,
@@ -221,7 +232,7 @@ fn high_elements(alloc: Global, c: &mut Cursor<'_>, kind: u8) -> Result<Elements
         }
         7 => {
             let ty = RefTypeReader.read(alloc, c)?;
-            let exprs = Vecs(ConstExprReader).read(alloc, c)?;
+            let exprs = Vecs(expr).read(alloc, c)?;
             Ok(Elements::DeclaredExprs { ty, exprs })
         }
         _ => Err(lacks(c, kind)),
@@ -230,9 +241,9 @@ fn high_elements(alloc: Global, c: &mut Cursor<'_>, kind: u8) -> Result<Elements
 
 /// Element segments.
 #[derive(Clone, Copy)]
-pub struct ElementsReader;
+pub struct ElementsReader<'a>(pub &'a SelectLists);
 
-impl Reader for ElementsReader {
+impl<'a> Reader for ElementsReader<'a> {
     type Value = Elements;
 
     ghost format = { λ _. elements };
@@ -243,9 +254,9 @@ impl Reader for ElementsReader {
             None => Err(Stop::Malformed),
             Some(kind) => {
                 if kind < 4 {
-                    low_elements(alloc, c, kind)
+                    low_elements(ConstExprReader(self.0), alloc, c, kind)
                 } else {
-                    high_elements(alloc, c, kind)
+                    high_elements(ConstExprReader(self.0), alloc, c, kind)
                 }
             }
         }
@@ -269,9 +280,9 @@ impl Reader for FewBytesReader {
 
 /// Data segments.
 #[derive(Clone, Copy)]
-pub struct DataReader;
+pub struct DataReader<'a>(pub &'a SelectLists);
 
-impl Reader for DataReader {
+impl<'a> Reader for DataReader<'a> {
     type Value = Data;
 
     ghost format = { λ _. segment };
@@ -281,7 +292,7 @@ impl Reader for DataReader {
         match next_byte(c) {
             None => Err(Stop::Malformed),
             Some(0) => {
-                let offset = ConstExprReader.read(alloc, c)?;
+                let offset = ConstExprReader(self.0).read(alloc, c)?;
                 let bytes = FewBytesReader.read(alloc, c)?;
                 Ok(Data::Active { offset, bytes })
             }
@@ -290,7 +301,7 @@ impl Reader for DataReader {
             }),
             Some(2) => {
                 let memory = U32.read(alloc, c)?;
-                let offset = ConstExprReader.read(alloc, c)?;
+                let offset = ConstExprReader(self.0).read(alloc, c)?;
                 let bytes = FewBytesReader.read(alloc, c)?;
                 Ok(Data::ActiveAt {
                     memory,

@@ -1,20 +1,22 @@
 ghost use Rattle.std.specs.Prelude.{◌≡◌, ◌∷◌, [], true, false, OnOk};
 ghost use Rattle.wasm_ast.specs.Expressions.{is_closed, may_else, closed};
 
+use crate::select_lists::SelectLists;
 use std::alloc::Global;
 use std::marker::Model;
 use virt_base::NoMemory;
 
 /// What is open at a place in an expression, which contracts see as a list, the innermost first: of each construct, whether its
-/// `else` may come. There is no more of it than one byte a construct.
+/// `else` may come. There is no more of it than one byte a construct. The instructions share these lists.
 #[derive(Drop)]
-pub struct Nesting {
+pub struct Nesting<'a> {
+    pub(crate) selects: &'a SelectLists,
     may_else: bool,
     outer: Vec<bool>,
     over: bool,
 }
 
-impl Model for Nesting {
+impl<'a> Model for Nesting<'a> {
     ghost use Rattle.std.specs.Prelude.{List, Bool, [], ◌∷◌, reverse, if◌then◌else◌};
 
     ghost Value = { List Bool };
@@ -22,12 +24,13 @@ impl Model for Nesting {
     ghost view = { λ n. if n.over then [] else (n.may_else ∷ reverse n.outer.items) };
 }
 
-impl Nesting {
+impl<'a> Nesting<'a> {
     /// The expression itself is open, and no `else` may come.
-    pub fn start(alloc: Global) -> Nesting
+    pub fn start(alloc: Global, selects: &'a SelectLists) -> Nesting<'a>
         ensures { result ≡ false ∷ [] }
     {
         Nesting {
+            selects,
             may_else: false,
             outer: Vec::new(alloc),
             over: false,

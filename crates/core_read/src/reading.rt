@@ -5,8 +5,9 @@ ghost use Rattle.wasm_ast.specs.Modules.{core_module};
 ghost use Rattle.core_read.specs.Answers.{Answers};
 
 use crate::sections::Progress;
+use crate::select_lists::SelectLists;
 use std::alloc::Global;
-use virt_base::Cursor;
+use virt_base::{Cursor, NoMemory};
 use wasm_ast::Module;
 use wasm_format::{Reader, Stop, expect_bytes, read_sections, read_to_the_end};
 
@@ -25,9 +26,9 @@ const PREAMBLE: [u8; 8] = [0x00, 0x61, 0x73, 0x6D, 0x01, 0x00, 0x00, 0x00];
 
 /// Modules that are a part of a larger input: from the cursor to the end of its bytes, with offsets from their start.
 #[derive(Clone, Copy)]
-pub struct CoreModules;
+pub struct CoreModules<'a>(pub &'a SelectLists);
 
-impl Reader for CoreModules {
+impl<'a> Reader for CoreModules<'a> {
     type Value = Module;
 
     ghost format = { λ _. core_module };
@@ -35,8 +36,26 @@ impl Reader for CoreModules {
     #[tactic(auto, unfolding(wasm_ast::specs::Modules::core_module, wasm_ast::specs::Modules::all_sections))]
     fn read(&self, alloc: Global, c: &mut Cursor<'_>) -> Result<Module, Stop> {
         expect_bytes(c, PREAMBLE.as_slice())?;
-        let progress = read_to_the_end(alloc, c, Progress::start())?;
+        let progress = read_to_the_end(alloc, c, Progress::start(self.0))?;
         Ok(progress.module())
+    }
+}
+
+fn read_sharing(selects: &SelectLists, alloc: Global, bytes: &[u8]) -> Result<Module, ReadFault>
+    ensures { Answers result bytes.now }
+{
+    let mut c = Cursor { bytes, at: 0 };
+    if expect_bytes(&mut c, PREAMBLE.as_slice()).is_err() {
+        return Err(ReadFault::Malformed(0));
+    }
+    let mut good = 0;
+    match read_sections(alloc, &mut c, Progress::start(selects), &mut good) {
+        Ok(progress) => Ok(progress.module()),
+        Err(Stop::NoMemory) => Err(ReadFault::NoMemory),
+        Err(Stop::Malformed) => Err(ReadFault::Malformed(good as u64)),
+        Err(Stop::Unsupported { at, byte }) => Err(ReadFault::Unsupported(at as u64, byte)),
+        // nothing is nested in a module
+        Err(Stop::TooNested) => Err(ReadFault::Malformed(good as u64)),
     }
 }
 
@@ -48,17 +67,8 @@ impl Reader for CoreModules {
 pub fn read_module(alloc: Global, bytes: &[u8]) -> Result<Module, ReadFault>
     ensures { Answers result bytes.now }
 {
-    let mut c = Cursor { bytes, at: 0 };
-    if expect_bytes(&mut c, PREAMBLE.as_slice()).is_err() {
-        return Err(ReadFault::Malformed(0));
-    }
-    let mut good = 0;
-    match read_sections(alloc, &mut c, Progress::start(), &mut good) {
-        Ok(progress) => Ok(progress.module()),
-        Err(Stop::NoMemory) => Err(ReadFault::NoMemory),
-        Err(Stop::Malformed) => Err(ReadFault::Malformed(good as u64)),
-        Err(Stop::Unsupported { at, byte }) => Err(ReadFault::Unsupported(at as u64, byte)),
-        // nothing is nested in a module
-        Err(Stop::TooNested) => Err(ReadFault::Malformed(good as u64)),
+    match SelectLists::new(alloc) {
+        Ok(selects) => read_sharing(&selects, alloc, bytes),
+        Err(NoMemory) => Err(ReadFault::NoMemory),
     }
 }

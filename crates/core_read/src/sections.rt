@@ -8,6 +8,7 @@ ghost use Rattle.wasm_ast.specs.Modules.{note, ranked, counted, low_section, hig
 use crate::items::{
     BodyReader, DataReader, ElementsReader, ExportReader, GlobalReader, ImportReader,
 };
+use crate::select_lists::SelectLists;
 use crate::types::{CoreFuncReader, LimitsReader, TableTypeReader, lacks};
 use std::alloc::Global;
 use std::marker::Model;
@@ -15,14 +16,15 @@ use virt_base::{Cursor, Items, NoMemory, next_byte};
 use wasm_ast::{Body, CoreSection, Data, Lean, Module};
 use wasm_format::{Building, CountedVecs, Reader, Sized, Stop, U32, Vecs, take_name};
 
-/// What is read so far: the sections, and the place of the last one in their order, from 1.
+/// What is read so far: the sections, and the place of the last one in their order, from 1. The instructions share these lists.
 #[derive(Drop)]
-pub struct Progress {
+pub struct Progress<'a> {
+    selects: &'a SelectLists,
     rank: u8,
     found: Module,
 }
 
-impl Model for Progress {
+impl<'a> Model for Progress<'a> {
     ghost use Rattle.wasm_ast.specs.Modules.{Progress};
 
     ghost Value = { Progress };
@@ -49,21 +51,22 @@ impl Reader for Notes {
 
 /// Data segments, as many as a data count says.
 #[derive(Clone, Copy)]
-struct Segments {
+struct Segments<'a> {
+    selects: &'a SelectLists,
     count: Option<u32>,
 }
 
-impl Reader for Segments {
+impl<'a> Reader for Segments<'a> {
     type Value = Items<Data>;
 
     ghost format = { λ s. counted s.count };
 
     fn read(&self, alloc: Global, c: &mut Cursor<'_>) -> Result<Items<Data>, Stop> {
         match self.count {
-            None => Vecs(DataReader).read(alloc, c),
+            None => Vecs(DataReader(self.selects)).read(alloc, c),
             Some(count) => CountedVecs {
                 count: count as usize,
-                item: DataReader,
+                item: DataReader(self.selects),
             }
             .read(alloc, c),
         }
@@ -103,11 +106,12 @@ fn ranked_list<R: Reader + Drop>(
     Ok(Lean::new(alloc, items)?)
 }
 
-impl Progress {
-    pub fn start() -> Progress
+impl<'a> Progress<'a> {
+    pub fn start(selects: &'a SelectLists) -> Progress<'a>
         ensures { result ≡ no_sections }
     {
         Progress {
+            selects,
             rank: 0,
             found: Module {
                 types: Lean::empty(),
@@ -128,7 +132,7 @@ impl Progress {
 
     /// The module of the sections.
     pub fn module(self) -> Module
-        ensures { result ≡ self.found }
+        ensures { result ≡ self.entry.found }
     {
         self.found
     }
@@ -151,7 +155,13 @@ impl Progress {
             3 => Ok(CoreSection::Functions(ranked_list(U32, alloc, c, last, 3)?)),
             4 => Ok(CoreSection::Tables(ranked_list(TableTypeReader, alloc, c, last, 4)?)),
             5 => Ok(CoreSection::Memories(ranked_list(LimitsReader, alloc, c, last, 5)?)),
-            6 => Ok(CoreSection::Globals(ranked_list(GlobalReader, alloc, c, last, 6)?)),
+            6 => Ok(CoreSection::Globals(ranked_list(
+                GlobalReader(self.selects),
+                alloc,
+                c,
+                last,
+                6,
+            )?)),
             _ => Err(lacks(c, id)),
         }
     }
@@ -162,7 +172,7 @@ impl Progress {
         ensures value { Reads result c.new ((ranked self.now.rank 11 (sized (vec_of (length self.now.found.functions) (sized body)))).read (place c.old)) }
     {
         let count = self.found.functions.len();
-        let item = Sized(BodyReader);
+        let item = Sized(BodyReader(self.selects));
         ranked(CountedVecs { count, item }, alloc, c, self.rank, 11)
     }
 
@@ -177,11 +187,18 @@ impl Progress {
         match id {
             7 => Ok(CoreSection::Exports(ranked_list(ExportReader, alloc, c, last, 7)?)),
             8 => Ok(CoreSection::Start(ranked(U32, alloc, c, last, 8)?)),
-            9 => Ok(CoreSection::Elements(ranked_list(ElementsReader, alloc, c, last, 9)?)),
+            9 => Ok(CoreSection::Elements(ranked_list(
+                ElementsReader(self.selects),
+                alloc,
+                c,
+                last,
+                9,
+            )?)),
             10 => Ok(CoreSection::Code(Lean::new(alloc, self.code(alloc, c)?)?)),
             11 => {
+                let selects = self.selects;
                 let count = self.found.data_count;
-                let segments = ranked(Segments { count }, alloc, c, last, 12)?;
+                let segments = ranked(Segments { selects, count }, alloc, c, last, 12)?;
                 Ok(CoreSection::Segments(Lean::new(alloc, segments)?))
             }
             12 => Ok(CoreSection::DataCount(ranked(U32, alloc, c, last, 10)?)),
@@ -205,7 +222,7 @@ impl Progress {
     }
 }
 
-impl Building for Progress {
+impl<'a> Building for Progress<'a> {
     type Part = CoreSection;
 
     ghost sections = { sections };

@@ -125,7 +125,7 @@ module _ (c : Context) (w : Scene) (fr : Frame) (suits : Suits c w fr) where
       let before = p.before_is in let after = p.after_is in
       subst R (omega arith) r
   leaf_fine labels ls (code.SelectTyped ts) ps rs h k R a t m e r =
-      let p = selected ts.value ps rs t in
+      let p = selected ts ps rs t in
       let before = p.before_is in let after = p.after_is in
       (omega arith, subst R (omega arith) r)
   leaf_fine labels ls code.Unreachable ps rs h k R a t m e r = tt

@@ -6,7 +6,6 @@ mod laws;
 mod locals;
 mod makers;
 mod memories;
-mod shared;
 mod state;
 mod table;
 mod tables;
@@ -25,9 +24,9 @@ pub use makers::{
     add_elements, add_function, add_global, add_instance, add_memory, add_segment, add_table,
 };
 pub use memories::{copy, drop_segment, fill, grow, init, load, read, size, store_at, write};
-pub use shared::Shared;
 pub use state::{Store, function, functions, instances, spaces};
 pub use tables::{
     drop_element, table_copy, table_fill, table_get, table_grow, table_init, table_set, table_size,
 };
 pub use value::{CoreRef, CoreRefs, CoreSpaces, CoreValue, StoreFunc, TooDeep};
+pub use wasm_ast::Shared;

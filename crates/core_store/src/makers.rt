@@ -3,13 +3,13 @@ ghost use Rattle.core_memory.specs.Linear.{fresh};
 ghost use Rattle.core_store.specs.Table.{nulls, AreRefs};
 ghost use Rattle.core_store.specs.State.{Adds, Places, IsStoreValue};
 
-use crate::shared::Shared;
 use crate::state::Store;
 use crate::table::Table;
 use crate::value::{CoreRefs, CoreSpaces, CoreValue, StoreFunc};
 use core_memory::Memory;
 use std::alloc::Global;
 use virt_base::{NoMemory, copy_bytes};
+use wasm_ast::Shared;
 
 /// The first place that no item has.
 const LAST: usize = 4_294_967_295;

@@ -1,12 +1,12 @@
 ghost use Rattle.std.specs.Prelude.{◌≡◌, ◌+◌, ◌-◌, ◌≤◌, ◌<◌, Some, length, slice_get};
 
-use crate::shared::Shared;
 use crate::table::Table;
 use crate::value::{CoreRefs, CoreSpaces, CoreValue, StoreFunc, TooDeep};
 use core_memory::Memory;
 use std::alloc::Global;
 use std::marker::Model;
 use virt_base::Bytes;
+use wasm_ast::Shared;
 
 /// The greatest number of calls in progress.
 const DEEPEST: u32 = 65536;

@@ -1,8 +1,7 @@
 use crate::locals::Locals;
-use crate::shared::Shared;
 use core_code::Code;
 use virt_base::Items;
-use wasm_ast::{CoreFunc, Indexes};
+use wasm_ast::{CoreFunc, Indexes, Shared};
 
 /// A reference: null, or a function by its place in the store.
 #[derive(Debug, Clone, Copy, PartialEq, Eq)]

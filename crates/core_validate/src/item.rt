@@ -1,6 +1,5 @@
-use crate::shared::Shared;
 use virt_base::{CoreType, Items, NoMemory, Text};
-use wasm_ast::{CoreFunc, Limits};
+use wasm_ast::{CoreFunc, Limits, Shared};
 
 /// What a module takes or gives.
 #[derive(Debug, Drop)]

@@ -8,12 +8,11 @@ mod items;
 mod marks;
 mod names;
 mod segments;
-mod shared;
 mod shared_types;
 mod spaces;
 mod types;
 mod whole;
 
 pub use item::{CoreExport, CoreExports, CoreFault, CoreImport, CoreImports, CoreItem, ModuleType};
-pub use shared::Shared;
+pub use wasm_ast::Shared;
 pub use whole::validate;

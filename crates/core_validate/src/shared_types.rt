@@ -1,11 +1,10 @@
 ghost use Rattle.std.specs.Prelude.{◌≡◌, IfOk, IfSome, Some, slice_get};
 
-use crate::shared::Shared;
 use std::alloc::Global;
 use std::collections::BTreeMap;
 use std::marker::Model;
 use virt_base::{CoreType, CoreTypes, Items, NoMemory};
-use wasm_ast::CoreFunc;
+use wasm_ast::{CoreFunc, Shared};
 
 /// The function types of a module, which contracts see as their list. Each is copied once, where it is first asked for.
 #[derive(Drop)]

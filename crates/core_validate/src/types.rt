@@ -7,12 +7,13 @@ ghost use Rattle.core_body.specs.Views.{context_at};
 ghost use Rattle.core_validate.specs.Typed.{nothing, found, func_item, table_item, global_item, import_type, export_type, core_import, core_export};
 
 use crate::item::{CoreExport, CoreImport, CoreItem};
-use crate::shared::Shared;
 use crate::shared_types::SharedTypes;
 use core_body::{Spaces, value_of};
 use std::alloc::Global as Heap;
 use virt_base::{Items, NoMemory};
-use wasm_ast::{CoreFunc, Export, ExportItem, GlobalType, Import, ImportItem, Limits, TableType};
+use wasm_ast::{
+    CoreFunc, Export, ExportItem, GlobalType, Import, ImportItem, Limits, Shared, TableType,
+};
 
 fn nothing(alloc: Heap) -> Result<CoreItem, NoMemory>
     ensures { IfOk result (λ item. item ≡ nothing) }

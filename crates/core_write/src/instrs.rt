@@ -4,7 +4,7 @@ ghost use Rattle.wasm_format.specs.Format.{Format, write_items};
 ghost use Rattle.wasm_ast.specs.Instructions.{branch_table, instr};
 ghost use Rattle.wasm_ast.specs.Expressions.{expr};
 
-use crate::lists::Fews;
+use crate::lists::{Fews, put_list};
 use crate::ops::put_op;
 use crate::types::{BlockTypeWriter, CoreTypeWriter};
 use std::alloc::Global;
@@ -47,7 +47,7 @@ impl Writer for InstrWriter {
             }
             Instr::SelectTyped(types) => {
                 put_byte(alloc, out, 0x1C)?;
-                Fews(CoreTypeWriter).write(alloc, out, types)
+                put_list(&CoreTypeWriter, alloc, out, types.get().as_slice())
             }
             Instr::Unreachable => put_byte(alloc, out, 0x00),
             Instr::Block(ty) => {

@@ -24,8 +24,9 @@ fn put_all<W: Writer>(
     Ok(())
 }
 
+/// Writes a count, and that many.
 #[tactic(auto, unfolding(wasm_format::specs::Format::u32_format))]
-fn put_list<W: Writer>(
+pub fn put_list<W: Writer>(
     writer: &W,
     alloc: Global,
     out: &mut Vec<u8>,

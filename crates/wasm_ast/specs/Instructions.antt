@@ -171,7 +171,7 @@ callee_in (CallIndirect ty table) = (ty, table)
 callee_in _ = (0, 0)
 
 abbrev pub types_in : Instr → List CoreType
-types_in (SelectTyped ts) = ts.value
+types_in (SelectTyped ts) = ts
 types_in _ = []
 
 abbrev pub long_in : Instr → ℤ
@@ -299,7 +299,7 @@ control b =
 unfoldable pub instr_of : ℕ → Format Instr
 instr_of b =
     choose (nat_lt b 0x12) (control b) (
-    choose (b == 0x1C) (image (λ ts. SelectTyped (record { value = ts })) types_in (vec core_type)) (
+    choose (b == 0x1C) (image SelectTyped types_in (vec core_type)) (
     choose (b == 0x42) (image I64Const long_in s64_format)
     (image Plain op_in (op_of b))))
 

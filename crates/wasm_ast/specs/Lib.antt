@@ -12,3 +12,4 @@ pub mod JoinedLabels
 pub mod KeptTypes
 pub mod Items
 pub mod Modules
+pub mod SelectTypes

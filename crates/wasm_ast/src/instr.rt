@@ -1,6 +1,8 @@
 use crate::boxed::Boxed;
 use crate::few::Few;
 use crate::numeric::NumericOp;
+use crate::select_types::SelectTypes;
+use crate::shared::Shared;
 use virt_base::{CoreType, Items};
 
 /// A reference type (WebAssembly Core 2.0, section 2.3.3).
@@ -100,7 +102,7 @@ pub struct BranchTable {
 pub enum Instr {
     Plain(Op),
     I64Const(i64),
-    SelectTyped(Boxed<Few<CoreType>>),
+    SelectTyped(Shared<SelectTypes>),
     Unreachable,
     Block(BlockType),
     Loop(BlockType),

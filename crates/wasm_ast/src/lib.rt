@@ -16,6 +16,8 @@ mod maybe_type;
 mod module;
 mod numeric;
 mod section;
+mod select_types;
+mod shared;
 
 pub use apart::Apart;
 pub use boxed::Boxed;
@@ -36,3 +38,5 @@ pub use module::{
 };
 pub use numeric::{Numeric, NumericOp, numeric_of};
 pub use section::CoreSection;
+pub use select_types::SelectTypes;
+pub use shared::Shared;

@@ -1,7 +1,7 @@
 use Rattle.std.proofs.Common.{◌∙◌, sym}
 use Rattle.virt_base.specs.Place.{rest}
 use Rattle.core_read.proofs.ModuleAnswers.{ok_is_the_module, unsupported_meets, malformed_is_longest, none_without_preamble, front_taken, no_front, from_start, outcome_of, ran_err}
-use Rattle.core_read.proofs.reading.read_module.Goals as goal
+use Rattle.core_read.proofs.reading.read_sharing.Goals as goal
 
 pub returns-then-is_err : goal.returns-then-is_err
 returns-then-is_err c = none_without_preamble c.args.bytes.now (no_front c.args.bytes.now c.expect_bytes.result c.expect_bytes.new.c (sym c.is_err.ensures.value ∙ c.if-is_err.true) (rw c.as_slice.ensures at c.expect_bytes.ensures.given))
