@@ -6,6 +6,9 @@
   results  COUNT functions of a type with COUNT results, each of which calls itself
   labels   a br_table in dead code, behind half as many operands, with COUNT labels of a type with COUNT results, its default
            of another such type
+  ending   COUNT times a call that leaves COUNT operands, and one that takes all but the first of them
+  tables   COUNT br_tables in dead code, each behind a call that leaves half as many operands, of two types with COUNT
+           results that end alike
 """
 import sys
 
@@ -55,10 +58,23 @@ def made(kind, n):
         table = b"\x0e" + vec(leb(1) for _ in range(n)) + leb(0)
         body = b"\x02\x00\x02\x01\x00" + b"\x41\x00" * half + table + b"\x0b\x00\x0b\x00\x0b"
         return module([func(b"", wide), func(b"", other), func(b"", b"")], [2], [body])
+    if kind == "ending":
+        # what the first leaves ends as the types of the second, and is longer
+        body = b"\x00" + b"\x10\x00\x10\x01\x1a" * n + b"\x0b"
+        return module([func(b"", wide), func(wide[1:], b""), func(b"", b"")], [0, 1, 2], [b"\x00\x0b", b"\x0b", body])
+    if kind == "tables":
+        half = n // 2
+        other = b"\x7f" * (n - half - 1) + b"\x7e" + b"\x7f" * half
+        tables = (b"\x10\x00" + b"\x41\x00" + b"\x0e" + vec([leb(1)]) + leb(0)) * n
+        body = b"\x02\x00\x02\x01\x00" + tables + b"\x0b\x00\x0b\x00\x0b"
+        types = [func(b"", wide), func(b"", other), func(b"", b""), func(b"", wide[:half])]
+        return module(types, [3, 2], [b"\x00\x0b", body])
     sys.exit(__doc__)
 
 
 if __name__ == "__main__":
     if len(sys.argv) != 4:
         sys.exit(__doc__)
-    open(sys.argv[3], "wb").write(made(sys.argv[1], int(sys.argv[2])))
+    made_module = made(sys.argv[1], int(sys.argv[2]))
+    open(sys.argv[3], "wb").write(made_module)
+    print(f"{sys.argv[1]} {sys.argv[2]}: {len(made_module)} bytes")

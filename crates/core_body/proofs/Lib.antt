@@ -5,6 +5,7 @@ pub mod Complete
 pub mod StackLemmas
 pub mod NameLemmas
 pub mod NumberLemmas
+pub mod PartLemmas
 pub mod PieceLemmas
 pub mod PlaceLemmas
 pub mod LevelLemmas

@@ -19,7 +19,7 @@ use Rattle.core_body.specs.declared.numbers.ListNumbers.{ListNumbers}
 use Rattle.core_body.specs.Sources.{params_in, results_in, listed_in}
 use Rattle.core_body.specs.Numbers.{letter, params_number, results_number, number_in, Distinguish, number_of, numbered, AreApart, Keeps, Adds, HaveNumbers}
 
-letter-injective : (a b : CoreType) → letter a ≡ letter b → a ≡ b
+pub letter-injective : (a b : CoreType) → letter a ≡ letter b → a ≡ b
 letter-injective I32 I32 e = refl
 letter-injective I32 I64 e = cc
 letter-injective I32 Funcref e = cc

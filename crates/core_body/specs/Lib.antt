@@ -10,6 +10,7 @@ pub mod Machine
 pub mod Views
 pub mod Sources
 pub mod Numbers
+pub mod Parts
 pub mod Pieces
 pub mod Levels
 pub mod Stack

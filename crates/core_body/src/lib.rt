@@ -7,6 +7,7 @@ mod levels;
 mod locals;
 mod numbers;
 mod operand;
+mod parts;
 mod piece;
 mod promise;
 mod shapes;

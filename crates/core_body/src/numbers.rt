@@ -16,7 +16,7 @@ pub struct ListNumbers {
     pub results: usize,
 }
 
-fn letter(t: CoreType) -> u8
+pub fn letter(t: CoreType) -> u8
     ensures { result ≡ letter t }
 {
     match t {

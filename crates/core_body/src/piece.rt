@@ -1,14 +1,17 @@
 //! Pieces of the operand stack, and how they meet the types that are due.
 
-ghost use Rattle.std.specs.Prelude.{◌≡◌, ◌∷◌, [], MatchOption};
+ghost use Rattle.std.specs.Prelude.{◌≡◌, ◌↔◌, ◌∷◌, [], IsTrue, MatchOption, drop, length};
 ghost use Rattle.std.specs.Bool.{OnTrue};
 ghost use Rattle.core_body.specs.Context.{Context};
+ghost use Rattle.core_body.specs.Sources.{front};
 ghost use Rattle.core_body.specs.Pieces.{run_of, piece_of, NeverMeet, Meet};
 ghost use Rattle.core_body.specs.Views.{context_of};
 
 use crate::operand::{Operand, below};
+use crate::parts::LONG;
 use crate::source::{Run, Source, same_types};
 use crate::spaces::Scope;
+use virt_base::CoreType;
 
 /// One operand, or one of each type of a run, the last on top.
 #[derive(Clone, Copy)]
@@ -100,6 +103,35 @@ fn bite_one(scope: &Scope<'_>, found: Operand, due: Run) -> Option<Met>
     }
 }
 
+/// Whether what is left of a run behind its first types, and of the types due behind theirs, is the same.
+fn same_ends(
+    scope: &Scope<'_>,
+    run: Run,
+    due: Run,
+    kept: usize,
+    left: usize,
+    first: &[CoreType],
+    second: &[CoreType],
+) -> bool
+    requires first { first.now ≡ drop kept (front (context_of scope.now) run) }
+    requires second { second.now ≡ drop left (front (context_of scope.now) due) }
+    requires len { length first.now ≡ length second.now }
+    ensures { IsTrue result ↔ (first.now ≡ second.now) }
+{
+    let len = first.len();
+    if len < LONG {
+        return same_types(first, second);
+    }
+    if scope
+        .spaces
+        .types
+        .same_slices(run.of, kept, due.of, left, len)
+    {
+        return true;
+    }
+    same_types(first, second)
+}
+
 /// A run meets as many of the types as it has, the last with the last.
 fn bite_run(scope: &Scope<'_>, run: Run, due: Run) -> Option<Met>
     ensures { MatchOption result (NeverMeet (context_of scope.now) (Piece.Many run) due) (λ b. Meet (context_of scope.now) (Piece.Many run) due b.part b.due) }
@@ -110,7 +142,7 @@ fn bite_run(scope: &Scope<'_>, run: Run, due: Run) -> Option<Met>
     let left = want.len().saturating_sub(held.len());
     let first = held.split_at(kept).1;
     let second = want.split_at(left).1;
-    if same_types(first, second) {
+    if same_ends(scope, run, due, kept, left, first, second) {
         Some(Met {
             part: Piece::Many(Run {
                 of: run.of,
