@@ -57,11 +57,11 @@ pub fn leave(alloc: Global, planner: &mut Planner) -> Result<(), NoMemory>
 pub fn plan_module(
     alloc: Global,
     planner: &mut Planner,
-    module: &wasm_ast::Module,
+    core: &wasm_ast::Module,
 ) -> Result<(), NoMemory>
-    ensures { OnOk result ((span : Span) → PlansPart (CoreModule span module.now) planner.old planner.new) }
+    ensures { OnOk result ((span : Span) → PlansPart (CoreModule span core.now) planner.old planner.new) }
 {
-    define_module(alloc, &mut planner.scopes, module)?;
+    define_module(alloc, &mut planner.scopes, core)?;
     let Some(count) = planner.count.checked_add(1) else {
         return Err(NoMemory);
     };

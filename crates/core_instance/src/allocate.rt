@@ -44,14 +44,14 @@ pub fn imported_values(
 /// The type of the function whose body stands at this place of the code section.
 fn func_type(
     alloc: Heap,
-    module: &Module,
+    core: &Module,
     types: &SharedFuncs,
     index: usize,
 ) -> Result<Shared<CoreFunc>, NoMemory>
-    requires { types.now ≡ module.now.types }
-    ensures { IfOk result (λ ty. ty ≡ body_type module.now index) }
+    requires { types.now ≡ core.now.types }
+    ensures { IfOk result (λ ty. ty ≡ body_type core.now index) }
 {
-    match module.functions.as_slice().get(index) {
+    match core.functions.as_slice().get(index) {
         Some(ty) => match types.as_slice().get(*ty as usize) {
             Some(func) => func.share(),
             None => Shared::new(alloc, no_func(alloc)),
@@ -63,17 +63,17 @@ fn func_type(
 /// The function of a body in the instance of this number.
 fn inside(
     alloc: Heap,
-    module: &Module,
+    core: &Module,
     types: &SharedFuncs,
     index: usize,
     instance: u32,
     body: &Body,
 ) -> Result<StoreFunc, NoMemory>
     requires closed { IsClosed body.now }
-    requires types { types.now ≡ module.now.types }
-    ensures { IfOk result (λ function. function ≡ Inside (body_type module.now index) instance (spread body.now.locals) body.now.code) }
+    requires types { types.now ≡ core.now.types }
+    ensures { IfOk result (λ function. function ≡ Inside (body_type core.now index) instance (spread body.now.locals) body.now.code) }
 {
-    let ty = func_type(alloc, module, types, index)?;
+    let ty = func_type(alloc, core, types, index)?;
     let locals = spread(alloc, body.locals.as_slice())?;
     let instrs = copy_instrs(alloc, &body.code)?;
     match Code::new(alloc, instrs)? {
@@ -93,16 +93,16 @@ pub fn add_functions(
     store: &mut Store,
     places: &mut Indexes,
     instance: u32,
-    module: &Module,
+    core: &Module,
     types: &SharedFuncs,
 ) -> Result<(), NoMemory>
-    requires closed { All IsClosed module.now.code }
-    requires types { types.now ≡ module.now.types }
-    ensures store { OnOk result (store.new ≡ record store.old { functions = store.old.functions ++ functions_from module.now instance 0 module.now.code }) }
-    ensures places { OnOk result (places.new ≡ places.old ++ range_with_len (length store.old.functions) (length module.now.code)) }
+    requires closed { All IsClosed core.now.code }
+    requires types { types.now ≡ core.now.types }
+    ensures store { OnOk result (store.new ≡ record store.old { functions = store.old.functions ++ functions_from core.now instance 0 core.now.code }) }
+    ensures places { OnOk result (places.new ≡ places.old ++ range_with_len (length store.old.functions) (length core.now.code)) }
 {
-    for (index, body) in module.code.as_slice().iter().enumerate() {
-        let function = inside(alloc, module, types, index, instance, body)?;
+    for (index, body) in core.code.as_slice().iter().enumerate() {
+        let function = inside(alloc, core, types, index, instance, body)?;
         let at = add_function(alloc, store, function)?;
         places.push(at)?;
     }

@@ -31,16 +31,16 @@ struct Allocated {
 fn allocate(
     alloc: Global,
     store: &mut Store,
-    module: &Module,
+    core: &Module,
     imports: &Externs,
 ) -> Result<Allocated, NoMemory>
-    requires closed { All IsClosed module.now.code }
+    requires closed { All IsClosed core.now.code }
     requires imports { All (IsThere store.old) imports.now }
-    ensures store { OnOk result (store.new ≡ allocated store.old module.now imports.now) }
-    ensures places { IfOk result (λ made. made.places ≡ places_of store.old module.now imports.now) }
-    ensures names { IfOk result (λ made. made.names ≡ names_of store.old module.now imports.now) }
+    ensures store { OnOk result (store.new ≡ allocated store.old core.now imports.now) }
+    ensures places { IfOk result (λ made. made.places ≡ places_of store.old core.now imports.now) }
+    ensures names { IfOk result (λ made. made.names ≡ names_of store.old core.now imports.now) }
 {
-    let types = share_funcs(alloc, &module.types)?;
+    let types = share_funcs(alloc, &core.types)?;
     let mut places = imported_places(alloc, imports.as_slice())?;
     let globals = imported_values(alloc, store, places.globals.as_slice())?;
     add_functions(
@@ -48,37 +48,27 @@ fn allocate(
         store,
         &mut places.functions,
         instances(store),
-        module,
+        core,
         &types,
     )?;
     let functions = copy_places(alloc, &places.functions)?;
     let names = Names { globals, functions };
-    add_tables(alloc, store, &mut places.tables, module.tables.as_slice())?;
-    add_memories(
-        alloc,
-        store,
-        &mut places.memories,
-        module.memories.as_slice(),
-    )?;
+    add_tables(alloc, store, &mut places.tables, core.tables.as_slice())?;
+    add_memories(alloc, store, &mut places.memories, core.memories.as_slice())?;
     add_globals(
         alloc,
         store,
         &mut places.globals,
         &names,
-        module.globals.as_slice(),
+        core.globals.as_slice(),
     )?;
-    add_segments(
-        alloc,
-        store,
-        &mut places.segments,
-        module.segments.as_slice(),
-    )?;
+    add_segments(alloc, store, &mut places.segments, core.segments.as_slice())?;
     add_references(
         alloc,
         store,
         &mut places.elements,
         &names,
-        module.elements.as_slice(),
+        core.elements.as_slice(),
     )?;
     let spaces = spaces_with(alloc, types, &places)?;
     add_instance(alloc, store, spaces)?;
@@ -94,22 +84,22 @@ fn allocate(
 pub fn instantiate(
     alloc: Global,
     store: &mut Store,
-    module: &Module,
+    core: &Module,
     imports: &Externs,
 ) -> Result<CoreInstance, StoreFault>
-    requires valid { IsValidModule module.now }
+    requires valid { IsValidModule core.now }
     requires imports { All (IsThere store.old) imports.now }
-    ensures answers { Answers store.old module.now imports.now store.new result }
-    ensures fine { StaysFine store.old module.now imports.now store.new result }
+    ensures answers { Answers store.old core.now imports.now store.new result }
+    ensures fine { StaysFine store.old core.now imports.now store.new result }
     ensures grew { OnlyGrew store.old store.new result }
-    ensures exports { IfOk result (GivesExports store.old module.now imports.now store.new) }
+    ensures exports { IfOk result (GivesExports store.old core.now imports.now store.new) }
 {
     let number = instances(store);
-    let Allocated { places, names } = allocate(alloc, store, module, imports)?;
-    let exports = exports_of(alloc, &places, module.exports.as_slice())?;
-    let start = start_of(&places, module.start);
-    apply_elements(store, &places, &names, module.elements.as_slice())?;
-    apply_segments(store, &places, &names, module.segments.as_slice())?;
+    let Allocated { places, names } = allocate(alloc, store, core, imports)?;
+    let exports = exports_of(alloc, &places, core.exports.as_slice())?;
+    let start = start_of(&places, core.start);
+    apply_elements(store, &places, &names, core.elements.as_slice())?;
+    apply_segments(store, &places, &names, core.segments.as_slice())?;
     Ok(CoreInstance {
         number,
         exports,

@@ -59,15 +59,15 @@ fn matches_item(store: &Store, types: &[CoreFunc], item: ImportItem, given: Exte
 /// Whether imports match a module (WebAssembly Core 2.0, sections 3.2.8 and 4.5.1): as many as the module declares, each of
 /// the declared kind, and each function in the store and of the declared type.
 #[tactic(auto, using(crate::proofs::DecideLemmas::other_count))]
-pub fn imports_match(store: &Store, module: &Module, imports: &Externs) -> bool
-    ensures { IsTrue result ↔ ImportsMatch store.now module.now imports.now }
+pub fn imports_match(store: &Store, core: &Module, imports: &Externs) -> bool
+    ensures { IsTrue result ↔ ImportsMatch store.now core.now imports.now }
 {
-    let wanted = module.imports.as_slice();
+    let wanted = core.imports.as_slice();
     let given = imports.as_slice();
     if wanted.len() != given.len() {
         return false;
     }
-    let types = module.types.as_slice();
+    let types = core.types.as_slice();
     for i in 0..wanted.len() {
         if !matches_item(store, types, wanted[i].item, given[i]) {
             return false;

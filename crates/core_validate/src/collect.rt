@@ -91,19 +91,19 @@ pub fn imported_globals(alloc: Heap, imports: &[Import]) -> Result<Vec<GlobalTyp
 }
 
 /// The index of each function's type.
-pub fn functions(alloc: Heap, module: &Module) -> Result<Vec<u32>, NoMemory>
-    ensures { IfOk result (λ list. list.items ≡ functions module.now) }
+pub fn functions(alloc: Heap, core: &Module) -> Result<Vec<u32>, NoMemory>
+    ensures { IfOk result (λ list. list.items ≡ functions core.now) }
 {
-    let mut list = imported_functions(alloc, module.imports.as_slice())?;
-    list.extend_from_slice(module.functions.as_slice())?;
+    let mut list = imported_functions(alloc, core.imports.as_slice())?;
+    list.extend_from_slice(core.functions.as_slice())?;
     Ok(list)
 }
 
-pub fn tables(alloc: Heap, module: &Module) -> Result<Vec<TableType>, NoMemory>
-    ensures { IfOk result (λ list. list.items ≡ tables module.now) }
+pub fn tables(alloc: Heap, core: &Module) -> Result<Vec<TableType>, NoMemory>
+    ensures { IfOk result (λ list. list.items ≡ tables core.now) }
 {
-    let mut list = imported_tables(alloc, module.imports.as_slice())?;
-    list.extend_from_slice(module.tables.as_slice())?;
+    let mut list = imported_tables(alloc, core.imports.as_slice())?;
+    list.extend_from_slice(core.tables.as_slice())?;
     Ok(list)
 }
 

@@ -154,11 +154,11 @@ pub fn segments_fault(
     Ok(None)
 }
 
-fn data_fault(alloc: Heap, spaces: &Spaces<'_>, data: &Data) -> Result<Option<u32>, NoMemory>
-    ensures { IfOk result (λ rule. rule ≡ fault (context_at spaces.now) (DataSegment data.now)) }
+fn data_fault(alloc: Heap, spaces: &Spaces<'_>, segment: &Data) -> Result<Option<u32>, NoMemory>
+    ensures { IfOk result (λ rule. rule ≡ fault (context_at spaces.now) (DataSegment segment.now)) }
 {
-    let offset = offset_fault(alloc, spaces, data_offset(data))?;
-    Ok(lesser(memory_there(spaces, memory_of(data)), offset))
+    let offset = offset_fault(alloc, spaces, data_offset(segment))?;
+    Ok(lesser(memory_there(spaces, memory_of(segment)), offset))
 }
 
 pub fn data_faults(
@@ -181,14 +181,14 @@ pub fn data_faults(
 fn body_fault(
     alloc: Heap,
     spaces: &Spaces<'_>,
-    module: &Module,
+    core: &Module,
     place: usize,
     body: &Body,
 ) -> Result<Option<u32>, NoMemory>
-    requires { spaces.now.types.now ≡ module.now.types }
-    ensures { IfOk result (λ rule. rule ≡ fault (context_at spaces.now) (ABody (body_type module.now place) body.now)) }
+    requires { spaces.now.types.now ≡ core.now.types }
+    ensures { IfOk result (λ rule. rule ≡ fault (context_at spaces.now) (ABody (body_type core.now place) body.now)) }
 {
-    let ty = module.functions.as_slice().get(place).copied();
+    let ty = core.functions.as_slice().get(place).copied();
     check_body(alloc, spaces, ty, body)
 }
 
@@ -196,14 +196,14 @@ fn body_fault(
 pub fn bodies_fault(
     alloc: Heap,
     spaces: &Spaces<'_>,
-    module: &Module,
+    core: &Module,
     bodies: &[Body],
 ) -> Result<Option<u32>, NoMemory>
-    requires { spaces.now.types.now ≡ module.now.types }
-    ensures { IfOk result (λ rule. rule ≡ first_fault (context_at spaces.now) (with_earlier (λ before b. ABody (body_type module.now (length before)) b) [] bodies.now)) }
+    requires { spaces.now.types.now ≡ core.now.types }
+    ensures { IfOk result (λ rule. rule ≡ first_fault (context_at spaces.now) (with_earlier (λ before b. ABody (body_type core.now (length before)) b) [] bodies.now)) }
 {
     for (place, body) in bodies.iter().enumerate() {
-        let rule = body_fault(alloc, spaces, module, place, body)?;
+        let rule = body_fault(alloc, spaces, core, place, body)?;
         if rule.is_some() {
             return Ok(rule);
         }

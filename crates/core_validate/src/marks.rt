@@ -99,10 +99,10 @@ fn mark_globals(marks: &mut [bool], globals: &[Global])
 }
 
 /// Marks the functions in the module's exports, element segments and globals.
-pub fn mark_declared(marks: &mut [bool], module: &Module)
-    ensures { marks.new ≡ marked (declared_functions module.now) marks.old }
+pub fn mark_declared(marks: &mut [bool], core: &Module)
+    ensures { marks.new ≡ marked (declared_functions core.now) marks.old }
 {
-    mark_exports(marks, module.exports.as_slice());
-    mark_segments(marks, module.elements.as_slice());
-    mark_globals(marks, module.globals.as_slice());
+    mark_exports(marks, core.exports.as_slice());
+    mark_segments(marks, core.elements.as_slice());
+    mark_globals(marks, core.globals.as_slice());
 }

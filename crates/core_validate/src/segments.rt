@@ -71,10 +71,10 @@ pub fn exprs_of(elements: &Elements) -> &[ConstExpr]
 }
 
 /// The memory that a segment fills.
-pub fn memory_of(data: &Data) -> Option<u32>
-    ensures { result ≡ memory_of data.now }
+pub fn memory_of(segment: &Data) -> Option<u32>
+    ensures { result ≡ memory_of segment.now }
 {
-    match data {
+    match segment {
         Data::Active { .. } => Some(0),
         Data::Passive { .. } => None,
         Data::ActiveAt { memory, .. } => Some(*memory),
@@ -82,10 +82,10 @@ pub fn memory_of(data: &Data) -> Option<u32>
 }
 
 /// Where an active data segment begins.
-pub fn data_offset(data: &Data) -> Option<&ConstExpr>
-    ensures { option_copied result ≡ data_offset data.now }
+pub fn data_offset(segment: &Data) -> Option<&ConstExpr>
+    ensures { option_copied result ≡ data_offset segment.now }
 {
-    match data {
+    match segment {
         Data::Active { offset, .. } | Data::ActiveAt { offset, .. } => Some(offset),
         Data::Passive { .. } => None,
     }

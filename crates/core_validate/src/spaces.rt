@@ -25,50 +25,50 @@ pub struct Found {
     pub refs: Vec<bool>,
 }
 
-fn declared(alloc: Heap, functions: usize, module: &Module) -> Result<Vec<bool>, NoMemory>
-    ensures { IfOk result (λ marks. marks.items ≡ marked (declared_functions module.now) (replicate functions false)) }
+fn declared(alloc: Heap, functions: usize, core: &Module) -> Result<Vec<bool>, NoMemory>
+    ensures { IfOk result (λ marks. marks.items ≡ marked (declared_functions core.now) (replicate functions false)) }
 {
     let mut marks = Vec::from_elem(alloc, false, functions)?;
-    mark_declared(&mut marks, module);
+    mark_declared(&mut marks, core);
     Ok(marks)
 }
 
 /// The index spaces of the module.
-pub fn find(alloc: Heap, module: &Module) -> Result<Found, NoMemory>
-    ensures { IfOk result (IsOf module.now) }
+pub fn find(alloc: Heap, core: &Module) -> Result<Found, NoMemory>
+    ensures { IfOk result (IsOf core.now) }
 {
-    let functions = functions(alloc, module)?;
-    let mut memories = imported_memories(alloc, module.imports.as_slice())?;
+    let functions = functions(alloc, core)?;
+    let mut memories = imported_memories(alloc, core.imports.as_slice())?;
     let imported_memories = memories.len();
-    memories.extend_from_slice(module.memories.as_slice())?;
-    let mut globals = imported_globals(alloc, module.imports.as_slice())?;
+    memories.extend_from_slice(core.memories.as_slice())?;
+    let mut globals = imported_globals(alloc, core.imports.as_slice())?;
     let imported_globals = globals.len();
-    add_globals(&mut globals, module.globals.as_slice())?;
-    let refs = declared(alloc, functions.len(), module)?;
+    add_globals(&mut globals, core.globals.as_slice())?;
+    let refs = declared(alloc, functions.len(), core)?;
     Ok(Found {
         functions,
-        tables: tables(alloc, module)?,
+        tables: tables(alloc, core)?,
         memories,
         imported_memories,
         globals,
         imported_globals,
-        elements: element_types(alloc, module.elements.as_slice())?,
+        elements: element_types(alloc, core.elements.as_slice())?,
         refs,
     })
 }
 
 /// The function types of the module.
-pub fn type_lists<'a>(alloc: Heap, module: &'a Module) -> Result<TypeLists<'a>, NoMemory>
-    ensures { IfOk result (λ lists. lists ≡ module.now.types) }
+pub fn type_lists<'a>(alloc: Heap, core: &'a Module) -> Result<TypeLists<'a>, NoMemory>
+    ensures { IfOk result (λ lists. lists ≡ core.now.types) }
 {
-    TypeLists::new(alloc, module.types.as_slice())
+    TypeLists::new(alloc, core.types.as_slice())
 }
 
 /// The index spaces, as the checks of code want them.
-pub fn lend<'a>(found: &'a Found, types: &'a TypeLists<'a>, module: &'a Module) -> Spaces<'a>
-    requires of { IsOf module.now found.now }
-    requires types { types.now ≡ module.now.types }
-    ensures { context_at result ≡ context module.now }
+pub fn lend<'a>(found: &'a Found, types: &'a TypeLists<'a>, core: &'a Module) -> Spaces<'a>
+    requires of { IsOf core.now found.now }
+    requires types { types.now ≡ core.now.types }
+    ensures { context_at result ≡ context core.now }
 {
     Spaces {
         types,
@@ -78,7 +78,7 @@ pub fn lend<'a>(found: &'a Found, types: &'a TypeLists<'a>, module: &'a Module) 
         globals: found.globals.as_slice(),
         imported_globals: found.imported_globals,
         elements: found.elements.as_slice(),
-        data_count: module.data_count,
+        data_count: core.data_count,
         refs: found.refs.as_slice(),
     }
 }

@@ -22,93 +22,93 @@ fn first_items_fault(
     alloc: Global,
     spaces: &Spaces<'_>,
     imported: usize,
-    module: &Module,
+    core: &Module,
 ) -> Result<Option<u32>, NoMemory>
-    requires { imported ≡ length (imported_memories module.now.imports) }
-    ensures { IfOk result (λ rule. rule ≡ first_fault (context_at spaces.now) (first_items module.now)) }
+    requires { imported ≡ length (imported_memories core.now.imports) }
+    ensures { IfOk result (λ rule. rule ≡ first_fault (context_at spaces.now) (first_items core.now)) }
 {
-    let rule = imports_fault(spaces, module.imports.as_slice());
+    let rule = imports_fault(spaces, core.imports.as_slice());
     if rule.is_some() {
         return Ok(rule);
     }
-    let rule = functions_fault(spaces, module.functions.as_slice());
+    let rule = functions_fault(spaces, core.functions.as_slice());
     if rule.is_some() {
         return Ok(rule);
     }
-    let rule = tables_fault(spaces, module.tables.as_slice());
+    let rule = tables_fault(spaces, core.tables.as_slice());
     if rule.is_some() {
         return Ok(rule);
     }
-    let rule = memories_fault(spaces, imported, module.memories.as_slice());
+    let rule = memories_fault(spaces, imported, core.memories.as_slice());
     if rule.is_some() {
         return Ok(rule);
     }
-    globals_fault(alloc, spaces, module.globals.as_slice())
+    globals_fault(alloc, spaces, core.globals.as_slice())
 }
 
 /// The first fault among exports, the start function, segments and bodies.
 fn later_items_fault(
     alloc: Global,
     spaces: &Spaces<'_>,
-    module: &Module,
+    core: &Module,
 ) -> Result<Option<u32>, NoMemory>
-    requires { spaces.now.types.now ≡ module.now.types }
-    ensures { IfOk result (λ rule. rule ≡ first_fault (context_at spaces.now) (later_items module.now)) }
+    requires { spaces.now.types.now ≡ core.now.types }
+    ensures { IfOk result (λ rule. rule ≡ first_fault (context_at spaces.now) (later_items core.now)) }
 {
-    let rule = exports_fault(alloc, spaces, module.exports.as_slice())?;
+    let rule = exports_fault(alloc, spaces, core.exports.as_slice())?;
     if rule.is_some() {
         return Ok(rule);
     }
-    let rule = start_fault(spaces, module.start);
+    let rule = start_fault(spaces, core.start);
     if rule.is_some() {
         return Ok(rule);
     }
-    let rule = segments_fault(alloc, spaces, module.elements.as_slice())?;
+    let rule = segments_fault(alloc, spaces, core.elements.as_slice())?;
     if rule.is_some() {
         return Ok(rule);
     }
-    let rule = bodies_fault(alloc, spaces, module, module.code.as_slice())?;
+    let rule = bodies_fault(alloc, spaces, core, core.code.as_slice())?;
     if rule.is_some() {
         return Ok(rule);
     }
-    data_faults(alloc, spaces, module.segments.as_slice())
+    data_faults(alloc, spaces, core.segments.as_slice())
 }
 
 fn module_fault(
     alloc: Global,
     spaces: &Spaces<'_>,
     imported: usize,
-    module: &Module,
+    core: &Module,
 ) -> Result<Option<u32>, NoMemory>
-    requires imported { imported ≡ length (imported_memories module.now.imports) }
-    requires types { spaces.now.types.now ≡ module.now.types }
-    ensures { IfOk result (λ rule. rule ≡ first_fault (context_at spaces.now) (items module.now)) }
+    requires imported { imported ≡ length (imported_memories core.now.imports) }
+    requires types { spaces.now.types.now ≡ core.now.types }
+    ensures { IfOk result (λ rule. rule ≡ first_fault (context_at spaces.now) (items core.now)) }
 {
-    let rule = first_items_fault(alloc, spaces, imported, module)?;
+    let rule = first_items_fault(alloc, spaces, imported, core)?;
     if rule.is_some() {
         return Ok(rule);
     }
-    later_items_fault(alloc, spaces, module)
+    later_items_fault(alloc, spaces, core)
 }
 
 /// The type of a module, where each of the sixteen rules holds of each of its items; else the least rule that fails of
 /// the first item of which one fails. Items are asked in this order: imports, the function section, tables, memories,
 /// globals, exports, the start function, element segments, bodies, data segments (WebAssembly Core 2.0, section 3.4).
-pub fn validate(alloc: Global, module: &Module) -> Result<ModuleType, CoreFault>
-    ensures { Answers module.now result }
+pub fn validate(alloc: Global, core: &Module) -> Result<ModuleType, CoreFault>
+    ensures { Answers core.now result }
 {
-    let found = find(alloc, module)?;
-    let types = type_lists(alloc, module)?;
-    let spaces = lend(&found, &types, module);
-    match module_fault(alloc, &spaces, found.imported_memories, module)? {
+    let found = find(alloc, core)?;
+    let types = type_lists(alloc, core)?;
+    let spaces = lend(&found, &types, core);
+    match module_fault(alloc, &spaces, found.imported_memories, core)? {
         Some(rule) => Err(CoreFault::Invalid(rule)),
         None => {
-            let imports = import_types(alloc, &spaces, module.imports.as_slice())?;
+            let imports = import_types(alloc, &spaces, core.imports.as_slice())?;
             let exports = export_types(
                 alloc,
                 &spaces,
                 found.memories.as_slice(),
-                module.exports.as_slice(),
+                core.exports.as_slice(),
             )?;
             Ok(ModuleType {
                 imports: Items::new(imports),

@@ -8,7 +8,7 @@ pub loop-index-preserved : goal.loop-index-preserved
 loop-index-preserved c =
     let i = c.loop-index.index in
     let s = c.args.store.now in
-    let m = c.args.«module».now in
+    let m = c.args.core.now in
     let less = subst (λ (l : List Body). i < length l) c.as_slice-body-items.ensures c.loop-index-test.true in
     let item = subst (λ (l : List Body). c.body-item.result ≡ get_or l i c.body-item.result) c.as_slice-body-items.ensures c.body-item.is in
     let count = functions_length m c.args.instance i s.functions _ less (ap (λ s. s.functions) c.loop-index.invariant.0) in (

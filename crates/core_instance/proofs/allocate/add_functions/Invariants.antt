@@ -5,5 +5,5 @@ use Rattle.core_instance.proofs.allocate.add_functions.Given as goal
 
 abbrev pub invariant-loop-index : goal.invariant-loop-index
 invariant-loop-index l =
-    (l.store ≡ record l.fn.store { functions = l.fn.store.functions ++ functions_from l.«module» l.instance 0 (take l.index l.«module».code) })
+    (l.store ≡ record l.fn.store { functions = l.fn.store.functions ++ functions_from l.core l.instance 0 (take l.index l.core.code) })
     × (l.places ≡ l.fn.places ++ range_with_len (length l.fn.store.functions) l.index)

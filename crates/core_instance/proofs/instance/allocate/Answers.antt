@@ -29,7 +29,7 @@ imported_values-requires c =
 pub add_globals-requires : goal.add_globals-requires
 add_globals-requires c =
     let s = c.args.store.now in
-    let m = c.args.«module».now in
+    let m = c.args.core.now in
     let imported = ap (λ (v : CoreSpaces). v.functions) c.in_ok-places.ensures ∙ ap (λ (is : List Extern). flat_map functions_of is) c.as_slice.ensures in
     let places = c.in_ok-functions.ensures ∙ (c.in_ok-add_functions.ensures.places ∙ ap (λ (xs : List ℕ). xs ++ range_with_len (length s.functions) (length m.code)) imported) in
     let same = ap (λ (t : State). length t.functions) c.in_ok-add_memories.ensures.store ∙ ap (λ (t : State). length t.functions) c.in_ok-add_tables.ensures.store in
@@ -39,7 +39,7 @@ add_globals-requires c =
 pub add_references-requires : goal.add_references-requires
 add_references-requires c =
     let s = c.args.store.now in
-    let m = c.args.«module».now in
+    let m = c.args.core.now in
     let imported = ap (λ (v : CoreSpaces). v.functions) c.in_ok-places.ensures ∙ ap (λ (is : List Extern). flat_map functions_of is) c.as_slice.ensures in
     let places = c.in_ok-functions.ensures ∙ (c.in_ok-add_functions.ensures.places ∙ ap (λ (xs : List ℕ). xs ++ range_with_len (length s.functions) (length m.code)) imported) in
     let low = ap (λ (t : State). length t.functions) c.in_ok-add_memories.ensures.store ∙ ap (λ (t : State). length t.functions) c.in_ok-add_tables.ensures.store in
@@ -50,7 +50,7 @@ add_references-requires c =
 pub returns-clause-names : goal.returns-clause-names
 returns-clause-names c =
     let s = c.args.store.now in
-    let m = c.args.«module».now in
+    let m = c.args.core.now in
     let is = c.as_slice-2.ensures ∙ (ap (λ (v : CoreSpaces). v.globals) c.in_ok-places.ensures ∙ ap (λ (is : List Extern). flat_map globals_of is) c.as_slice.ensures) in
     let values = c.in_ok-globals.ensures.value ∙ ap (λ (ats : List ℕ). map (λ at. slice_index_or s.globals at (I32 0)) ats) is in
     let imported = ap (λ (v : CoreSpaces). v.functions) c.in_ok-places.ensures ∙ ap (λ (is : List Extern). flat_map functions_of is) c.as_slice.ensures in
@@ -60,7 +60,7 @@ returns-clause-names c =
 pub returns-clause-store : goal.returns-clause-store
 returns-clause-store c =
     let s = c.args.store.now in
-    let m = c.args.«module».now in
+    let m = c.args.core.now in
     let hf = c.in_ok-add_functions.ensures.store in
     let ht = c.in_ok-add_tables.ensures.store in
     let hm = c.in_ok-add_memories.ensures.store in

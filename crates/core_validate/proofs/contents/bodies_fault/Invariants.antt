@@ -8,5 +8,5 @@ use Rattle.core_validate.proofs.contents.bodies_fault.Given as goal
 
 abbrev pub invariant-loop-place : goal.invariant-loop-place
 invariant-loop-place l =
-    first_fault (context_at l.spaces) (rest (context_at l.spaces) (λ before b. ABody (body_type l.«module» (length before)) b) l.bodies l.place)
-    ≡ first_fault (context_at l.spaces) (with_earlier (λ before b. ABody (body_type l.«module» (length before)) b) [] l.bodies)
+    first_fault (context_at l.spaces) (rest (context_at l.spaces) (λ before b. ABody (body_type l.core (length before)) b) l.bodies l.place)
+    ≡ first_fault (context_at l.spaces) (with_earlier (λ before b. ABody (body_type l.core (length before)) b) [] l.bodies)

@@ -8,7 +8,7 @@ use Rattle.core_validate.proofs.marks.mark_declared.Goals as goal
 
 pub returns : goal.returns
 returns c =
-    let m = c.args.module.now in
+    let m = c.args.core.now in
     let old = c.args.marks.now in
     let exports = gather (λ (e : Export). exported_functions e.item) m.exports in
     let segments = gather element_functions m.elements in

@@ -12,7 +12,7 @@ use Rattle.core_validate.proofs.whole.first_items_fault.Goals as goal
 pub returns-then-is_some : goal.returns-then-is_some
 returns-then-is_some c =
     let d = context_at c.args.spaces.now in
-    let m = c.args.module.now in
+    let m = c.args.core.now in
     let a_is : c.imports_fault-rule.result ≡ first_fault d (import_items m.imports) = c.imports_fault-rule.ensures ∙ ap (λ l. first_fault d (import_items l)) c.as_slice.ensures in
     let a_some : is_some c.imports_fault-rule.result ≡ true = sym c.if-is_some.ensures in
     stops d (import_items m.imports) (functions_on m) c.imports_fault-rule.result a_is a_some
@@ -20,7 +20,7 @@ returns-then-is_some c =
 pub returns-then-is_some-2 : goal.returns-then-is_some-2
 returns-then-is_some-2 c =
     let d = context_at c.args.spaces.now in
-    let m = c.args.module.now in
+    let m = c.args.core.now in
     let a_is : c.imports_fault-rule.result ≡ first_fault d (import_items m.imports) = c.imports_fault-rule.ensures ∙ ap (λ l. first_fault d (import_items l)) c.as_slice.ensures in
     let a_some : is_some c.imports_fault-rule.result ≡ false = sym c.if-is_some.ensures in
     let b_is : c.functions_fault-rule.result ≡ first_fault d (plain_items AFunction m.functions) = c.functions_fault-rule.ensures ∙ ap (λ l. first_fault d (plain_items AFunction l)) c.as_slice-2.ensures in
@@ -30,7 +30,7 @@ returns-then-is_some-2 c =
 pub returns-then-is_some-3 : goal.returns-then-is_some-3
 returns-then-is_some-3 c =
     let d = context_at c.args.spaces.now in
-    let m = c.args.module.now in
+    let m = c.args.core.now in
     let a_is : c.imports_fault-rule.result ≡ first_fault d (import_items m.imports) = c.imports_fault-rule.ensures ∙ ap (λ l. first_fault d (import_items l)) c.as_slice.ensures in
     let a_some : is_some c.imports_fault-rule.result ≡ false = sym c.if-is_some.ensures in
     let b_is : c.functions_fault-rule.result ≡ first_fault d (plain_items AFunction m.functions) = c.functions_fault-rule.ensures ∙ ap (λ l. first_fault d (plain_items AFunction l)) c.as_slice-2.ensures in
@@ -42,7 +42,7 @@ returns-then-is_some-3 c =
 pub returns-then-is_some-4 : goal.returns-then-is_some-4
 returns-then-is_some-4 c =
     let d = context_at c.args.spaces.now in
-    let m = c.args.module.now in
+    let m = c.args.core.now in
     let a_is : c.imports_fault-rule.result ≡ first_fault d (import_items m.imports) = c.imports_fault-rule.ensures ∙ ap (λ l. first_fault d (import_items l)) c.as_slice.ensures in
     let a_some : is_some c.imports_fault-rule.result ≡ false = sym c.if-is_some.ensures in
     let b_is : c.functions_fault-rule.result ≡ first_fault d (plain_items AFunction m.functions) = c.functions_fault-rule.ensures ∙ ap (λ l. first_fault d (plain_items AFunction l)) c.as_slice-2.ensures in
@@ -56,7 +56,7 @@ returns-then-is_some-4 c =
 pub returns : goal.returns
 returns c =
     let d = context_at c.args.spaces.now in
-    let m = c.args.module.now in
+    let m = c.args.core.now in
     let a_is : c.imports_fault-rule.result ≡ first_fault d (import_items m.imports) = c.imports_fault-rule.ensures ∙ ap (λ l. first_fault d (import_items l)) c.as_slice.ensures in
     let a_some : is_some c.imports_fault-rule.result ≡ false = sym c.if-is_some.ensures in
     let b_is : c.functions_fault-rule.result ≡ first_fault d (plain_items AFunction m.functions) = c.functions_fault-rule.ensures ∙ ap (λ l. first_fault d (plain_items AFunction l)) c.as_slice-2.ensures in

@@ -11,12 +11,12 @@ use Rattle.core_validate.proofs.whole.validate.Goals as goal
 
 pub returns-in-Some : goal.returns-in-Some
 returns-in-Some c =
-    let m = c.args.module.now in
+    let m = c.args.core.now in
     breaks-from_some m c.in-Some.rule (sym c.in-Some.is ∙ c.in_ok-rule.ensures ∙ ap (λ (x : Context). first_fault x (items m)) c.lend-spaces.ensures)
 
 pub returns : goal.returns
 returns c =
-    let m = c.args.module.now in
+    let m = c.args.core.now in
     let lent = c.lend-spaces.ensures in
     let imports : c.new.result ≡ map (core_import (context m)) m.imports =
     c.new.ensures ∙ c.in_ok-imports-in-None.ensures ∙ ap (λ (x : Context). map (core_import x) c.as_slice.result.now) lent
