@@ -6,6 +6,7 @@ use Rattle.wit_types.specs.Limits.{depth, greatest_depth, parts, all_parts}
 use Rattle.abi_layout.specs.Flat.{types_of, within}
 use Rattle.comp_facts.specs.Handles.{has_borrow, has_borrow_in, has_handle, has_handle_in}
 use Rattle.comp_facts.specs.Needs.{is_pointed, is_pointed_in}
+use Rattle.comp_facts.specs.Keys.{key_of, key_of_parts}
 use Rattle.comp_facts.specs.declared.facts.Facts.{Facts}
 use Rattle.comp_facts.specs.declared.funcs.FuncFacts.{FuncFacts}
 use Rattle.comp_facts.specs.declared.parts.PartFacts.{PartFacts}
@@ -18,6 +19,7 @@ pub record IsFactsOf (ty : Plain) (f : Facts) : Type 0 where
   pub handles : f.handles ≡ has_handle ty
   pub pointed : f.pointed ≡ is_pointed ty
   pub flat : types_of f.flat ≡ within (flat ty)
+  pub key : f.key ≡ key_of ty
 
 -- of the fields of a record, or of the cases of a variant
 pub record AreFactsOf (ps : Parts) (f : PartFacts) : Type 0 where
@@ -28,6 +30,7 @@ pub record AreFactsOf (ps : Parts) (f : PartFacts) : Type 0 where
   pub pointed : f.pointed ≡ is_pointed_in ps
   pub fields : types_of f.fields ≡ within (flat_fields ps)
   pub cases : types_of f.cases ≡ within (flat_cases ps)
+  pub key : f.key ≡ key_of_parts ps
 
 -- one part more
 abbrev pub and_part : Parts → Name → Plain → Parts

@@ -1,7 +1,8 @@
 ghost use Rattle.std.specs.Prelude.{◌≡◌, ◌≤◌, ◌||◌};
-ghost use Rattle.wit_types.specs.Plain.{Plain, Parts, Name, End};
+ghost use Rattle.wit_types.specs.Plain.{Plain, Parts, End};
 
 use crate::facts::Facts;
+use crate::keys::{and_name, and_number};
 use abi_layout::{Flat, joined};
 
 /// What is kept of the fields of a record, or of the cases of a variant.
@@ -19,6 +20,8 @@ pub struct PartFacts {
     pub fields: Flat,
     /// The flat types of the payloads, joined.
     pub cases: Flat,
+    /// The same for equal parts, and seldom the same for others.
+    pub key: u64,
     pub ghost shallow: { depth ≤ 101 },
     pub ghost few: { parts ≤ 1000001 },
 }
@@ -44,13 +47,13 @@ impl PartFacts {
             pointed: false,
             fields: Flat::empty(),
             cases: Flat::empty(),
+            key: 0,
         }
     }
 
-    /// One part more; a case without a payload adds nothing.
-    pub fn add(&mut self, ty: &Facts)
-        ensures part { (ps : Parts) → (name : Name) → (t : Plain) → AreFactsOf ps self.old → IsFactsOf t ty.now → AreFactsOf (and_part ps name t) self.new }
-        ensures bare { (ps : Parts) → (name : Name) → AreFactsOf ps self.old → AreFactsOf (and_bare ps name) self.old }
+    /// One part more, of this name.
+    pub fn add(&mut self, name: &[u8], ty: &Facts)
+        ensures { (ps : Parts) → (t : Plain) → AreFactsOf ps self.old → IsFactsOf t ty.now → AreFactsOf (and_part ps name.now t) self.new }
     {
         let mut fields = self.fields;
         fields.append(&ty.flat);
@@ -62,6 +65,14 @@ impl PartFacts {
             pointed: either(self.pointed, ty.pointed),
             fields,
             cases: joined(&self.cases, &ty.flat),
+            key: and_number(and_name(self.key, name), ty.key),
         };
+    }
+
+    /// One case more without a payload, of this name.
+    pub fn add_bare(&mut self, name: &[u8])
+        ensures { (ps : Parts) → AreFactsOf ps self.old → AreFactsOf (and_bare ps name.now) self.new }
+    {
+        self.key = and_number(and_name(self.key, name), 0);
     }
 }
