@@ -10,7 +10,7 @@ use comp_scopes::Scope;
 use comp_types::{KnownFunc, TypeItem};
 use std::alloc::Global;
 use std::rc::Rc;
-use virt_base::NoMemory;
+use virt_base::{Items, NoMemory};
 use wit_types::{Fields, FuncType};
 
 /// What is kept of a function without parameters and results.
@@ -55,7 +55,10 @@ pub fn no_func(alloc: Global) -> Result<Rc<KnownFunc>, NoMemory>
         params,
         result: None,
     };
-    match Rc::new(alloc, KnownFunc::new(ty, facts_of_none())) {
+    match Rc::new(
+        alloc,
+        KnownFunc::new(ty, facts_of_none(), Items::empty(alloc)),
+    ) {
         Ok(known) => Ok(known),
         Err(_) => Err(NoMemory),
     }

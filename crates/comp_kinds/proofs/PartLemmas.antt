@@ -1,13 +1,10 @@
 -- Parts in order: those that were made, and those that are still to come.
-use Rattle.std.proofs.Common.{◌≡◌, ◌∙◌, ap, refl, sym, List, [], ◌∷◌, ◌++◌, Option, Some, None, min, length, arith}
+use Rattle.std.proofs.Common.{◌≡◌, ◌∙◌, ap, refl, sym, List, [], ◌∷◌, ◌++◌, Option, Some, None, length, arith}
 use Rattle.wit_types.specs.declared.types.Field.{Field, out-Field}
 use Rattle.wit_types.specs.declared.types.Case.{Case, out-Case}
 use Rattle.wit_types.specs.declared.types.WitType.{WitType}
 use Rattle.wit_types.specs.Plain.{Name, Plain, Parts, End, More, Bare, plain, fields_of, types_of, cases_of, case_part, payload_of, bare}
-use Rattle.comp_facts.specs.Facts.{AreFactsOf, and_part, and_bare}
-use Rattle.comp_facts.specs.declared.parts.PartFacts.{PartFacts}
-use Rattle.comp_facts.proofs.PartLemmas.{depth-bare, parts-bare, borrows-bare, handles-bare, pointed-bare, fields-bare, cases-bare}
-use Rattle.abi_layout.specs.Flat.{within}
+use Rattle.comp_facts.specs.Facts.{and_part, and_bare}
 use Rattle.comp_kinds.specs.Parts.{and_case}
 
 -- the one behind the other
@@ -61,24 +58,9 @@ cases-and (x ∷ xs) c =
     ap (case_part (out-Case x).name (payload_of (out-Case x).ty)) (cases-and xs c)
     ∙ sym (case-behind (out-Case x).name (payload_of (out-Case x).ty) (cases_of xs) (out-Case c).name (payload_of (out-Case c).ty))
 
--- ---- what is kept of cases without payloads
-
-pub bare-kept : (ps : Parts) (n : Name) (f : PartFacts) → AreFactsOf ps f → AreFactsOf (and_bare ps n) f
-bare-kept ps n f h = record {
-  depth = h.depth ∙ ap (λ k. min k 101) (sym (depth-bare ps n));
-  parts = h.parts ∙ ap (λ k. min k 1000001) (sym (parts-bare ps n));
-  borrows = h.borrows ∙ sym (borrows-bare ps n);
-  handles = h.handles ∙ sym (handles-bare ps n);
-  pointed = h.pointed ∙ sym (pointed-bare ps n);
-  fields = h.fields ∙ ap within (sym (fields-bare ps n));
-  cases = h.cases ∙ ap within (sym (cases-bare ps n));
-}
-
-pub all-bare : (labels : List Name) (f : PartFacts) → AreFactsOf End f → AreFactsOf (bare labels) f
-all-bare [] f h = h
-all-bare (n ∷ labels) f h =
-    let k = all-bare labels f h in
-    record { depth = k.depth; parts = k.parts; borrows = k.borrows; handles = k.handles; pointed = k.pointed; fields = k.fields; cases = k.cases }
+pub bare-and : (labels : List Name) (n : Name) → and_bare (bare labels) n ≡ bare (labels ++ n ∷ [])
+bare-and [] n = refl
+bare-and (l ∷ labels) n = ap (Bare l) (bare-and labels n)
 
 pub result-cases : (ok err : Option Plain) → and_case (and_case End [] ok) [] err ≡ case_part [] ok (case_part [] err End)
 result-cases None None = refl

@@ -9,12 +9,14 @@ ghost use Rattle.comp_types.specs.Views.{kind_of};
 ghost use Rattle.wit_types.specs.Plain.{AsEnum, AsRecord, AsTuple, AsVariant, BorrowType, FlagsType, ListType, OwnType, RecordType, VariantType, bare};
 
 use crate::labels::copy_labels;
-use crate::parts::{add_payload, cases_at, fields_at, shared_payload, shared_type, types_at};
-use crate::values::{primitive_of, some_value_at, value_at};
-use comp_facts::{Facts, FuncFacts, PartFacts};
+use crate::parts::{
+    add_payload, bare_parts, cases_at, fields_at, shared_payload, shared_type, types_at,
+};
+use crate::values::{primitive_of, shared, some_value_at, value_at};
+use comp_facts::{Facts, FuncFacts, RecordForm, VariantForm};
 use comp_scopes::Scope;
 use comp_types::{
-    DeclaredInstance, InstanceEntries, InstanceType, KnownFunc, KnownValue, TypeItem,
+    DeclaredInstance, InstanceEntries, InstanceType, KnownFunc, KnownParts, KnownValue, TypeItem,
 };
 use std::alloc::Global;
 use std::rc::Rc;
@@ -22,37 +24,31 @@ use virt_base::{Items, NoMemory, Text};
 use wasm_ast::{CaseType, LabelType, Primitive, TypeDef, ValType};
 use wit_types::{Cases, Fields, FuncType, Types, WitType, copy_type};
 
-fn shared<T: Drop>(alloc: Global, value: T) -> Result<Rc<T>, NoMemory>
-    ensures { IfOk result (λ kept. kept.value ≡ value) }
-{
-    match Rc::new(alloc, value) {
-        Ok(kept) => Ok(kept),
-        Err(_) => Err(NoMemory),
-    }
-}
-
 fn record_at(alloc: Global, scope: &Scope, labels: &[LabelType]) -> Result<KnownValue, NoMemory>
     ensures { IfOk result (λ value. (s : Space) → Stands s scope.now → value ≡ RecordType AsRecord (fields_of s labels.now)) }
 {
-    let (items, facts) = fields_at(alloc, scope, labels)?;
+    let (items, known) = fields_at(alloc, scope, labels)?;
     let ty = WitType::Record(shared(alloc, Fields { items })?);
-    Ok(KnownValue::new(ty, Facts::record(&facts)))
+    let facts = Facts::record(RecordForm::Record, &known.facts);
+    Ok(KnownValue::new(ty, facts, known.keys))
 }
 
 fn variant_at(alloc: Global, scope: &Scope, labels: &[CaseType]) -> Result<KnownValue, NoMemory>
     ensures { IfOk result (λ value. (s : Space) → Stands s scope.now → value ≡ VariantType AsVariant (cases_of s labels.now)) }
 {
-    let (items, facts) = cases_at(alloc, scope, labels)?;
+    let (items, known) = cases_at(alloc, scope, labels)?;
     let ty = WitType::Variant(shared(alloc, Cases { items })?);
-    Ok(KnownValue::new(ty, Facts::variant(&facts)))
+    let facts = Facts::variant(VariantForm::Variant, &known.facts);
+    Ok(KnownValue::new(ty, facts, known.keys))
 }
 
 fn tuple_at(alloc: Global, scope: &Scope, values: &[ValType]) -> Result<KnownValue, NoMemory>
     ensures { IfOk result (λ value. (s : Space) → Stands s scope.now → value ≡ RecordType AsTuple (unnamed (map (value_of s) values.now))) }
 {
-    let (items, facts) = types_at(alloc, scope, values)?;
+    let (items, known) = types_at(alloc, scope, values)?;
     let ty = WitType::Tuple(shared(alloc, Types { items })?);
-    Ok(KnownValue::new(ty, Facts::record(&facts)))
+    let facts = Facts::record(RecordForm::Tuple, &known.facts);
+    Ok(KnownValue::new(ty, facts, known.keys))
 }
 
 fn list_at(alloc: Global, scope: &Scope, item: ValType) -> Result<KnownValue, NoMemory>
@@ -60,7 +56,10 @@ fn list_at(alloc: Global, scope: &Scope, item: ValType) -> Result<KnownValue, No
 {
     let item = value_at(alloc, scope, item)?;
     let ty = WitType::List(shared_type(alloc, &item)?);
-    Ok(KnownValue::new(ty, Facts::list(item.facts())))
+    let facts = item.facts();
+    let mut keys = Items::empty(alloc);
+    keys.push(facts.key)?;
+    Ok(KnownValue::new(ty, Facts::list(facts), keys))
 }
 
 fn option_at(alloc: Global, scope: &Scope, item: ValType) -> Result<KnownValue, NoMemory>
@@ -68,9 +67,11 @@ fn option_at(alloc: Global, scope: &Scope, item: ValType) -> Result<KnownValue, 
 {
     let item = value_at(alloc, scope, item)?;
     let ty = WitType::Option(shared_type(alloc, &item)?);
-    let mut facts = PartFacts::none();
-    facts.add(item.facts());
-    Ok(KnownValue::new(ty, Facts::variant(&facts)))
+    let mut known = KnownParts::none(alloc);
+    known.add_bare(b"");
+    known.add(b"", &item)?;
+    let facts = Facts::variant(VariantForm::Option, &known.facts);
+    Ok(KnownValue::new(ty, facts, known.keys))
 }
 
 fn result_at(
@@ -84,63 +85,72 @@ fn result_at(
     let ok = some_value_at(alloc, scope, ok)?;
     let err = some_value_at(alloc, scope, err)?;
     let ty = WitType::Result(shared_payload(alloc, &ok)?, shared_payload(alloc, &err)?);
-    let mut facts = PartFacts::none();
-    add_payload(&mut facts, &ok);
-    add_payload(&mut facts, &err);
-    Ok(KnownValue::new(ty, Facts::variant(&facts)))
+    let mut known = KnownParts::none(alloc);
+    add_payload(&mut known, b"", &ok)?;
+    add_payload(&mut known, b"", &err)?;
+    let facts = Facts::variant(VariantForm::Result, &known.facts);
+    Ok(KnownValue::new(ty, facts, known.keys))
 }
 
 fn flags_of(alloc: Global, labels: &[Text]) -> Result<KnownValue, NoMemory>
     ensures { IfOk result (λ value. value ≡ FlagsType labels.now) }
 {
     let ty = WitType::Flags(shared(alloc, copy_labels(alloc, labels)?)?);
-    Ok(KnownValue::new(ty, Facts::flags()))
+    Ok(KnownValue::new(ty, Facts::flags(labels), Items::empty(alloc)))
 }
 
 fn enum_of(alloc: Global, labels: &[Text]) -> Result<KnownValue, NoMemory>
     ensures { IfOk result (λ value. value ≡ VariantType AsEnum (bare labels.now)) }
 {
     let ty = WitType::Enum(shared(alloc, copy_labels(alloc, labels)?)?);
-    Ok(KnownValue::new(ty, Facts::variant(&PartFacts::none())))
+    let known = bare_parts(alloc, labels);
+    let facts = Facts::variant(VariantForm::Enum, &known.facts);
+    Ok(KnownValue::new(ty, facts, known.keys))
 }
 
-fn own_of(kind: &TypeItem) -> KnownValue
+fn own_of(alloc: Global, kind: &TypeItem) -> KnownValue
     ensures { result ≡ handle_of OwnType (resource_in (Some (kind_of kind.now))) }
 {
     match kind {
-        TypeItem::Resource(number) => KnownValue::new(WitType::Own(*number), Facts::own()),
-        TypeItem::Value(_) => primitive_of(Primitive::Bool),
-        TypeItem::Func(_) => primitive_of(Primitive::Bool),
-        TypeItem::Instance(_) => primitive_of(Primitive::Bool),
+        TypeItem::Resource(number) => {
+            let facts = Facts::own(*number);
+            KnownValue::new(WitType::Own(*number), facts, Items::empty(alloc))
+        }
+        TypeItem::Value(_) => primitive_of(alloc, Primitive::Bool),
+        TypeItem::Func(_) => primitive_of(alloc, Primitive::Bool),
+        TypeItem::Instance(_) => primitive_of(alloc, Primitive::Bool),
     }
 }
 
-fn own_at(scope: &Scope, index: u32) -> KnownValue
+fn own_at(alloc: Global, scope: &Scope, index: u32) -> KnownValue
     ensures { (s : Space) → Stands s scope.now → result ≡ handle_of OwnType (resource_in (kind_at s index)) }
 {
     match scope.kind_at(index) {
-        None => primitive_of(Primitive::Bool),
-        Some(kind) => own_of(kind),
+        None => primitive_of(alloc, Primitive::Bool),
+        Some(kind) => own_of(alloc, kind),
     }
 }
 
-fn borrow_of(kind: &TypeItem) -> KnownValue
+fn borrow_of(alloc: Global, kind: &TypeItem) -> KnownValue
     ensures { result ≡ handle_of BorrowType (resource_in (Some (kind_of kind.now))) }
 {
     match kind {
-        TypeItem::Resource(number) => KnownValue::new(WitType::Borrow(*number), Facts::borrow()),
-        TypeItem::Value(_) => primitive_of(Primitive::Bool),
-        TypeItem::Func(_) => primitive_of(Primitive::Bool),
-        TypeItem::Instance(_) => primitive_of(Primitive::Bool),
+        TypeItem::Resource(number) => {
+            let facts = Facts::borrow(*number);
+            KnownValue::new(WitType::Borrow(*number), facts, Items::empty(alloc))
+        }
+        TypeItem::Value(_) => primitive_of(alloc, Primitive::Bool),
+        TypeItem::Func(_) => primitive_of(alloc, Primitive::Bool),
+        TypeItem::Instance(_) => primitive_of(alloc, Primitive::Bool),
     }
 }
 
-fn borrow_at(scope: &Scope, index: u32) -> KnownValue
+fn borrow_at(alloc: Global, scope: &Scope, index: u32) -> KnownValue
     ensures { (s : Space) → Stands s scope.now → result ≡ handle_of BorrowType (resource_in (kind_at s index)) }
 {
     match scope.kind_at(index) {
-        None => primitive_of(Primitive::Bool),
-        Some(kind) => borrow_of(kind),
+        None => primitive_of(alloc, Primitive::Bool),
+        Some(kind) => borrow_of(alloc, kind),
     }
 }
 
@@ -152,7 +162,7 @@ fn func_at(
 ) -> Result<KnownFunc, NoMemory>
     ensures { IfOk result (λ func. (s : Space) → Stands s scope.now → func ≡ func_of s params.now answer) }
 {
-    let (items, facts) = fields_at(alloc, scope, params)?;
+    let (items, known) = fields_at(alloc, scope, params)?;
     match some_value_at(alloc, scope, answer)? {
         None => {
             let ty = FuncType {
@@ -160,10 +170,10 @@ fn func_at(
                 result: None,
             };
             let facts = FuncFacts {
-                params: facts,
+                params: known.facts,
                 answer: None,
             };
-            Ok(KnownFunc::new(ty, facts))
+            Ok(KnownFunc::new(ty, facts, known.keys))
         }
         Some(value) => {
             let ty = FuncType {
@@ -171,10 +181,10 @@ fn func_at(
                 result: Some(copy_type(alloc, value.ty())?),
             };
             let facts = FuncFacts {
-                params: facts,
+                params: known.facts,
                 answer: Some(*value.facts()),
             };
-            Ok(KnownFunc::new(ty, facts))
+            Ok(KnownFunc::new(ty, facts, known.keys))
         }
     }
 }
@@ -199,7 +209,7 @@ pub fn kind_of(alloc: Global, scope: &Scope, def: &TypeDef) -> Result<TypeItem, 
     ensures { IfOk result (λ kind. (s : Space) → Stands s scope.now → kind_of kind ≡ kind_due s def.now) }
 {
     match def {
-        TypeDef::Primitive(primitive) => value_kind(alloc, primitive_of(*primitive)),
+        TypeDef::Primitive(primitive) => value_kind(alloc, primitive_of(alloc, *primitive)),
         TypeDef::Record { fields } => {
             value_kind(alloc, record_at(alloc, scope, fields.as_slice())?)
         }
@@ -215,8 +225,8 @@ pub fn kind_of(alloc: Global, scope: &Scope, def: &TypeDef) -> Result<TypeItem, 
             alloc,
             result_at(alloc, scope, ok.get(), err.get())?,
         ),
-        TypeDef::Own(index) => value_kind(alloc, own_at(scope, *index)),
-        TypeDef::Borrow(index) => value_kind(alloc, borrow_at(scope, *index)),
+        TypeDef::Own(index) => value_kind(alloc, own_at(alloc, scope, *index)),
+        TypeDef::Borrow(index) => value_kind(alloc, borrow_at(alloc, scope, *index)),
         TypeDef::Func { params, result } => {
             let func = func_at(alloc, scope, params.as_slice(), result.get())?;
             Ok(TypeItem::Func(shared(alloc, func)?))

@@ -1,15 +1,15 @@
 ghost use Rattle.std.specs.Prelude.{◌≡◌, [], IfOk, OnOk, map, option_map};
-ghost use Rattle.comp_facts.specs.Facts.{AreFactsOf, and_part};
-ghost use Rattle.comp_kinds.specs.Parts.{and_case};
+ghost use Rattle.comp_facts.specs.Facts.{and_part};
+ghost use Rattle.comp_kinds.specs.Parts.{and_case, known_of};
+ghost use Rattle.comp_types.specs.Known.{AreKnownOf};
 ghost use Rattle.comp_types.specs.Spaces.{Space};
 ghost use Rattle.comp_types.specs.Types.{cases_of as cases_due, fields_of as fields_due, unnamed, value_of};
 ghost use Rattle.comp_scopes.specs.Stands.{Stands};
-ghost use Rattle.wit_types.specs.Plain.{Name, Parts, cases_of, fields_of, payload_of, plain, types_of};
+ghost use Rattle.wit_types.specs.Plain.{Parts, bare, cases_of, fields_of, payload_of, plain, types_of};
 
-use crate::values::{some_value_at, value_at};
-use comp_facts::PartFacts;
+use crate::values::{shared, some_value_at, value_at};
 use comp_scopes::Scope;
-use comp_types::KnownValue;
+use comp_types::{KnownParts, KnownValue};
 use std::alloc::Global;
 use std::rc::Rc;
 use virt_base::{NoMemory, Text};
@@ -37,13 +37,13 @@ fn add_field(
     scope: &Scope,
     label: &LabelType,
     fields: &mut Vec<Field>,
-    facts: &mut PartFacts,
+    known: &mut KnownParts,
 ) -> Result<(), NoMemory>
     ensures fields { OnOk result ((s : Space) → Stands s scope.now → fields_of fields.new.items ≡ and_part (fields_of fields.old.items) label.now.label (value_of s label.now.ty)) }
-    ensures facts { OnOk result (AreFactsOf (fields_of fields.old.items) facts.old → AreFactsOf (fields_of fields.new.items) facts.new) }
+    ensures kept { OnOk result (AreKnownOf (fields_of fields.old.items) known.old → AreKnownOf (fields_of fields.new.items) known.new) }
 {
     let value = value_at(alloc, scope, label.ty)?;
-    facts.add(value.facts());
+    known.add(label.label.bytes(), &value)?;
     push_field(alloc, fields, &label.label, &value)
 }
 
@@ -52,18 +52,18 @@ pub fn fields_at(
     alloc: Global,
     scope: &Scope,
     labels: &[LabelType],
-) -> Result<(Vec<Field>, PartFacts), NoMemory>
+) -> Result<(Vec<Field>, KnownParts), NoMemory>
     ensures fields { IfOk result (λ made. (s : Space) → Stands s scope.now → fields_of made.0.items ≡ fields_due s labels.now) }
-    ensures facts { IfOk result (λ made. AreFactsOf (fields_of made.0.items) made.1) }
+    ensures kept { IfOk result (λ made. AreKnownOf (fields_of made.0.items) made.1) }
 {
     let mut fields = Vec::new(alloc);
-    let mut facts = PartFacts::none();
+    let mut known = KnownParts::none(alloc);
     let mut rest = labels;
     while let Some((label, more)) = rest.split_first() {
-        add_field(alloc, scope, label, &mut fields, &mut facts)?;
+        add_field(alloc, scope, label, &mut fields, &mut known)?;
         rest = more;
     }
-    Ok((fields, facts))
+    Ok((fields, known))
 }
 
 /// Adds a type of a tuple.
@@ -81,14 +81,14 @@ fn add_type(
     scope: &Scope,
     value: ValType,
     types: &mut Vec<WitType>,
-    facts: &mut PartFacts,
+    known: &mut KnownParts,
 ) -> Result<(), NoMemory>
     ensures types { OnOk result ((s : Space) → Stands s scope.now → types_of types.new.items ≡ and_part (types_of types.old.items) [] (value_of s value)) }
-    ensures facts { OnOk result (AreFactsOf (types_of types.old.items) facts.old → AreFactsOf (types_of types.new.items) facts.new) }
+    ensures kept { OnOk result (AreKnownOf (types_of types.old.items) known.old → AreKnownOf (types_of types.new.items) known.new) }
 {
-    let known = value_at(alloc, scope, value)?;
-    facts.add(known.facts());
-    push_type(alloc, types, &known)
+    let value = value_at(alloc, scope, value)?;
+    known.add(b"", &value)?;
+    push_type(alloc, types, &value)
 }
 
 /// The types of a tuple.
@@ -96,36 +96,33 @@ pub fn types_at(
     alloc: Global,
     scope: &Scope,
     values: &[ValType],
-) -> Result<(Vec<WitType>, PartFacts), NoMemory>
+) -> Result<(Vec<WitType>, KnownParts), NoMemory>
     ensures types { IfOk result (λ made. (s : Space) → Stands s scope.now → types_of made.0.items ≡ unnamed (map (value_of s) values.now)) }
-    ensures facts { IfOk result (λ made. AreFactsOf (types_of made.0.items) made.1) }
+    ensures kept { IfOk result (λ made. AreKnownOf (types_of made.0.items) made.1) }
 {
     let mut types = Vec::new(alloc);
-    let mut facts = PartFacts::none();
+    let mut known = KnownParts::none(alloc);
     let mut rest = values;
     while let Some((value, more)) = rest.split_first() {
-        add_type(alloc, scope, *value, &mut types, &mut facts)?;
+        add_type(alloc, scope, *value, &mut types, &mut known)?;
         rest = more;
     }
-    Ok((types, facts))
+    Ok((types, known))
 }
 
 /// A type by itself, to be shared.
 pub fn shared_type(alloc: Global, value: &KnownValue) -> Result<Rc<WitType>, NoMemory>
     ensures { IfOk result (λ ty. plain ty.value ≡ value.now) }
 {
-    match Rc::new(alloc, copy_type(alloc, value.ty())?) {
-        Ok(ty) => Ok(ty),
-        Err(_) => Err(NoMemory),
-    }
+    shared(alloc, copy_type(alloc, value.ty())?)
 }
 
 /// The payload of a case.
 pub fn shared_payload(
     alloc: Global,
-    value: &Option<KnownValue>,
+    value: &Option<Rc<KnownValue>>,
 ) -> Result<Option<Rc<WitType>>, NoMemory>
-    ensures { IfOk result (λ ty. payload_of ty ≡ value.now) }
+    ensures { IfOk result (λ ty. payload_of ty ≡ known_of value.now) }
 {
     match value {
         None => Ok(None),
@@ -134,13 +131,31 @@ pub fn shared_payload(
 }
 
 /// What a case adds to what is kept of cases.
-pub fn add_payload(facts: &mut PartFacts, value: &Option<KnownValue>)
-    ensures { (ps : Parts) → (name : Name) → AreFactsOf ps facts.old → AreFactsOf (and_case ps name value.now) facts.new }
+pub fn add_payload(
+    known: &mut KnownParts,
+    name: &[u8],
+    value: &Option<Rc<KnownValue>>,
+) -> Result<(), NoMemory>
+    ensures { OnOk result ((ps : Parts) → AreKnownOf ps known.old → AreKnownOf (and_case ps name.now (known_of value.now)) known.new) }
 {
     match value {
-        None => {}
-        Some(value) => facts.add(value.facts()),
+        None => {
+            known.add_bare(name);
+            Ok(())
+        }
+        Some(value) => known.add(name, value),
     }
+}
+
+/// What is kept of cases of these names, all without payloads.
+pub fn bare_parts(alloc: Global, labels: &[Text]) -> KnownParts
+    ensures { AreKnownOf (bare labels.now) result }
+{
+    let mut known = KnownParts::none(alloc);
+    for label in labels {
+        known.add_bare(label.bytes());
+    }
+    known
 }
 
 /// Adds a case.
@@ -148,9 +163,9 @@ fn push_case(
     alloc: Global,
     cases: &mut Vec<Case>,
     name: &Text,
-    value: &Option<KnownValue>,
+    value: &Option<Rc<KnownValue>>,
 ) -> Result<(), NoMemory>
-    ensures { OnOk result (cases_of cases.new.items ≡ and_case (cases_of cases.old.items) name.now value.now) }
+    ensures { OnOk result (cases_of cases.new.items ≡ and_case (cases_of cases.old.items) name.now (known_of value.now)) }
 {
     let name = name.copy(alloc)?;
     let ty = shared_payload(alloc, value)?;
@@ -164,13 +179,13 @@ fn add_case(
     scope: &Scope,
     label: &CaseType,
     cases: &mut Vec<Case>,
-    facts: &mut PartFacts,
+    known: &mut KnownParts,
 ) -> Result<(), NoMemory>
     ensures cases { OnOk result ((s : Space) → Stands s scope.now → cases_of cases.new.items ≡ and_case (cases_of cases.old.items) label.now.label (option_map (value_of s) label.now.ty)) }
-    ensures facts { OnOk result (AreFactsOf (cases_of cases.old.items) facts.old → AreFactsOf (cases_of cases.new.items) facts.new) }
+    ensures kept { OnOk result (AreKnownOf (cases_of cases.old.items) known.old → AreKnownOf (cases_of cases.new.items) known.new) }
 {
     let value = some_value_at(alloc, scope, label.ty)?;
-    add_payload(facts, &value);
+    add_payload(known, label.label.bytes(), &value)?;
     push_case(alloc, cases, &label.label, &value)
 }
 
@@ -179,16 +194,16 @@ pub fn cases_at(
     alloc: Global,
     scope: &Scope,
     labels: &[CaseType],
-) -> Result<(Vec<Case>, PartFacts), NoMemory>
+) -> Result<(Vec<Case>, KnownParts), NoMemory>
     ensures cases { IfOk result (λ made. (s : Space) → Stands s scope.now → cases_of made.0.items ≡ cases_due s labels.now) }
-    ensures facts { IfOk result (λ made. AreFactsOf (cases_of made.0.items) made.1) }
+    ensures kept { IfOk result (λ made. AreKnownOf (cases_of made.0.items) made.1) }
 {
     let mut cases = Vec::new(alloc);
-    let mut facts = PartFacts::none();
+    let mut known = KnownParts::none(alloc);
     let mut rest = labels;
     while let Some((label, more)) = rest.split_first() {
-        add_case(alloc, scope, label, &mut cases, &mut facts)?;
+        add_case(alloc, scope, label, &mut cases, &mut known)?;
         rest = more;
     }
-    Ok((cases, facts))
+    Ok((cases, known))
 }

@@ -2,6 +2,7 @@ ghost use Rattle.std.specs.Prelude.{◌≡◌, IfOk, Some, option_map};
 ghost use Rattle.comp_facts.specs.Primitives.{primitive_type};
 ghost use Rattle.comp_types.specs.Spaces.{Space};
 ghost use Rattle.comp_types.specs.Types.{value_in, value_of};
+ghost use Rattle.comp_kinds.specs.Parts.{known_of};
 ghost use Rattle.comp_scopes.specs.Stands.{Stands};
 ghost use Rattle.comp_types.specs.Views.{kind_of};
 ghost use Rattle.wit_types.specs.Plain.{plain};
@@ -10,9 +11,10 @@ use comp_facts::Facts;
 use comp_scopes::Scope;
 use comp_types::{KnownValue, TypeItem};
 use std::alloc::Global;
-use virt_base::NoMemory;
+use std::rc::Rc;
+use virt_base::{Items, NoMemory};
 use wasm_ast::{Primitive, ValType};
-use wit_types::{WitType, copy_type};
+use wit_types::WitType;
 
 #[tactic(auto, using(wit_types::proofs::PlainLemmas::plains))]
 fn wit_primitive(primitive: Primitive) -> WitType
@@ -34,40 +36,50 @@ fn wit_primitive(primitive: Primitive) -> WitType
 }
 
 /// A type without parts.
-pub fn primitive_of(primitive: Primitive) -> KnownValue
+pub fn primitive_of(alloc: Global, primitive: Primitive) -> KnownValue
     ensures { result ≡ primitive_type primitive }
 {
-    KnownValue::new(wit_primitive(primitive), Facts::primitive(primitive))
+    let ty = wit_primitive(primitive);
+    KnownValue::new(ty, Facts::primitive(primitive), Items::empty(alloc))
 }
 
-/// An equal type, which shares its parts.
-pub fn copy_value(alloc: Global, value: &KnownValue) -> Result<KnownValue, NoMemory>
-    ensures { IfOk result (λ copy. copy ≡ value.now) }
+/// A value to be shared.
+pub fn shared<T: Drop>(alloc: Global, value: T) -> Result<Rc<T>, NoMemory>
+    ensures { IfOk result (λ kept. kept.value ≡ value) }
 {
-    let ty = copy_type(alloc, value.ty())?;
-    Ok(KnownValue::new(ty, *value.facts()))
+    match Rc::new(alloc, value) {
+        Ok(kept) => Ok(kept),
+        Err(_) => Err(NoMemory),
+    }
+}
+
+/// A type without parts, to be shared.
+fn shared_primitive(alloc: Global, primitive: Primitive) -> Result<Rc<KnownValue>, NoMemory>
+    ensures { IfOk result (λ known. known.value ≡ primitive_type primitive) }
+{
+    shared(alloc, primitive_of(alloc, primitive))
 }
 
 /// The value type at an index, or `bool` in place of what is none.
-fn value_in(alloc: Global, kind: &TypeItem) -> Result<KnownValue, NoMemory>
-    ensures { IfOk result (λ value. value ≡ value_in (Some (kind_of kind.now))) }
+fn value_in(alloc: Global, kind: &TypeItem) -> Result<Rc<KnownValue>, NoMemory>
+    ensures { IfOk result (λ known. known.value ≡ value_in (Some (kind_of kind.now))) }
 {
     match kind {
-        TypeItem::Resource(_) => Ok(primitive_of(Primitive::Bool)),
-        TypeItem::Value(value) => copy_value(alloc, value),
-        TypeItem::Func(_) => Ok(primitive_of(Primitive::Bool)),
-        TypeItem::Instance(_) => Ok(primitive_of(Primitive::Bool)),
+        TypeItem::Resource(_) => shared_primitive(alloc, Primitive::Bool),
+        TypeItem::Value(value) => Ok(value.clone()?),
+        TypeItem::Func(_) => shared_primitive(alloc, Primitive::Bool),
+        TypeItem::Instance(_) => shared_primitive(alloc, Primitive::Bool),
     }
 }
 
 /// The value type that is used.
-pub fn value_at(alloc: Global, scope: &Scope, value: ValType) -> Result<KnownValue, NoMemory>
-    ensures { IfOk result (λ known. (s : Space) → Stands s scope.now → known ≡ value_of s value) }
+pub fn value_at(alloc: Global, scope: &Scope, value: ValType) -> Result<Rc<KnownValue>, NoMemory>
+    ensures { IfOk result (λ known. (s : Space) → Stands s scope.now → known.value ≡ value_of s value) }
 {
     match value {
-        ValType::Primitive(primitive) => Ok(primitive_of(primitive)),
+        ValType::Primitive(primitive) => shared_primitive(alloc, primitive),
         ValType::Index(index) => match scope.kind_at(index) {
-            None => Ok(primitive_of(Primitive::Bool)),
+            None => shared_primitive(alloc, Primitive::Bool),
             Some(kind) => value_in(alloc, kind),
         },
     }
@@ -78,8 +90,8 @@ pub fn some_value_at(
     alloc: Global,
     scope: &Scope,
     value: Option<ValType>,
-) -> Result<Option<KnownValue>, NoMemory>
-    ensures { IfOk result (λ known. (s : Space) → Stands s scope.now → known ≡ option_map (value_of s) value) }
+) -> Result<Option<Rc<KnownValue>>, NoMemory>
+    ensures { IfOk result (λ known. (s : Space) → Stands s scope.now → known_of known ≡ option_map (value_of s) value) }
 {
     match value {
         None => Ok(None),

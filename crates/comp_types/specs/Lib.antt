@@ -8,6 +8,7 @@ pub mod Codes
 pub mod Sizes
 pub mod Views
 pub mod Kept
+pub mod Known
 pub mod Falls
 pub mod Placed
 pub mod Matching

@@ -3,7 +3,7 @@ ghost use Rattle.std.specs.List.{IsDistinct};
 ghost use Rattle.std.specs.Map.{keys_of};
 ghost use Rattle.indexmap.specs.IndexMap.{get};
 ghost use Rattle.comp_types.specs.Substitution.{partner_in, partner_of, and_pair};
-ghost use Rattle.comp_types.specs.Matching.{meet, GoesOn};
+ghost use Rattle.comp_types.specs.Matching.{all_same, meet, GoesOn};
 
 use indexmap::IndexMap;
 use std::alloc::Global;
@@ -117,4 +117,17 @@ impl Substitution {
             None => unreachable!(),
         }
     }
+}
+
+/// Whether each resource is its own partner.
+pub fn are_same(by: &Substitution) -> bool
+    ensures { result ≡ all_same by.now }
+{
+    for i in 0..by.len() {
+        let (resource, partner) = by.pair(i);
+        if resource != partner {
+            return false;
+        }
+    }
+    true
 }

@@ -61,13 +61,14 @@ pub struct InstanceEntries {
     /// 1,000,001 stands for more than 1,000,000.
     parts: u32,
     has_resource: bool,
-    /// How many parts a walk that makes other resources of theirs comes by, and how many instances stand in one another: no
-    /// answer but `NoMemory` rests on either.
+    /// How many entries and parameters they have when they are written out, how many of these a walk comes by that makes other
+    /// resources of theirs, and how many instances stand in one another: no answer but `NoMemory` rests on these.
+    listed: u32,
     walked: u32,
     levels: u32,
 }
 
-/// More parts than these, each made anew, would take more than two gigabytes.
+/// More entries than these, each made anew, would take more than two gigabytes.
 const MOST_WALKED: u32 = 4_194_304;
 
 /// In more instances in one another a walk would run out of stack.
@@ -114,6 +115,7 @@ impl InstanceEntries {
             depth: 0,
             parts: 0,
             has_resource: false,
+            listed: 0,
             walked: 0,
             levels: 0,
         }
@@ -147,12 +149,17 @@ impl InstanceEntries {
         self.has_resource
     }
 
-    /// How many parts a walk comes by that makes other resources of theirs; no clause speaks of it.
+    /// How many entries and parameters they have when they are written out; no clause speaks of it.
+    pub fn listed(&self) -> u32 {
+        self.listed
+    }
+
+    /// How many of them a walk comes by that makes other resources of theirs; no clause speaks of it.
     pub fn walked(&self) -> u32 {
         self.walked
     }
 
-    /// Whether memory can't be thought to suffice for a walk that makes each part with a resource anew, as often as it stands in
+    /// Whether memory can't be thought to suffice for a walk that makes each entry with a resource anew, as often as it stands in
     /// them.
     pub fn is_too_large(&self) -> bool {
         self.walked > MOST_WALKED
@@ -177,6 +184,7 @@ impl InstanceEntries {
         if levels > MOST_LEVELS {
             return Err(NoMemory);
         }
+        let listed = self.listed.saturating_add(ty.listed());
         let walked = self.walked.saturating_add(ty.walked());
         let depth = u32::max(self.depth, ty.depth());
         let parts = u32::min(self.parts + ty.parts(), 1_000_001);
@@ -190,10 +198,18 @@ impl InstanceEntries {
         self.depth = depth;
         self.parts = parts;
         self.has_resource = has_resource;
+        self.listed = listed;
         self.walked = walked;
         self.levels = levels;
         Ok(())
     }
+}
+
+/// A function counts with its parameters.
+fn func_listed(ty: &KnownFunc) -> u32 {
+    u32::try_from(ty.keys().len())
+        .unwrap_or(u32::MAX)
+        .saturating_add(1)
 }
 
 impl DeclaredInstance {
@@ -261,12 +277,24 @@ impl TypeItem {
         }
     }
 
-    fn walked(&self) -> u32 {
+    /// How many entries and parameters it has when it is written out, itself among them; no clause speaks of it.
+    pub fn listed(&self) -> u32 {
         match self {
             TypeItem::Resource(_) => 1,
-            TypeItem::Value(ty) => ty.facts().parts,
-            TypeItem::Func(ty) => ty.facts().parts(),
+            TypeItem::Value(_) => 1,
+            TypeItem::Func(ty) => func_listed(ty),
+            TypeItem::Instance(ty) => ty.instance.entries.listed.saturating_add(1),
+        }
+    }
+
+    /// How many of them a walk comes by that looks for resources: what speaks of none is one step.
+    pub fn walked(&self) -> u32 {
+        if !self.has_resource() {
+            return 1;
+        }
+        match self {
             TypeItem::Instance(ty) => ty.instance.entries.walked.saturating_add(1),
+            _ => self.listed(),
         }
     }
 
@@ -330,13 +358,21 @@ impl ItemType {
         }
     }
 
+    fn listed(&self) -> u32 {
+        match self {
+            ItemType::Func(ty) => func_listed(ty),
+            ItemType::Instance(ty) => ty.entries.listed.saturating_add(1),
+            ItemType::Kind(kind) => kind.listed(),
+        }
+    }
+
     /// What speaks of no resource stays shared, and is one step.
     fn walked(&self) -> u32 {
         if !self.has_resource() {
             return 1;
         }
         match self {
-            ItemType::Func(ty) => ty.facts().parts(),
+            ItemType::Func(ty) => func_listed(ty),
             ItemType::Instance(ty) => ty.entries.walked.saturating_add(1),
             ItemType::Kind(kind) => kind.walked(),
         }

@@ -13,7 +13,7 @@ loop-label-preserved c = record {
       ∙ (case-first (cases_of c.loop-label.cases.items) c.in-Some.label.now.label (option_map (value_of s) c.in-Some.label.now.ty) (cases_due s c.in-Some.more.now)
       ∙ (ap (λ ls. and_parts (cases_of c.loop-label.cases.items) (cases_due s ls)) (sym c.in-Some.ensures.cases.0)
       ∙ c.loop-label.invariant.due s h));
-  kept = c.in_ok-add_case.ensures.facts c.loop-label.invariant.kept;
+  kept = c.in_ok-add_case.ensures.kept c.loop-label.invariant.kept;
 }
 
 pub returns-clause-cases : goal.returns-clause-cases

@@ -12,7 +12,7 @@ loop-label-preserved c = record {
       ∙ (part-first (fields_of c.loop-label.fields.items) c.in-Some.label.now.label (value_of s c.in-Some.label.now.ty) (fields_due s c.in-Some.more.now)
       ∙ (ap (λ ls. and_parts (fields_of c.loop-label.fields.items) (fields_due s ls)) (sym c.in-Some.ensures.cases.0)
       ∙ c.loop-label.invariant.due s h));
-  kept = c.in_ok-add_field.ensures.facts c.loop-label.invariant.kept;
+  kept = c.in_ok-add_field.ensures.kept c.loop-label.invariant.kept;
 }
 
 pub returns-clause-fields : goal.returns-clause-fields

@@ -12,7 +12,7 @@ loop-value-preserved c = record {
       ∙ (part-first (types_of c.loop-value.types.items) [] (value_of s c.in-Some.value.now) (unnamed (map (value_of s) c.in-Some.more.now))
       ∙ (ap (λ ls. and_parts (types_of c.loop-value.types.items) (unnamed (map (value_of s) ls))) (sym c.in-Some.ensures.cases.0)
       ∙ c.loop-value.invariant.due s h));
-  kept = c.in_ok-add_type.ensures.facts c.loop-value.invariant.kept;
+  kept = c.in_ok-add_type.ensures.kept c.loop-value.invariant.kept;
 }
 
 pub returns-clause-types : goal.returns-clause-types

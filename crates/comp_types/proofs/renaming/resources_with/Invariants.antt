@@ -1,6 +1,0 @@
-use Rattle.std.proofs.Common.{◌≡◌, take, map}
-use Rattle.comp_types.specs.Substitution.{partner_in}
-use Rattle.comp_types.proofs.renaming.resources_with.Given as goal
-
-abbrev pub invariant-loop-resource : goal.invariant-loop-resource
-invariant-loop-resource l = l.new ≡ map (partner_in l.by) (take l.resource-index l.own)

@@ -1,0 +1,4 @@
+pub mod SameTables
+pub mod EntrySteps
+pub mod MakingSteps
+pub mod ParamSteps

@@ -1,0 +1,15 @@
+pub mod SlotLemmas
+pub mod NodeLemmas
+pub mod HasLaws
+pub mod MatchLaws
+pub mod ScopeLaws
+pub mod DefinedLaws
+pub mod WalkLaws
+pub mod MetLaws
+pub mod WalkSteps
+pub mod WalkParts
+pub mod ParamLaws
+pub mod AddLemmas
+pub mod RetypedLemmas
+pub mod RebuiltLemmas
+pub mod MakingLemmas

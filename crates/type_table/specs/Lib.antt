@@ -1,0 +1,11 @@
+pub mod Slots
+pub mod Tables
+pub mod Codes
+pub mod Nodes
+pub mod Retyped
+pub mod Walks
+pub mod Made
+pub mod Covers
+pub mod Anew
+pub mod Met
+pub mod Walked
