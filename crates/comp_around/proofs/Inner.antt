@@ -32,6 +32,10 @@ use Rattle.comp_scopes.specs.Judged.{Judged}
 use Rattle.comp_around.specs.declared.scopes.Scopes.{Scopes}
 use Rattle.comp_around.specs.Around.{border, StandAll}
 use Rattle.comp_around.specs.Judged.{JudgedIn}
+use Rattle.type_table.specs.Tables.{Types}
+use Rattle.type_table.specs.Covers.{CoversEach}
+use Rattle.type_table.specs.Anew.{Makes}
+use Rattle.type_table.proofs.ScopeLaws.{covers_after, each_grew}
 
 -- ---- what is added
 
@@ -122,13 +126,17 @@ component-stays around s (AnExport e) = export-stays s e e.desc
 
 -- ---- the innermost scope
 
-pub inner_stands : (around : List Space) (s t : Space) (x : Scopes) (y : Scope) → StandAll around s x → Stands t y → t.is_component ≡ s.is_component → StandAll around t (record x { inner = y })
-inner_stands around s t x y h k e = record {
+pub inner_stands : (around : List Space) (s t : Space) (x : Scopes) (y : Scope) (types : Types) → StandAll around s x → Stands t y → t.is_component ≡ s.is_component → CoversEach types (t ∷ around) → StandAll around t (record x { inner = y; types = types })
+inner_stands around s t x y types h k e covered = record {
   inner = k;
   inside = h.inside ∙ ap (λ b. if b then 0 else border around + 1) (sym e);
   outer = h.outer;
+  covered = covered;
 }
 
-pub judged_inner : (around : List Space) (s : Space) (d : Definition) (x : Scopes) (y : Scope) (rule : Option ℕ) → StandAll around s x → Judged around s d y rule → JudgedIn around s d (record x { inner = y }) rule
-judged_inner around s d x y None h k = (k.0, inner_stands around s (after around s d) x y h k.1 (component-stays around s d))
-judged_inner around s d x y (Some rule) h k = k
+pub judged_inner : (around : List Space) (s : Space) (d : Definition) (x : Scopes) (y : Scope) (types : Types) (rule : Option ℕ) → StandAll around s x → Makes x.types types s d rule → Judged around s d y rule
+    → JudgedIn around s d (record x { inner = y; types = types }) rule
+judged_inner around s d x y types None h made k =
+    let covered = each_grew x.types types (s ∷ around) made.0 h.covered in
+    (k.0, inner_stands around s (after around s d) x y types h k.1 (component-stays around s d) (covers_after types around s d covered.0 covered.1 (made.1 refl), covered.1))
+judged_inner around s d x y types (Some rule) h made k = k

@@ -8,9 +8,10 @@ ghost use Rattle.comp_scopes.specs.Stands.{Stands};
 use comp_scopes::Scope;
 use std::alloc::Global;
 use std::mem;
+use type_table::TypeTable;
 use virt_base::NoMemory;
 
-/// A walk over more parts than these in all takes seconds. A thousand types of half a million parts have fewer.
+/// A walk over more entries than these in all takes seconds.
 const MOST_WALKED: u64 = 536_870_912;
 
 /// A scope further out, and how many instance types stand between it and its component.
@@ -24,11 +25,13 @@ pub struct Level {
 #[derive(Drop)]
 pub struct Scopes {
     pub inner: Scope,
+    /// The value types in all of them, each different one once.
+    pub types: TypeTable,
     /// How many instance types stand before the innermost component.
     inside: usize,
     /// From the outside in.
     outer: Vec<Level>,
-    /// How many parts of types, written out, were walked over so far: no answer but `NoMemory` rests on it.
+    /// How many entries of types, written out, were walked over so far: no answer but `NoMemory` rests on it.
     walked: u64,
 }
 
@@ -41,18 +44,19 @@ impl Scopes {
     {
         Scopes {
             inner: Scope::new(alloc, true, 0),
+            types: TypeTable::none(alloc),
             inside: 0,
             outer: Vec::new(alloc),
             walked: 0,
         }
     }
 
-    /// Counts parts of types that are to be compared, or searched for resources: small components can have types that are large when
-    /// they are written out, so that all such walks together have a bound.
-    pub fn walk(&mut self, parts: u64) -> Result<(), NoMemory>
+    /// Counts entries of types that are to be compared, searched for resources or made anew: small components can have instances that
+    /// are large when they are written out, so that all such walks together have a bound.
+    pub fn walk(&mut self, entries: u64) -> Result<(), NoMemory>
         ensures { OnOk result ((around : List Space) → (s : Space) → StandAll around s self.old → StandAll around s self.new) }
     {
-        let walked = self.walked.saturating_add(parts);
+        let walked = self.walked.saturating_add(entries);
         if walked > MOST_WALKED {
             return Err(NoMemory);
         }

@@ -8,12 +8,16 @@ ghost use Rattle.comp_types.specs.Types.{kind_of as kind_due};
 ghost use Rattle.comp_scopes.specs.Judged.{Judged};
 ghost use Rattle.comp_scopes.specs.Stands.{Stands};
 ghost use Rattle.comp_types.specs.Views.{kind_of};
+ghost use Rattle.type_table.specs.Anew.{HasPartsOf, Makes};
+ghost use Rattle.type_table.specs.Covers.{Covers};
+ghost use Rattle.type_table.specs.Tables.{Grew, HasKind};
 
 use crate::faults::type_fault;
 use comp_kinds::kind_of;
 use comp_scopes::{KnownEntry, Scope};
 use comp_types::TypeItem;
 use std::alloc::Global;
+use type_table::TypeTable;
 use virt_base::NoMemory;
 use wasm_ast::TypeDef;
 
@@ -61,6 +65,18 @@ fn and_depth(scope: &mut Scope, depth: u32)
     scope.deepest = u32::max(scope.deepest, depth);
 }
 
+/// Keeps a value type, whose parts are there, in the table.
+fn keep_type(alloc: Global, types: &mut TypeTable, kind: &TypeItem) -> Result<(), NoMemory>
+    ensures { OnOk result (HasPartsOf types.old (kind_of kind.now) → Grew types.old types.new × HasKind types.new (kind_of kind.now)) }
+{
+    match kind {
+        TypeItem::Value(known) => types.add(alloc, known),
+        TypeItem::Resource(_) => Ok(()),
+        TypeItem::Func(_) => Ok(()),
+        TypeItem::Instance(_) => Ok(()),
+    }
+}
+
 /// Adds a definition that stands for this type.
 fn add_type(scope: &mut Scope, def: &TypeDef, kind: TypeItem) -> Result<(), NoMemory>
     ensures { OnOk result ((around : List Space) → (s : Space) → Stands s scope.old → kind_of kind ≡ kind_due s def.now → Stands (after_declaration around s (ATypeDef def.now)) scope.new) }
@@ -73,13 +89,19 @@ fn add_type(scope: &mut Scope, def: &TypeDef, kind: TypeItem) -> Result<(), NoMe
 }
 
 /// A definition of a type in which no others stand: the least rule that it breaks, or else it is added.
-pub fn define_type(alloc: Global, scope: &mut Scope, def: &TypeDef) -> Result<Option<u32>, NoMemory>
-    ensures { IfOk result (λ rule. (around : List Space) → (s : Space) → Stands s scope.old → Judged around s (AType (ATypeDef def.now)) scope.new rule) }
+pub fn define_type(
+    alloc: Global,
+    scope: &mut Scope,
+    types: &mut TypeTable,
+    def: &TypeDef,
+) -> Result<Option<u32>, NoMemory>
+    ensures { IfOk result (λ rule. (around : List Space) → (s : Space) → Stands s scope.old → Covers types.old s → Judged around s (AType (ATypeDef def.now)) scope.new rule × Makes types.old types.new s (AType (ATypeDef def.now)) rule) }
 {
     let kind = kind_of(alloc, scope, def)?;
     match type_fault(alloc, scope, def, &kind)? {
         Some(rule) => Ok(Some(rule)),
         None => {
+            keep_type(alloc, types, &kind)?;
             add_type(scope, def, kind)?;
             Ok(None)
         }

@@ -3,3 +3,4 @@ pub mod AlikeLemmas
 pub mod IndexLemmas
 pub mod StandLemmas
 pub mod Only
+pub mod MakesLemmas

@@ -1,12 +1,14 @@
 ghost use Rattle.std.specs.Prelude.{◌≡◌, IfOk, OnOk, Some, []};
-ghost use Rattle.wasm_ast.specs.declared.component.ExternDesc.TheVariants.{Instance as AnInstance, Resource as AResource};
+ghost use Rattle.wasm_ast.specs.declared.component.ExternDesc.TheVariants.{Func as AFunc, Instance as AnInstance, Resource as AResource, TypeEq as AType};
 ghost use Rattle.comp_types.specs.Items.{End};
 ghost use Rattle.comp_types.specs.Views.{item_of, kind_of};
 ghost use Rattle.comp_types.specs.Added.{and_described, and_index, described, kind_item};
 ghost use Rattle.comp_types.specs.Spaces.{Space, kind_at};
 ghost use Rattle.comp_types.specs.Types.{instance_in};
 ghost use Rattle.comp_scopes.specs.Stands.{Stands};
-ghost use Rattle.comp_describes.specs.Describes.{IsDescribed, IsNewInstance};
+ghost use Rattle.type_table.specs.Covers.{Covers};
+ghost use Rattle.type_table.specs.Tables.{HasEntries};
+ghost use Rattle.comp_describes.specs.Describes.{Describes, IsDescribed, IsNewInstance, MakesInstance};
 
 use crate::again::add_type_again;
 use crate::descriptions::Described;
@@ -14,10 +16,12 @@ use crate::giving::give_numbers;
 use comp_functions::{func_at, no_func};
 use comp_scopes::Scope;
 use comp_types::{
-    DeclaredInstance, InstanceEntries, InstanceType, ItemType, Substitution, TypeItem, entries_with,
+    DeclaredInstance, InstanceEntries, InstanceType, ItemType, Substitution, TypeItem,
 };
 use std::alloc::Global;
 use std::rc::Rc;
+use type_relations::entries_with;
+use type_table::TypeTable;
 use virt_base::{Items, NoMemory};
 use wasm_ast::ExternDesc;
 
@@ -36,8 +40,13 @@ fn describe_nothing(alloc: Global, next: u32) -> Result<Described, NoMemory>
 }
 
 /// An instance of this type. Where the type declares no resource, what it exports stays shared.
-fn describe_declared(alloc: Global, ty: &DeclaredInstance, next: u32) -> Result<Described, NoMemory>
-    ensures { IfOk result (IsNewInstance (ty.now.own, ty.now.instance.value.entries) next) }
+fn describe_declared(
+    alloc: Global,
+    types: &mut TypeTable,
+    ty: &DeclaredInstance,
+    next: u32,
+) -> Result<Described, NoMemory>
+    ensures { IfOk result (λ d. HasEntries types.old ty.now.instance.value.entries → MakesInstance types.old types.new (ty.now.own, ty.now.instance.value.entries) next d) }
 {
     if ty.own.is_empty() {
         let same = ty.instance.clone()?;
@@ -48,7 +57,7 @@ fn describe_declared(alloc: Global, ty: &DeclaredInstance, next: u32) -> Result<
         });
     }
     let fresh = give_numbers(alloc, Substitution::empty(alloc), ty.own.as_slice(), next)?;
-    let entries = entries_with(alloc, &ty.instance.entries, &fresh.by)?;
+    let entries = entries_with(alloc, types, &ty.instance.entries, &fresh.by)?;
     let item = ItemType::Instance(Rc::new(alloc, InstanceType { entries })?);
     Ok(Described {
         item,
@@ -57,8 +66,13 @@ fn describe_declared(alloc: Global, ty: &DeclaredInstance, next: u32) -> Result<
     })
 }
 
-fn describe_kind(alloc: Global, kind: &TypeItem, next: u32) -> Result<Described, NoMemory>
-    ensures { IfOk result (IsNewInstance (instance_in (Some (kind_of kind.now))) next) }
+fn describe_kind(
+    alloc: Global,
+    types: &mut TypeTable,
+    kind: &TypeItem,
+    next: u32,
+) -> Result<Described, NoMemory>
+    ensures { IfOk result (λ d. HasEntries types.old (instance_in (Some (kind_of kind.now))).1 → MakesInstance types.old types.new (instance_in (Some (kind_of kind.now))) next d) }
 {
     match kind {
         TypeItem::Resource(_) => {
@@ -74,14 +88,19 @@ fn describe_kind(alloc: Global, kind: &TypeItem, next: u32) -> Result<Described,
             Ok(made)
         }
         TypeItem::Instance(ty) => {
-            let made = describe_declared(alloc, ty, next)?;
+            let made = describe_declared(alloc, types, ty, next)?;
             Ok(made)
         }
     }
 }
 
-fn describe_instance(alloc: Global, scope: &Scope, index: u32) -> Result<Described, NoMemory>
-    ensures { IfOk result (λ d. (s : Space) → Stands s scope.now → IsDescribed s (AnInstance index) d) }
+fn describe_instance(
+    alloc: Global,
+    scope: &Scope,
+    types: &mut TypeTable,
+    index: u32,
+) -> Result<Described, NoMemory>
+    ensures { IfOk result (λ d. (s : Space) → Stands s scope.now → Covers types.old s → Describes types.old types.new s (AnInstance index) d) }
 {
     match scope.kind_at(index) {
         None => {
@@ -89,7 +108,7 @@ fn describe_instance(alloc: Global, scope: &Scope, index: u32) -> Result<Describ
             Ok(made)
         }
         Some(kind) => {
-            let made = describe_kind(alloc, kind, scope.next)?;
+            let made = describe_kind(alloc, types, kind, scope.next)?;
             Ok(made)
         }
     }
@@ -122,28 +141,51 @@ fn type_at(alloc: Global, scope: &Scope, index: u32) -> Result<ItemType, NoMemor
     }
 }
 
-/// What a description of an import or an export describes (Component Model, Binary.md, "externdesc"). Where the index is none of
-/// its kind, a function or an instance without anything stands for it.
-pub fn describe(alloc: Global, scope: &Scope, desc: ExternDesc) -> Result<Described, NoMemory>
-    ensures { IfOk result (λ d. (s : Space) → Stands s scope.now → IsDescribed s desc d) }
+fn describe_func(alloc: Global, scope: &Scope, index: u32) -> Result<Described, NoMemory>
+    ensures { IfOk result (λ d. (s : Space) → Stands s scope.now → IsDescribed s (AFunc index) d) }
+{
+    Ok(Described {
+        item: ItemType::Func(func_at(alloc, scope, index)?),
+        numbers: Items::empty(alloc),
+        next: scope.next,
+    })
+}
+
+fn describe_type(alloc: Global, scope: &Scope, index: u32) -> Result<Described, NoMemory>
+    ensures { IfOk result (λ d. (s : Space) → Stands s scope.now → IsDescribed s (AType index) d) }
+{
+    Ok(Described {
+        item: type_at(alloc, scope, index)?,
+        numbers: Items::empty(alloc),
+        next: scope.next,
+    })
+}
+
+/// What a description of an import or an export describes (Component Model, Binary.md, "externdesc"); the value types of a new
+/// instance are added to the table. Where the index is none of its kind, a function or an instance without anything stands for it.
+pub fn describe(
+    alloc: Global,
+    scope: &Scope,
+    types: &mut TypeTable,
+    desc: ExternDesc,
+) -> Result<Described, NoMemory>
+    ensures { IfOk result (λ d. (s : Space) → Stands s scope.now → Covers types.old s → Describes types.old types.new s desc d) }
 {
     match desc {
-        ExternDesc::Func(index) => Ok(Described {
-            item: ItemType::Func(func_at(alloc, scope, index)?),
-            numbers: Items::empty(alloc),
-            next: scope.next,
-        }),
-        ExternDesc::TypeEq(index) => Ok(Described {
-            item: type_at(alloc, scope, index)?,
-            numbers: Items::empty(alloc),
-            next: scope.next,
-        }),
+        ExternDesc::Func(index) => {
+            let made = describe_func(alloc, scope, index)?;
+            Ok(made)
+        }
+        ExternDesc::TypeEq(index) => {
+            let made = describe_type(alloc, scope, index)?;
+            Ok(made)
+        }
         ExternDesc::Resource => {
             let made = describe_resource(alloc, scope)?;
             Ok(made)
         }
         ExternDesc::Instance(index) => {
-            let made = describe_instance(alloc, scope, index)?;
+            let made = describe_instance(alloc, scope, types, index)?;
             Ok(made)
         }
     }

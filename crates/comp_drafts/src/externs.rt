@@ -7,6 +7,8 @@ ghost use Rattle.comp_types.specs.Added.{described};
 ghost use Rattle.comp_types.specs.Spaces.{Space};
 ghost use Rattle.comp_scopes.specs.Stands.{Stands};
 ghost use Rattle.comp_types.specs.Views.{item_of};
+ghost use Rattle.type_table.specs.Covers.{Covers};
+ghost use Rattle.type_table.specs.Tables.{Grew};
 
 use crate::arguments::item_at;
 use comp_describes::describe;
@@ -14,13 +16,19 @@ use comp_plans::PlanItem;
 use comp_scopes::Scope;
 use comp_types::ItemType;
 use std::alloc::Global;
+use type_table::TypeTable;
 use virt_base::NoMemory;
 use wasm_ast::{ComponentExport, ComponentImport, ExternDesc};
 
-fn described(alloc: Global, scope: &Scope, desc: ExternDesc) -> Result<ItemType, NoMemory>
-    ensures { IfOk result (λ item. (s : Space) → Stands s scope.now → item_of item ≡ described s desc) }
+fn described(
+    alloc: Global,
+    scope: &Scope,
+    types: &mut TypeTable,
+    desc: ExternDesc,
+) -> Result<ItemType, NoMemory>
+    ensures { IfOk result (λ item. (s : Space) → Stands s scope.now → Covers types.old s → (item_of item ≡ described s desc) × Grew types.old types.new) }
 {
-    let described = describe(alloc, scope, desc)?;
+    let described = describe(alloc, scope, types, desc)?;
     Ok(described.item)
 }
 
@@ -28,12 +36,13 @@ fn described(alloc: Global, scope: &Scope, desc: ExternDesc) -> Result<ItemType,
 pub fn import_item(
     alloc: Global,
     scope: &Scope,
+    types: &mut TypeTable,
     import: &ComponentImport,
 ) -> Result<PlanItem, NoMemory>
-    ensures { IfOk result (λ item. (ms : List (Held Module)) (cs : List PlannedComponent) (s : Space) → Stands s scope.now → plan_item ms cs item ≡ just (Imports import.now.name (described s import.now.desc))) }
+    ensures { IfOk result (λ item. (ms : List (Held Module)) (cs : List PlannedComponent) (s : Space) → Stands s scope.now → Covers types.old s → (plan_item ms cs item ≡ just (Imports import.now.name (described s import.now.desc))) × Grew types.old types.new) }
 {
     let name = import.name.copy(alloc)?;
-    let item = described(alloc, scope, import.desc)?;
+    let item = described(alloc, scope, types, import.desc)?;
     Ok(PlanItem::Imports { name, item })
 }
 
@@ -41,14 +50,15 @@ pub fn import_item(
 fn stated(
     alloc: Global,
     scope: &Scope,
+    types: &mut TypeTable,
     desc: Option<ExternDesc>,
 ) -> Result<Option<ItemType>, NoMemory>
-    ensures { IfOk result (λ item. (s : Space) → Stands s scope.now → option_map item_of item ≡ option_map (described s) desc) }
+    ensures { IfOk result (λ item. (s : Space) → Stands s scope.now → Covers types.old s → (option_map item_of item ≡ option_map (described s) desc) × Grew types.old types.new) }
 {
     match desc {
         None => Ok(None),
         Some(desc) => {
-            let item = described(alloc, scope, desc)?;
+            let item = described(alloc, scope, types, desc)?;
             Ok(Some(item))
         }
     }
@@ -58,12 +68,13 @@ fn stated(
 pub fn export_item(
     alloc: Global,
     scope: &Scope,
+    types: &mut TypeTable,
     export: &ComponentExport,
 ) -> Result<PlanItem, NoMemory>
-    ensures { IfOk result (λ item. (ms : List (Held Module)) (cs : List PlannedComponent) (s : Space) → Stands s scope.now → plan_item ms cs item ≡ just (Exports export.now.name (named_by s export.now.sort export.now.index) (option_map (described s) export.now.desc))) }
+    ensures { IfOk result (λ item. (ms : List (Held Module)) (cs : List PlannedComponent) (s : Space) → Stands s scope.now → Covers types.old s → (plan_item ms cs item ≡ just (Exports export.now.name (named_by s export.now.sort export.now.index) (option_map (described s) export.now.desc))) × Grew types.old types.new) }
 {
     let name = export.name.copy(alloc)?;
     let item = item_at(scope, export.sort, export.index);
-    let stated = stated(alloc, scope, export.desc)?;
+    let stated = stated(alloc, scope, types, export.desc)?;
     Ok(PlanItem::Exports { name, item, stated })
 }

@@ -3,3 +3,4 @@ pub mod FaultLemmas
 pub mod NumberLemmas
 pub mod StandLemmas
 pub mod StatedLemmas
+pub mod TableLemmas

@@ -8,6 +8,8 @@ ghost use Rattle.comp_types.specs.Rules.{desc_stands, lengths_of};
 ghost use Rattle.comp_types.specs.Spaces.{Space};
 ghost use Rattle.comp_scopes.specs.Judged.{Judged};
 ghost use Rattle.comp_scopes.specs.Stands.{Stands};
+ghost use Rattle.type_table.specs.Anew.{Makes};
+ghost use Rattle.type_table.specs.Covers.{Covers};
 ghost use Rattle.comp_describes.specs.Describes.{IsDescribed};
 
 use crate::kinds::desc_has_kind;
@@ -18,6 +20,7 @@ use comp_names::is_legal;
 use comp_scopes::Scope;
 use comp_types::ItemType;
 use std::alloc::Global;
+use type_table::TypeTable;
 use virt_base::{NoMemory, Text};
 use wasm_ast::ExternDesc;
 
@@ -109,15 +112,16 @@ fn define_described(
 pub fn define_type_export(
     alloc: Global,
     scope: &mut Scope,
+    types: &mut TypeTable,
     name: &Text,
     desc: ExternDesc,
 ) -> Result<Option<u32>, NoMemory>
-    ensures { IfOk result (λ rule. (around : List Space) → (s : Space) → Stands s scope.old → Judged around s (AType (ATypeExport name.now desc)) scope.new rule) }
+    ensures { IfOk result (λ rule. (around : List Space) → (s : Space) → Stands s scope.old → Covers types.old s → Judged around s (AType (ATypeExport name.now desc)) scope.new rule × Makes types.old types.new s (AType (ATypeExport name.now desc)) rule) }
 {
     if !desc_stands(&scope.lengths(), desc) {
         return Ok(Some(3));
     }
-    let d = describe(alloc, scope, desc)?;
+    let d = describe(alloc, scope, types, desc)?;
     let rule = define_described(alloc, scope, name, desc, &d)?;
     Ok(rule)
 }

@@ -6,6 +6,8 @@ ghost use Rattle.comp_types.specs.Rules.{desc_has_kind, export_stands, if_there,
 ghost use Rattle.comp_types.specs.Spaces.{Space, item_at};
 ghost use Rattle.comp_scopes.specs.Judged.{Judged};
 ghost use Rattle.comp_scopes.specs.Stands.{Stands};
+ghost use Rattle.type_table.specs.Anew.{Makes};
+ghost use Rattle.type_table.specs.Covers.{Covers};
 ghost use Rattle.comp_describes.specs.Describes.{IsDescribed};
 ghost use Rattle.comp_externs.specs.Early.{early_fault};
 
@@ -18,6 +20,7 @@ use comp_names::is_legal;
 use comp_scopes::Scope;
 use comp_types::ItemType;
 use std::alloc::Global;
+use type_table::TypeTable;
 use virt_base::NoMemory;
 use wasm_ast::{ComponentExport, ExternDesc};
 
@@ -119,17 +122,18 @@ fn add_stated(
 fn define_stated(
     alloc: Global,
     scope: &mut Scope,
+    types: &mut TypeTable,
     export: &ComponentExport,
     desc: ExternDesc,
 ) -> Result<Option<u32>, NoMemory>
-    ensures { IfOk result (λ rule. (around : List Space) → (s : Space) → Stands s scope.old → export.now.desc ≡ Some desc → early_fault around s (AnExport export.now) ≡ None → Judged around s (AnExport export.now) scope.new rule) }
+    ensures { IfOk result (λ rule. (around : List Space) → (s : Space) → Stands s scope.old → Covers types.old s → export.now.desc ≡ Some desc → early_fault around s (AnExport export.now) ≡ None → Judged around s (AnExport export.now) scope.new rule × Makes types.old types.new s (AnExport export.now) rule) }
 {
     let given = scope.item_at(export.sort, export.index)?;
-    let stated = is_stated(alloc, scope, &given, desc)?;
+    let stated = is_stated(alloc, scope, types, &given, desc)?;
     if !stated {
         return Ok(Some(22));
     }
-    let d = describe(alloc, scope, desc)?;
+    let d = describe(alloc, scope, types, desc)?;
     let fits = name_fits(alloc, scope.exports.entries(), &export.name, &d.item)?;
     if !fits {
         return Ok(Some(24));
@@ -144,9 +148,10 @@ fn define_stated(
 fn define_sound(
     alloc: Global,
     scope: &mut Scope,
+    types: &mut TypeTable,
     export: &ComponentExport,
 ) -> Result<Option<u32>, NoMemory>
-    ensures { IfOk result (λ rule. (around : List Space) → (s : Space) → Stands s scope.old → export_stands (lengths_of s) export.now ≡ true → early_fault around s (AnExport export.now) ≡ None → Judged around s (AnExport export.now) scope.new rule) }
+    ensures { IfOk result (λ rule. (around : List Space) → (s : Space) → Stands s scope.old → Covers types.old s → export_stands (lengths_of s) export.now ≡ true → early_fault around s (AnExport export.now) ≡ None → Judged around s (AnExport export.now) scope.new rule × Makes types.old types.new s (AnExport export.now) rule) }
 {
     match export.desc {
         None => {
@@ -154,7 +159,7 @@ fn define_sound(
             Ok(rule)
         }
         Some(desc) => {
-            let rule = define_stated(alloc, scope, export, desc)?;
+            let rule = define_stated(alloc, scope, types, export, desc)?;
             Ok(rule)
         }
     }
@@ -164,9 +169,10 @@ fn define_sound(
 pub fn define_export(
     alloc: Global,
     scope: &mut Scope,
+    types: &mut TypeTable,
     export: &ComponentExport,
 ) -> Result<Option<u32>, NoMemory>
-    ensures { IfOk result (λ rule. (around : List Space) → (s : Space) → Stands s scope.old → Judged around s (AnExport export.now) scope.new rule) }
+    ensures { IfOk result (λ rule. (around : List Space) → (s : Space) → Stands s scope.old → Covers types.old s → Judged around s (AnExport export.now) scope.new rule × Makes types.old types.new s (AnExport export.now) rule) }
 {
     if !export_stands(&scope.lengths(), export) {
         return Ok(Some(3));
@@ -175,7 +181,7 @@ pub fn define_export(
     match early {
         Some(rule) => Ok(Some(rule)),
         None => {
-            let rule = define_sound(alloc, scope, export)?;
+            let rule = define_sound(alloc, scope, types, export)?;
             Ok(rule)
         }
     }

@@ -9,6 +9,8 @@ ghost use Rattle.comp_types.specs.Rules.{desc_stands, lengths_of, named_in_desc}
 ghost use Rattle.comp_types.specs.Spaces.{Space};
 ghost use Rattle.comp_scopes.specs.Judged.{Judged};
 ghost use Rattle.comp_scopes.specs.Stands.{Stands};
+ghost use Rattle.type_table.specs.Anew.{Makes};
+ghost use Rattle.type_table.specs.Covers.{Covers};
 ghost use Rattle.comp_describes.specs.Describes.{IsDescribed};
 
 use crate::kinds::{desc_has_kind, resources_of_desc};
@@ -19,14 +21,20 @@ use comp_names::is_legal;
 use comp_scopes::Scope;
 use comp_types::ItemType;
 use std::alloc::Global;
+use type_table::TypeTable;
 use virt_base::NoMemory;
 use wasm_ast::{ComponentImport, ExternDesc};
 
 /// Whether each resource that a description names was imported.
-fn names_imported(alloc: Global, scope: &Scope, desc: ExternDesc) -> Result<bool, NoMemory>
-    ensures { IfOk result (λ all. (s : Space) → Stands s scope.now → all ≡ list_all (is_among s.imported) (named_in_desc s desc)) }
+fn names_imported(
+    alloc: Global,
+    scope: &Scope,
+    types: &TypeTable,
+    desc: ExternDesc,
+) -> Result<bool, NoMemory>
+    ensures { IfOk result (λ all. (s : Space) → Stands s scope.now → Covers types.now s → all ≡ list_all (is_among s.imported) (named_in_desc s desc)) }
 {
-    let found = resources_of_desc(alloc, scope, desc)?;
+    let found = resources_of_desc(alloc, scope, types, desc)?;
     Ok(are_among(found.as_slice(), &scope.imported))
 }
 
@@ -34,12 +42,13 @@ fn names_imported(alloc: Global, scope: &Scope, desc: ExternDesc) -> Result<bool
 fn import_fault(
     alloc: Global,
     scope: &Scope,
+    types: &TypeTable,
     import: &ComponentImport,
     item: &ItemType,
 ) -> Result<Option<u32>, NoMemory>
-    ensures { IfOk result (λ rule. (around : List Space) → (s : Space) → Stands s scope.now → desc_stands (lengths_of s) import.now.desc ≡ true → item_of item.now ≡ described s import.now.desc → rule ≡ fault around s (AnImport import.now)) }
+    ensures { IfOk result (λ rule. (around : List Space) → (s : Space) → Stands s scope.now → Covers types.now s → desc_stands (lengths_of s) import.now.desc ≡ true → item_of item.now ≡ described s import.now.desc → rule ≡ fault around s (AnImport import.now)) }
 {
-    let imported = names_imported(alloc, scope, import.desc)?;
+    let imported = names_imported(alloc, scope, types, import.desc)?;
     if !imported {
         return Ok(Some(8));
     }
@@ -78,12 +87,13 @@ fn add_import(
 fn define_described(
     alloc: Global,
     scope: &mut Scope,
+    types: &TypeTable,
     import: &ComponentImport,
     d: &Described,
 ) -> Result<Option<u32>, NoMemory>
-    ensures { IfOk result (λ rule. (around : List Space) → (s : Space) → Stands s scope.old → desc_stands (lengths_of s) import.now.desc ≡ true → IsDescribed s import.now.desc d.now → Judged around s (AnImport import.now) scope.new rule) }
+    ensures { IfOk result (λ rule. (around : List Space) → (s : Space) → Stands s scope.old → Covers types.now s → desc_stands (lengths_of s) import.now.desc ≡ true → IsDescribed s import.now.desc d.now → Judged around s (AnImport import.now) scope.new rule) }
 {
-    match import_fault(alloc, scope, import, &d.item)? {
+    match import_fault(alloc, scope, types, import, &d.item)? {
         Some(rule) => Ok(Some(rule)),
         None => {
             add_import(alloc, scope, import, d)?;
@@ -96,14 +106,15 @@ fn define_described(
 pub fn define_import(
     alloc: Global,
     scope: &mut Scope,
+    types: &mut TypeTable,
     import: &ComponentImport,
 ) -> Result<Option<u32>, NoMemory>
-    ensures { IfOk result (λ rule. (around : List Space) → (s : Space) → Stands s scope.old → Judged around s (AnImport import.now) scope.new rule) }
+    ensures { IfOk result (λ rule. (around : List Space) → (s : Space) → Stands s scope.old → Covers types.old s → Judged around s (AnImport import.now) scope.new rule × Makes types.old types.new s (AnImport import.now) rule) }
 {
     if !desc_stands(&scope.lengths(), import.desc) {
         return Ok(Some(3));
     }
-    let d = describe(alloc, scope, import.desc)?;
-    let rule = define_described(alloc, scope, import, &d)?;
+    let d = describe(alloc, scope, types, import.desc)?;
+    let rule = define_described(alloc, scope, types, import, &d)?;
     Ok(rule)
 }

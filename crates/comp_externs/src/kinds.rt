@@ -5,12 +5,15 @@ ghost use Rattle.comp_types.specs.Rules.{desc_has_kind, if_there, is_func, is_in
 ghost use Rattle.comp_types.specs.Spaces.{Space, kind_at};
 ghost use Rattle.comp_types.specs.Types.{func_in};
 ghost use Rattle.comp_scopes.specs.Stands.{Stands};
+ghost use Rattle.type_table.specs.Tables.{HasKind};
+ghost use Rattle.type_table.specs.Covers.{Covers};
 
 use comp_functions::{is_func_at, is_instance_at};
 use comp_resources::{Resources, resources_of_kind};
 use comp_scopes::Scope;
 use comp_types::TypeItem;
 use std::alloc::Global;
+use type_table::TypeTable;
 use virt_base::NoMemory;
 use wasm_ast::ExternDesc;
 
@@ -26,39 +29,53 @@ pub fn desc_has_kind(scope: &Scope, desc: ExternDesc) -> bool
     }
 }
 
-fn resources_of_func(alloc: Global, kind: &TypeItem) -> Result<Resources, NoMemory>
-    ensures { IfOk result (λ rs. rs ≡ distinct (named_in_func (func_in (Some (kind_of kind.now))))) }
+fn resources_of_func(
+    alloc: Global,
+    types: &TypeTable,
+    kind: &TypeItem,
+) -> Result<Resources, NoMemory>
+    ensures { IfOk result (λ rs. HasKind types.now (kind_of kind.now) → rs ≡ distinct (named_in_func (func_in (Some (kind_of kind.now))))) }
 {
     match kind {
         TypeItem::Resource(_) => Ok(Resources::none(alloc)),
         TypeItem::Value(_) => Ok(Resources::none(alloc)),
         TypeItem::Func(_) => {
-            let found = resources_of_kind(alloc, kind)?;
+            let found = resources_of_kind(alloc, types, kind)?;
             Ok(found)
         }
         TypeItem::Instance(_) => Ok(Resources::none(alloc)),
     }
 }
 
-fn resources_of_func_at(alloc: Global, scope: &Scope, index: u32) -> Result<Resources, NoMemory>
-    ensures { IfOk result (λ rs. (s : Space) → Stands s scope.now → rs ≡ distinct (named_in_func (func_in (kind_at s index)))) }
+fn resources_of_func_at(
+    alloc: Global,
+    scope: &Scope,
+    types: &TypeTable,
+    index: u32,
+) -> Result<Resources, NoMemory>
+    ensures { IfOk result (λ rs. (s : Space) → Stands s scope.now → Covers types.now s → rs ≡ distinct (named_in_func (func_in (kind_at s index)))) }
 {
     match scope.kind_at(index) {
         None => Ok(Resources::none(alloc)),
         Some(kind) => {
-            let found = resources_of_func(alloc, kind)?;
+            let found = resources_of_func(alloc, types, kind)?;
             Ok(found)
         }
     }
 }
 
-fn resources_at(alloc: Global, scope: &Scope, index: u32) -> Result<Resources, NoMemory>
-    ensures { IfOk result (λ rs. (s : Space) → Stands s scope.now → rs ≡ distinct (named_at (kind_at s index))) }
+fn resources_at(
+    alloc: Global,
+    scope: &Scope,
+    types: &TypeTable,
+    index: u32,
+) -> Result<Resources, NoMemory>
+    ensures { IfOk result (λ rs. (s : Space) → Stands s scope.now → Covers types.now s → rs ≡ distinct (named_at (kind_at s index))) }
 {
     match scope.kind_at(index) {
         None => Ok(Resources::none(alloc)),
         Some(kind) => {
-            let found = resources_of_kind(alloc, kind)?;
+            let found = resources_of_kind(alloc, types, kind)?;
             Ok(found)
         }
     }
@@ -68,22 +85,23 @@ fn resources_at(alloc: Global, scope: &Scope, index: u32) -> Result<Resources, N
 pub fn resources_of_desc(
     alloc: Global,
     scope: &Scope,
+    types: &TypeTable,
     desc: ExternDesc,
 ) -> Result<Resources, NoMemory>
-    ensures { IfOk result (λ rs. (s : Space) → Stands s scope.now → rs ≡ distinct (named_in_desc s desc)) }
+    ensures { IfOk result (λ rs. (s : Space) → Stands s scope.now → Covers types.now s → rs ≡ distinct (named_in_desc s desc)) }
 {
     match desc {
         ExternDesc::Func(index) => {
-            let found = resources_of_func_at(alloc, scope, index)?;
+            let found = resources_of_func_at(alloc, scope, types, index)?;
             Ok(found)
         }
         ExternDesc::TypeEq(index) => {
-            let found = resources_at(alloc, scope, index)?;
+            let found = resources_at(alloc, scope, types, index)?;
             Ok(found)
         }
         ExternDesc::Resource => Ok(Resources::none(alloc)),
         ExternDesc::Instance(index) => {
-            let found = resources_at(alloc, scope, index)?;
+            let found = resources_at(alloc, scope, types, index)?;
             Ok(found)
         }
     }

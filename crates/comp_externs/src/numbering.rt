@@ -2,11 +2,13 @@ ghost use Rattle.std.specs.Prelude.{◌≡◌, ◌++◌, [], ◌∷◌, List, �
 ghost use Rattle.std.specs.List.{list_all};
 ghost use Rattle.comp_types.specs.GivenResources.{distinct, is_among, named_in, without};
 ghost use Rattle.comp_scopes.specs.Numbers.{HasNumbers};
+ghost use Rattle.type_table.specs.Tables.{HasEntries};
 
 use comp_resources::{Resources, resources_of_entries};
 use comp_scopes::Numbers;
 use comp_types::InstanceEntries;
 use std::alloc::Global;
+use type_table::TypeTable;
 use virt_base::{Items, NoMemory};
 
 /// Adds numbers in order.
@@ -54,12 +56,13 @@ fn those_without(alloc: Global, these: &[u32], others: &Numbers) -> Result<Items
 /// The resources in what a component exports that no import gives.
 pub fn own_resources(
     alloc: Global,
+    types: &TypeTable,
     exports: &InstanceEntries,
     imported: &Numbers,
 ) -> Result<Items<u32>, NoMemory>
-    ensures { IfOk result (λ own. (rs : List ℕ) → HasNumbers rs imported.now → own ≡ without rs (distinct (named_in exports.now))) }
+    ensures { IfOk result (λ own. HasEntries types.now exports.now → (rs : List ℕ) → HasNumbers rs imported.now → own ≡ without rs (distinct (named_in exports.now))) }
 {
-    let found = resources_of_entries(alloc, exports)?;
+    let found = resources_of_entries(alloc, types, exports)?;
     let own = those_without(alloc, found.as_slice(), imported)?;
     Ok(own)
 }

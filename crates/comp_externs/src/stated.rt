@@ -9,44 +9,52 @@ ghost use Rattle.comp_types.specs.Rules.{IsInstanceOf, IsKind, IsStated, as_they
 ghost use Rattle.comp_types.specs.Spaces.{Space, kind_at};
 ghost use Rattle.comp_types.specs.Types.{instance_in};
 ghost use Rattle.comp_scopes.specs.Stands.{Stands};
+ghost use Rattle.type_table.specs.Tables.{HasEntries, HasItem, HasKind};
+ghost use Rattle.type_table.specs.Covers.{Covers, HasSome};
 ghost use Rattle.comp_externs.specs.Takes.{TakesAlike};
 
 use comp_functions::func_at;
 use comp_resources::resources_of_kind;
 use comp_scopes::Scope;
-use comp_types::{
-    DeclaredInstance, InstanceType, ItemType, Substitution, TypeItem, equal, subtype,
-};
+use comp_types::{DeclaredInstance, InstanceType, ItemType, Substitution, TypeItem};
 use std::alloc::Global;
+use type_relations::{equal, subtype};
+use type_table::TypeTable;
 use virt_base::NoMemory;
 use wasm_ast::ExternDesc;
 
 fn is_stated_func(
     alloc: Global,
     scope: &Scope,
+    types: &TypeTable,
     given: &Option<ItemType>,
     index: u32,
 ) -> Result<bool, NoMemory>
-    ensures { IfOk result (λ fits. (s : Space) → Stands s scope.now → Decides fits (IsStated s (option_map item_of given.now) (AFunc index))) }
+    ensures { IfOk result (λ fits. (s : Space) → Stands s scope.now → Covers types.now s → HasSome types.now (option_map item_of given.now) → Decides fits (IsStated s (option_map item_of given.now) (AFunc index))) }
 {
     match given {
         None => Ok(false),
         Some(item) => {
             let ty = ItemType::Func(func_at(alloc, scope, index)?);
-            let same = equal(alloc, item, &ty)?;
+            let same = equal(alloc, types, item, &ty)?;
             Ok(same)
         }
     }
 }
 
-fn is_kind(alloc: Global, given: &Option<ItemType>, kind: &TypeItem) -> Result<bool, NoMemory>
-    ensures { IfOk result (λ fits. Decides fits (IsKind (option_map item_of given.now) (Some (kind_of kind.now)))) }
+fn is_kind(
+    alloc: Global,
+    types: &TypeTable,
+    given: &Option<ItemType>,
+    kind: &TypeItem,
+) -> Result<bool, NoMemory>
+    ensures { IfOk result (λ fits. HasSome types.now (option_map item_of given.now) → HasKind types.now (kind_of kind.now) → Decides fits (IsKind (option_map item_of given.now) (Some (kind_of kind.now)))) }
 {
     match given {
         None => Ok(false),
         Some(item) => {
             let ty = ItemType::Kind(kind.copy()?);
-            let same = equal(alloc, item, &ty)?;
+            let same = equal(alloc, types, item, &ty)?;
             Ok(same)
         }
     }
@@ -55,15 +63,16 @@ fn is_kind(alloc: Global, given: &Option<ItemType>, kind: &TypeItem) -> Result<b
 fn is_stated_type(
     alloc: Global,
     scope: &Scope,
+    types: &TypeTable,
     given: &Option<ItemType>,
     index: u32,
 ) -> Result<bool, NoMemory>
-    ensures { IfOk result (λ fits. (s : Space) → Stands s scope.now → Decides fits (IsStated s (option_map item_of given.now) (AType index))) }
+    ensures { IfOk result (λ fits. (s : Space) → Stands s scope.now → Covers types.now s → HasSome types.now (option_map item_of given.now) → Decides fits (IsStated s (option_map item_of given.now) (AType index))) }
 {
     match scope.kind_at(index) {
         None => Ok(true),
         Some(kind) => {
-            let same = is_kind(alloc, given, kind)?;
+            let same = is_kind(alloc, types, given, kind)?;
             Ok(same)
         }
     }
@@ -99,31 +108,33 @@ fn as_they_are(alloc: Global, these: &[u32]) -> Result<Substitution, NoMemory>
 /// Whether an instance has each entry of an instance type, of which the resources that it declares are any.
 fn is_instance_of_type(
     alloc: Global,
+    types: &TypeTable,
     given: &InstanceType,
     kind: &TypeItem,
     ty: &DeclaredInstance,
 ) -> Result<bool, NoMemory>
-    ensures { IfOk result (λ fits. Decides fits (IsSubtype given.now.entries ty.now.instance.value.entries (as_they_are (named_in_kind (kind_of kind.now))))) }
+    ensures { IfOk result (λ fits. HasEntries types.now given.now.entries → HasKind types.now (kind_of kind.now) → HasEntries types.now ty.now.instance.value.entries → Decides fits (IsSubtype given.now.entries ty.now.instance.value.entries (as_they_are (named_in_kind (kind_of kind.now))))) }
 {
-    let named = resources_of_kind(alloc, kind)?;
+    let named = resources_of_kind(alloc, types, kind)?;
     let matched = as_they_are(alloc, named.as_slice())?;
-    let fits = subtype(alloc, given, &ty.instance, &matched)?;
+    let fits = subtype(alloc, types, given, &ty.instance, &matched)?;
     Ok(fits)
 }
 
 fn is_instance_of_kind(
     alloc: Global,
+    types: &TypeTable,
     given: &InstanceType,
     kind: &TypeItem,
 ) -> Result<bool, NoMemory>
-    ensures { IfOk result (λ fits. Decides fits (IsInstanceOf (Some (InstanceItem given.now.entries)) (instance_in (Some (kind_of kind.now))))) }
+    ensures { IfOk result (λ fits. HasEntries types.now given.now.entries → HasKind types.now (kind_of kind.now) → Decides fits (IsInstanceOf (Some (InstanceItem given.now.entries)) (instance_in (Some (kind_of kind.now))))) }
 {
     match kind {
         TypeItem::Resource(_) => Ok(true),
         TypeItem::Value(_) => Ok(true),
         TypeItem::Func(_) => Ok(true),
         TypeItem::Instance(ty) => {
-            let fits = is_instance_of_type(alloc, given, kind, ty)?;
+            let fits = is_instance_of_type(alloc, types, given, kind, ty)?;
             Ok(fits)
         }
     }
@@ -132,28 +143,35 @@ fn is_instance_of_kind(
 fn is_instance_at(
     alloc: Global,
     scope: &Scope,
+    types: &TypeTable,
     given: &InstanceType,
     index: u32,
 ) -> Result<bool, NoMemory>
-    ensures { IfOk result (λ fits. (s : Space) → Stands s scope.now → Decides fits (IsInstanceOf (Some (InstanceItem given.now.entries)) (instance_in (kind_at s index)))) }
+    ensures { IfOk result (λ fits. (s : Space) → Stands s scope.now → Covers types.now s → HasEntries types.now given.now.entries → Decides fits (IsInstanceOf (Some (InstanceItem given.now.entries)) (instance_in (kind_at s index)))) }
 {
     match scope.kind_at(index) {
         None => Ok(true),
         Some(kind) => {
-            let fits = is_instance_of_kind(alloc, given, kind)?;
+            let fits = is_instance_of_kind(alloc, types, given, kind)?;
             Ok(fits)
         }
     }
 }
 
-fn is_item_at(alloc: Global, scope: &Scope, item: &ItemType, index: u32) -> Result<bool, NoMemory>
-    ensures { IfOk result (λ fits. (s : Space) → Stands s scope.now → Decides fits (IsInstanceOf (Some (item_of item.now)) (instance_in (kind_at s index)))) }
+fn is_item_at(
+    alloc: Global,
+    scope: &Scope,
+    types: &TypeTable,
+    item: &ItemType,
+    index: u32,
+) -> Result<bool, NoMemory>
+    ensures { IfOk result (λ fits. (s : Space) → Stands s scope.now → Covers types.now s → HasItem types.now (item_of item.now) → Decides fits (IsInstanceOf (Some (item_of item.now)) (instance_in (kind_at s index)))) }
 {
     match item {
         ItemType::Func(_) => Ok(false),
         ItemType::Kind(_) => Ok(false),
         ItemType::Instance(given) => {
-            let fits = is_instance_at(alloc, scope, given, index)?;
+            let fits = is_instance_at(alloc, scope, types, given, index)?;
             Ok(fits)
         }
     }
@@ -162,15 +180,16 @@ fn is_item_at(alloc: Global, scope: &Scope, item: &ItemType, index: u32) -> Resu
 fn is_stated_instance(
     alloc: Global,
     scope: &Scope,
+    types: &TypeTable,
     given: &Option<ItemType>,
     index: u32,
 ) -> Result<bool, NoMemory>
-    ensures { IfOk result (λ fits. (s : Space) → Stands s scope.now → Decides fits (IsStated s (option_map item_of given.now) (AnInstance index))) }
+    ensures { IfOk result (λ fits. (s : Space) → Stands s scope.now → Covers types.now s → HasSome types.now (option_map item_of given.now) → Decides fits (IsStated s (option_map item_of given.now) (AnInstance index))) }
 {
     match given {
         None => Ok(false),
         Some(item) => {
-            let fits = is_item_at(alloc, scope, item, index)?;
+            let fits = is_item_at(alloc, scope, types, item, index)?;
             Ok(fits)
         }
     }
@@ -180,23 +199,24 @@ fn is_stated_instance(
 pub fn is_stated(
     alloc: Global,
     scope: &Scope,
+    types: &TypeTable,
     given: &Option<ItemType>,
     desc: ExternDesc,
 ) -> Result<bool, NoMemory>
-    ensures { IfOk result (λ fits. (s : Space) → Stands s scope.now → Decides fits (IsStated s (option_map item_of given.now) desc)) }
+    ensures { IfOk result (λ fits. (s : Space) → Stands s scope.now → Covers types.now s → HasSome types.now (option_map item_of given.now) → Decides fits (IsStated s (option_map item_of given.now) desc)) }
 {
     match desc {
         ExternDesc::Func(index) => {
-            let fits = is_stated_func(alloc, scope, given, index)?;
+            let fits = is_stated_func(alloc, scope, types, given, index)?;
             Ok(fits)
         }
         ExternDesc::TypeEq(index) => {
-            let fits = is_stated_type(alloc, scope, given, index)?;
+            let fits = is_stated_type(alloc, scope, types, given, index)?;
             Ok(fits)
         }
         ExternDesc::Resource => Ok(is_resource(given)),
         ExternDesc::Instance(index) => {
-            let fits = is_stated_instance(alloc, scope, given, index)?;
+            let fits = is_stated_instance(alloc, scope, types, given, index)?;
             Ok(fits)
         }
     }

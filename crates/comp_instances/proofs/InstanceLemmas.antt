@@ -20,6 +20,8 @@ use Rattle.comp_types.proofs.FaultLaws.{all_hold, least_fails, arguments_fail}
 use Rattle.comp_scopes.specs.declared.scope.Scope.{Scope}
 use Rattle.comp_scopes.specs.Judged.{Judged}
 use Rattle.comp_scopes.specs.Stands.{Stands}
+use Rattle.type_table.specs.Tables.{Types, HasEntries}
+use Rattle.type_table.specs.Anew.{HasInstantiated}
 use Rattle.comp_describes.proofs.StandLemmas.{stands-next}
 use Rattle.comp_instances.specs.Instances.{IsMadeAt}
 use Rattle.comp_instances.specs.declared.made.Made.{Made}
@@ -62,6 +64,11 @@ stands_made s x None args made m h = stands-next (and_item s (InstanceItem End))
 stands_made s x (Some c) args made m h =
     let es = renamed (given_by args c.signature.imports ++ numbered c.own s.next) c.signature.exports in
     stands-next (and_item s (InstanceItem es)) x (s.next + length c.own) made.next (stands-entries s x made.instance.value.entries es m.exports h) m.next
+
+-- its types are those that the table has
+pub has_made : (types : Types) (s : Space) (o : Option NestedComponent) (args : Entries) (made : Made) → IsMadeAt s o args made → HasEntries types made.instance.value.entries → HasInstantiated types s o args
+has_made types s None args made m h = tt
+has_made types s (Some c) args made m h = subst (HasEntries types) m.exports h
 
 -- ---- the least rule of an instance that is written out
 

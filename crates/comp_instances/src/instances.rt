@@ -8,6 +8,8 @@ ghost use Rattle.comp_types.specs.Rules.{instance_stands, lengths_of};
 ghost use Rattle.comp_types.specs.Spaces.{Space, and_item};
 ghost use Rattle.comp_scopes.specs.Judged.{Judged};
 ghost use Rattle.comp_scopes.specs.Stands.{Stands};
+ghost use Rattle.type_table.specs.Anew.{Makes};
+ghost use Rattle.type_table.specs.Covers.{Covers};
 
 use crate::inline::{named_items, names_fit};
 use crate::instantiate::define_instantiated;
@@ -16,6 +18,7 @@ use comp_scopes::Scope;
 use comp_types::InstanceType;
 use std::alloc::Global;
 use std::rc::Rc;
+use type_table::TypeTable;
 use virt_base::NoMemory;
 use wasm_ast::{Instance, NamedItem};
 
@@ -71,16 +74,17 @@ fn define_inline(
 pub fn define_instance(
     alloc: Global,
     scope: &mut Scope,
+    types: &mut TypeTable,
     instance: &Instance,
 ) -> Result<Option<u32>, NoMemory>
-    ensures { IfOk result (λ rule. (around : List Space) → (s : Space) → Stands s scope.old → Judged around s (AnInstance instance.now) scope.new rule) }
+    ensures { IfOk result (λ rule. (around : List Space) → (s : Space) → Stands s scope.old → Covers types.old s → Judged around s (AnInstance instance.now) scope.new rule × Makes types.old types.new s (AnInstance instance.now) rule) }
 {
     if !instance_stands(&scope.lengths(), instance) {
         return Ok(Some(3));
     }
     match instance {
         Instance::Instantiate { component, args } => {
-            let rule = define_instantiated(alloc, scope, *component, args.as_slice())?;
+            let rule = define_instantiated(alloc, scope, types, *component, args.as_slice())?;
             Ok(rule)
         }
         Instance::Inline { exports } => {

@@ -8,7 +8,10 @@ ghost use Rattle.comp_types.specs.Spaces.{NestedComponent, Space};
 ghost use Rattle.comp_scopes.specs.Judged.{Judged};
 ghost use Rattle.comp_scopes.specs.Stands.{IsNested, Stands};
 ghost use Rattle.comp_types.specs.Items.{End};
-ghost use Rattle.comp_instances.specs.Instances.{IsMade, IsMadeAt};
+ghost use Rattle.comp_instances.specs.Instances.{IsKept, IsMade, IsMadeAt};
+ghost use Rattle.type_table.specs.Anew.{HasInstantiated, Makes};
+ghost use Rattle.type_table.specs.Covers.{Covers, HasNested};
+ghost use Rattle.type_table.specs.Tables.{Grew, HasEntries};
 
 use crate::given::add_given;
 use crate::inline::named_items;
@@ -16,25 +19,28 @@ use crate::made::Made;
 use comp_describes::give_numbers;
 use comp_indexes::names_differ;
 use comp_scopes::{KnownComponent, Scope};
-use comp_types::{InstanceEntries, InstanceType, Substitution, entries_with, is_given};
+use comp_types::{InstanceEntries, InstanceType, Substitution};
 use std::alloc::Global;
 use std::rc::Rc;
+use type_relations::{entries_with, is_given};
+use type_table::TypeTable;
 use virt_base::NoMemory;
 use wasm_ast::NamedItem;
 
 /// The instance of a component with these arguments, whose own resources have the numbers from the next one on.
 fn instantiate(
     alloc: Global,
+    types: &mut TypeTable,
     component: &KnownComponent,
     args: &InstanceEntries,
     next: u32,
 ) -> Result<Made, NoMemory>
-    ensures { IfOk result (λ made. (c : NestedComponent) → IsNested c component.now → IsMade c args.now next made) }
+    ensures { IfOk result (λ made. (c : NestedComponent) → IsNested c component.now → HasNested types.old c → IsMade c args.now next made × IsKept types.old types.new made) }
 {
     let mut by = Substitution::empty(alloc);
     add_given(&mut by, args, component.imports.as_slice())?;
     let fresh = give_numbers(alloc, by, component.own.as_slice(), next)?;
-    let entries = entries_with(alloc, &component.exports, &fresh.by)?;
+    let entries = entries_with(alloc, types, &component.exports, &fresh.by)?;
     let instance = Rc::new(alloc, InstanceType { entries })?;
     Ok(Made {
         instance,
@@ -54,10 +60,11 @@ fn make_nothing(alloc: Global, next: u32) -> Result<Made, NoMemory>
 fn instance_of(
     alloc: Global,
     scope: &Scope,
+    types: &mut TypeTable,
     component: u32,
     args: &InstanceEntries,
 ) -> Result<Made, NoMemory>
-    ensures { IfOk result (λ made. (s : Space) → Stands s scope.now → IsMadeAt s (slice_get s.components component) args.now made) }
+    ensures { IfOk result (λ made. (s : Space) → Stands s scope.now → Covers types.old s → IsMadeAt s (slice_get s.components component) args.now made × IsKept types.old types.new made) }
 {
     match scope.component_at(component) {
         None => {
@@ -65,7 +72,7 @@ fn instance_of(
             Ok(made)
         }
         Some(known) => {
-            let made = instantiate(alloc, known.get(), args, scope.next)?;
+            let made = instantiate(alloc, types, known.get(), args, scope.next)?;
             Ok(made)
         }
     }
@@ -74,12 +81,13 @@ fn instance_of(
 fn add_instantiated(
     alloc: Global,
     scope: &mut Scope,
+    types: &mut TypeTable,
     component: u32,
     args: &InstanceEntries,
 ) -> Result<(), NoMemory>
-    ensures { OnOk result ((s : Space) → Stands s scope.old → Stands (and_instantiated s (slice_get s.components component) args.now) scope.new) }
+    ensures { OnOk result ((s : Space) → Stands s scope.old → Covers types.old s → Stands (and_instantiated s (slice_get s.components component) args.now) scope.new × Grew types.old types.new × HasInstantiated types.new s (slice_get s.components component) args.now) }
 {
-    let made = instance_of(alloc, scope, component, args)?;
+    let made = instance_of(alloc, scope, types, component, args)?;
     scope.add_instance(made.instance)?;
     scope.next = made.next;
     Ok(())
@@ -89,15 +97,16 @@ fn add_instantiated(
 fn are_given(
     alloc: Global,
     scope: &Scope,
+    types: &TypeTable,
     component: u32,
     args: &InstanceEntries,
 ) -> Result<bool, NoMemory>
-    ensures { IfOk result (λ fits. (s : Space) → Stands s scope.now → Decides fits (MeetsComponent args.now (slice_get s.components component))) }
+    ensures { IfOk result (λ fits. (s : Space) → Stands s scope.now → Covers types.now s → HasEntries types.now args.now → Decides fits (MeetsComponent args.now (slice_get s.components component))) }
 {
     match scope.component_at(component) {
         None => Ok(true),
         Some(known) => {
-            let fits = is_given(alloc, args, &known.get().imports)?;
+            let fits = is_given(alloc, types, args, &known.get().imports)?;
             Ok(fits)
         }
     }
@@ -107,20 +116,21 @@ fn are_given(
 pub fn define_instantiated(
     alloc: Global,
     scope: &mut Scope,
+    types: &mut TypeTable,
     component: u32,
     args: &[NamedItem],
 ) -> Result<Option<u32>, NoMemory>
-    ensures { IfOk result (λ rule. (around : List Space) → (s : Space) → Stands s scope.old → instance_stands (lengths_of s) (Instantiate component args.now) ≡ true → Judged around s (AnInstance (Instantiate component args.now)) scope.new rule) }
+    ensures { IfOk result (λ rule. (around : List Space) → (s : Space) → Stands s scope.old → Covers types.old s → instance_stands (lengths_of s) (Instantiate component args.now) ≡ true → Judged around s (AnInstance (Instantiate component args.now)) scope.new rule × Makes types.old types.new s (AnInstance (Instantiate component args.now)) rule) }
 {
     let differ = names_differ(alloc, args)?;
     if !differ {
         return Ok(Some(23));
     }
     let entries = named_items(alloc, scope, args)?;
-    let fits = are_given(alloc, scope, component, &entries)?;
+    let fits = are_given(alloc, scope, types, component, &entries)?;
     if !fits {
         return Ok(Some(23));
     }
-    add_instantiated(alloc, scope, component, &entries)?;
+    add_instantiated(alloc, scope, types, component, &entries)?;
     Ok(None)
 }

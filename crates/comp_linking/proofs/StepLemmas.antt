@@ -12,6 +12,9 @@ use Rattle.comp_around.specs.declared.scopes.Scopes.{Scopes}
 use Rattle.comp_around.specs.Around.{StandAll}
 use Rattle.comp_around.specs.Judged.{JudgedIn}
 use Rattle.comp_around.proofs.Inner.{judged_inner}
+use Rattle.type_table.specs.Tables.{Types, Grew}
+use Rattle.type_table.specs.Anew.{HasNew, Makes}
+use Rattle.type_table.proofs.HasLaws.{grew_same, grew_then}
 use Rattle.comp_link.specs.Plans.{Scope, followed, planned_by, scope_after}
 use Rattle.comp_plans.specs.declared.items.PlanItem.{PlanItem}
 use Rattle.comp_plans.specs.Planned.{PlannedComponent, plan_items}
@@ -45,13 +48,29 @@ behind_item ms todo outer a d x y draft item h stand scope known m k i p =
       outer = h.outer;
     }
 
+-- a definition that makes value types anew, which the table keeps
+pub behind_made : (ms todo : List (Held Module)) (outer : List At) (a : At) (d : Definition) (x : Planner) (y : Kept) (types : Types) (rule : Option ℕ) (draft : Draft) (item : Option PlanItem)
+    → Walks ms todo outer a x → Makes x.scopes.types types a.space d rule → Judged (spaces outer) a.space d y rule → ((r : ℕ) → BreaksDefinition (spaces outer) a.space d r → ⊥)
+    → scope_after (scopes outer) a.scope d ≡ a.scope → (after (spaces outer) a.space d).components ≡ a.space.components
+    → draft.modules.items ≡ x.inner.modules.items → draft.components.items ≡ x.inner.components.items
+    → ((ms' : List (Held Module)) (cs' : List PlannedComponent) → plan_items ms' cs' draft.items.items ≡ followed (plan_items ms' cs' x.inner.items.items) (some_item ms' cs' item))
+    → ((more : List PlannedComponent) → some_item ms (made ms x.components.items ++ more) item ≡ planned_by a.scope a.space d)
+    → Walks ms todo outer (at_after outer a d) (record x { scopes = record x.scopes { inner = y; types = types }; inner = draft })
+behind_made ms todo outer a d x y types rule draft item h makes judged none scope known m k i p =
+    let z : Scopes = record x.scopes { inner = y; types = types } in
+    behind_item ms todo outer a d x z draft item h (stands_after (spaces outer) a.space d z rule none (judged_inner (spaces outer) a.space d x.scopes y types rule h.scopes makes judged)) scope known m k i p
+
+-- one that makes none
 pub behind_judged : (ms todo : List (Held Module)) (outer : List At) (a : At) (d : Definition) (x : Planner) (y : Kept) (rule : Option ℕ) (draft : Draft) (item : Option PlanItem)
-    → Walks ms todo outer a x → Judged (spaces outer) a.space d y rule → ((r : ℕ) → BreaksDefinition (spaces outer) a.space d r → ⊥)
+    → Walks ms todo outer a x → HasNew x.scopes.types a.space d → Judged (spaces outer) a.space d y rule → ((r : ℕ) → BreaksDefinition (spaces outer) a.space d r → ⊥)
     → scope_after (scopes outer) a.scope d ≡ a.scope → (after (spaces outer) a.space d).components ≡ a.space.components
     → draft.modules.items ≡ x.inner.modules.items → draft.components.items ≡ x.inner.components.items
     → ((ms' : List (Held Module)) (cs' : List PlannedComponent) → plan_items ms' cs' draft.items.items ≡ followed (plan_items ms' cs' x.inner.items.items) (some_item ms' cs' item))
     → ((more : List PlannedComponent) → some_item ms (made ms x.components.items ++ more) item ≡ planned_by a.scope a.space d)
     → Walks ms todo outer (at_after outer a d) (record x { scopes = record x.scopes { inner = y }; inner = draft })
-behind_judged ms todo outer a d x y rule draft item h judged none scope known m k i p =
-    let z : Scopes = record x.scopes { inner = y } in
-    behind_item ms todo outer a d x z draft item h (stands_after (spaces outer) a.space d z rule none (judged_inner (spaces outer) a.space d x.scopes y rule h.scopes judged)) scope known m k i p
+behind_judged ms todo outer a d x y rule draft item h has judged none scope known m k i p =
+    behind_made ms todo outer a d x y x.scopes.types rule draft item h (grew_same x.scopes.types, λ e. has) judged none scope known m k i p
+
+-- where the table grew before
+pub makes_behind : (old mid new : Types) (s : Space) (d : Definition) (rule : Option ℕ) → Grew old mid → Makes mid new s d rule → Makes old new s d rule
+makes_behind old mid new s d rule grew makes = (grew_then old mid new grew makes.0, makes.1)

@@ -45,7 +45,12 @@ impl Planned for Instance {
 
     fn plan(&self, alloc: Global, planner: &mut Planner) -> Result<(), NoMemory> {
         let item = instance_item(alloc, &planner.inner, &planner.scopes.inner, self)?;
-        define_instance(alloc, &mut planner.scopes.inner, self)?;
+        define_instance(
+            alloc,
+            &mut planner.scopes.inner,
+            &mut planner.scopes.types,
+            self,
+        )?;
         planner.inner.add(item)?;
         Ok(())
     }
@@ -128,8 +133,18 @@ impl Planned for ComponentImport {
     ghost definition = { λ i. AnImport i };
 
     fn plan(&self, alloc: Global, planner: &mut Planner) -> Result<(), NoMemory> {
-        let item = import_item(alloc, &planner.scopes.inner, self)?;
-        define_import(alloc, &mut planner.scopes.inner, self)?;
+        let item = import_item(
+            alloc,
+            &planner.scopes.inner,
+            &mut planner.scopes.types,
+            self,
+        )?;
+        define_import(
+            alloc,
+            &mut planner.scopes.inner,
+            &mut planner.scopes.types,
+            self,
+        )?;
         planner.inner.add(Some(item))?;
         Ok(())
     }
@@ -139,8 +154,18 @@ impl Planned for ComponentExport {
     ghost definition = { λ e. AnExport e };
 
     fn plan(&self, alloc: Global, planner: &mut Planner) -> Result<(), NoMemory> {
-        let item = export_item(alloc, &planner.scopes.inner, self)?;
-        define_export(alloc, &mut planner.scopes.inner, self)?;
+        let item = export_item(
+            alloc,
+            &planner.scopes.inner,
+            &mut planner.scopes.types,
+            self,
+        )?;
+        define_export(
+            alloc,
+            &mut planner.scopes.inner,
+            &mut planner.scopes.types,
+            self,
+        )?;
         planner.inner.add(Some(item))?;
         Ok(())
     }

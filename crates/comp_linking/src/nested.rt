@@ -48,7 +48,12 @@ pub fn leave(alloc: Global, planner: &mut Planner) -> Result<(), NoMemory>
     ensures { OnOk result ((ms todo : List (Held Module)) (outer : List At) (t a : At) → Walks ms todo (t ∷ outer) a planner.old → Walks ms todo outer (at_nested t a) planner.new) }
 {
     let exports = planner.scopes.inner.exports.entries();
-    let own = own_resources(alloc, exports, &planner.scopes.inner.imported)?;
+    let own = own_resources(
+        alloc,
+        &planner.scopes.types,
+        exports,
+        &planner.scopes.inner.imported,
+    )?;
     close_nested(alloc, &mut planner.scopes)?;
     keep_plan(planner, own)
 }

@@ -34,7 +34,7 @@ fn type_fault(
     if !scopes.leaves(count) {
         return Ok(None);
     }
-    let none = names_none(alloc, &entry.kind)?;
+    let none = names_none(alloc, &scopes.types, &entry.kind)?;
     if none { Ok(None) } else { Ok(Some(8)) }
 }
 

@@ -154,7 +154,7 @@ or_true : (b : Bool) → (b || true) ≡ true
 or_true true = refl
 or_true false = refl
 
-once-has : (g : List ℕ) (x : ℕ) → is_among (and_once g x) x ≡ true
+pub once-has : (g : List ℕ) (x : ℕ) → is_among (and_once g x) x ≡ true
 once-has g x = once-among g x x ∙ (ap (λ b. is_among g x || b) ((Decides-eqb x x).1 refl) ∙ or_true (is_among g x))
 
 head : (p : ℕ → Bool) (f : List ℕ) (x : ℕ) (ds xs : List ℕ) (b : Bool) → p x ≡ b → ((g : List ℕ) → and_each g (filter p ds) ≡ and_each g (filter p xs))

@@ -1,5 +1,5 @@
 -- Resources in order, each once.
-use Rattle.std.specs.Prelude.{ℕ, List, [], ◌∷◌, ◌++◌, if◌then◌else◌}
+use Rattle.std.specs.Prelude.{◌≡◌, ℕ, List, [], ◌∷◌, ◌++◌, true, ⊤, if◌then◌else◌}
 use Rattle.comp_types.specs.GivenResources.{is_among}
 
 -- with this one too, unless it is there
@@ -10,3 +10,8 @@ and_once rs r = if is_among rs r then rs else rs ++ r ∷ []
 abbrev pub and_each : List ℕ → List ℕ → List ℕ
 and_each rs [] = rs
 and_each rs (x ∷ xs) = and_each (and_once rs x) xs
+
+-- each of these is among them
+abbrev pub AreAmong : List ℕ → List ℕ → Type 0
+AreAmong rs [] = ⊤
+AreAmong rs (x ∷ xs) = (is_among rs x ≡ true) × AreAmong rs xs

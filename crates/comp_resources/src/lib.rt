@@ -2,7 +2,9 @@
 #![tactic(auto)]
 
 mod items;
+mod nodes;
 mod resources;
+mod search;
 mod values;
 
 pub use items::{names_none, resources_of_entries, resources_of_kind};

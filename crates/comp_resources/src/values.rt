@@ -1,15 +1,14 @@
 #![tactic(auto, using(wit_types::proofs::PlainLemmas::plains, crate::proofs::ValueLemmas::values))]
 
 ghost use Rattle.std.specs.Prelude.{◌≡◌, OnOk};
-ghost use Rattle.wit_types.specs.Plain.{plain, fields_of, types_of, cases_of, payload_of, plain_func, plain_result};
-ghost use Rattle.comp_types.specs.GivenResources.{named_in_answer, named_in_func, named_in_parts, named_in_value};
+ghost use Rattle.wit_types.specs.Plain.{plain, fields_of, types_of, cases_of, payload_of};
+ghost use Rattle.comp_types.specs.GivenResources.{named_in_answer, named_in_parts, named_in_value};
 ghost use Rattle.comp_resources.specs.Once.{and_each};
 
 use crate::resources::Resources;
-use comp_types::{KnownFunc, KnownValue};
 use std::rc::Rc;
 use virt_base::NoMemory;
-use wit_types::{Case, Field, FuncType, WitType};
+use wit_types::{Case, Field, WitType};
 
 #[cycle(add_value)]
 fn add_payload(found: &mut Resources, ty: &Option<Rc<WitType>>) -> Result<(), NoMemory>
@@ -56,7 +55,7 @@ fn add_cases(found: &mut Resources, cases: &[Case]) -> Result<(), NoMemory>
 
 /// Adds the resources of the handles in a type.
 #[cycle(add_value)]
-fn add_value(found: &mut Resources, ty: &WitType) -> Result<(), NoMemory>
+pub fn add_value(found: &mut Resources, ty: &WitType) -> Result<(), NoMemory>
     ensures { OnOk result (found.new ≡ and_each found.old (named_in_value (plain ty.now))) }
 {
     match ty {
@@ -99,46 +98,4 @@ fn add_value(found: &mut Resources, ty: &WitType) -> Result<(), NoMemory>
             Ok(())
         }
     }
-}
-
-fn add_answer(found: &mut Resources, ty: &Option<WitType>) -> Result<(), NoMemory>
-    ensures { OnOk result (found.new ≡ and_each found.old (named_in_answer (plain_result ty.now))) }
-{
-    match ty {
-        None => Ok(()),
-        Some(ty) => {
-            add_value(found, ty)?;
-            Ok(())
-        }
-    }
-}
-
-fn add_func(found: &mut Resources, ty: &FuncType) -> Result<(), NoMemory>
-    ensures { OnOk result (found.new ≡ and_each found.old (named_in_func (plain_func ty.now))) }
-{
-    add_fields(found, &ty.params.items)?;
-    add_answer(found, &ty.result)?;
-    Ok(())
-}
-
-/// Adds the resources of the handles in a type; one without handles is not walked.
-pub fn add_known_value(found: &mut Resources, known: &KnownValue) -> Result<(), NoMemory>
-    ensures { OnOk result (found.new ≡ and_each found.old (named_in_value known.now)) }
-{
-    if !known.facts().handles {
-        return Ok(());
-    }
-    add_value(found, known.ty())?;
-    Ok(())
-}
-
-/// Adds the resources of the handles in the type of a function; one without handles is not walked.
-pub fn add_known_func(found: &mut Resources, known: &KnownFunc) -> Result<(), NoMemory>
-    ensures { OnOk result (found.new ≡ and_each found.old (named_in_func known.now)) }
-{
-    if !known.facts().has_handle() {
-        return Ok(());
-    }
-    add_func(found, known.ty())?;
-    Ok(())
 }

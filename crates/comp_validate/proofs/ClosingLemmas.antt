@@ -11,6 +11,8 @@ use Rattle.comp_scopes.specs.Stands.{Stands}
 use Rattle.comp_around.specs.declared.scopes.Scopes.{Scopes}
 use Rattle.comp_around.specs.Around.{StandAll}
 use Rattle.comp_around.proofs.Inner.{inner_stands}
+use Rattle.type_table.specs.Covers.{Covers}
+use Rattle.type_table.proofs.ScopeLaws.{covers_closed}
 use Rattle.comp_validate.specs.Closing.{Closes, ClosesIn}
 
 pub under : (x d most : ℕ) → d ≡ min x (most + 1) → nat_le d most ≡ nat_le x most
@@ -35,6 +37,6 @@ numbered t e x next n d k h f i j = record {
   };
 }
 
-pub closes_in : (around : List Space) (t s : Space) (x : Scopes) (y : Scope) (rule : Option ℕ) → StandAll around t x → Closes t s y rule → ClosesIn around t s (record x { inner = y }) rule
-closes_in around t s x y None h k = (k.0, inner_stands around t _ x y h k.1 refl)
-closes_in around t s x y (Some rule) h k = k
+pub closes_in : (around : List Space) (t s : Space) (x : Scopes) (y : Scope) (rule : Option ℕ) → StandAll around t x → Covers x.types s → Closes t s y rule → ClosesIn around t s (record x { inner = y }) rule
+closes_in around t s x y None h covers k = (k.0, inner_stands around t _ x y x.types h k.1 refl (covers_closed x.types t s (instance_type s).depth h.covered.0 covers, h.covered.1))
+closes_in around t s x y (Some rule) h covers k = k

@@ -6,9 +6,11 @@ ghost use Rattle.comp_around.specs.Around.{StandAll};
 ghost use Rattle.comp_around.specs.Judged.{JudgedIn};
 ghost use Rattle.comp_scopes.specs.Judged.{Judged};
 ghost use Rattle.comp_scopes.specs.Stands.{Stands};
+ghost use Rattle.type_table.specs.Anew.{Makes};
+ghost use Rattle.type_table.specs.Covers.{Covers};
 ghost use Rattle.comp_validate.specs.Rest.{alone, item_count};
 
-use crate::walks::{parts_of_desc, parts_of_type_alias};
+use crate::walks::{walked_by_desc, walked_by_type_alias};
 use comp_around::Scopes;
 use comp_defining::define_type;
 use comp_externs::define_type_export;
@@ -16,6 +18,7 @@ use comp_instances::define_type_export_alias;
 use comp_outer::define_outer_type;
 use comp_scopes::Scope;
 use std::alloc::Global;
+use type_table::TypeTable;
 use virt_base::NoMemory;
 use wasm_ast::{KeptType, TypeAlias, TypeItem};
 
@@ -30,11 +33,16 @@ pub fn item_count(item: &TypeItem) -> Option<u32>
     }
 }
 
-fn define_kept(alloc: Global, scope: &mut Scope, kept: &KeptType) -> Result<Option<u32>, NoMemory>
-    ensures { IfOk result (λ rule. (around : List Space) → (s : Space) → Stands s scope.old → Judged around s (AType (ATypeDef kept.now)) scope.new rule) }
+fn define_kept(
+    alloc: Global,
+    scope: &mut Scope,
+    types: &mut TypeTable,
+    kept: &KeptType,
+) -> Result<Option<u32>, NoMemory>
+    ensures { IfOk result (λ rule. (around : List Space) → (s : Space) → Stands s scope.old → Covers types.old s → Judged around s (AType (ATypeDef kept.now)) scope.new rule × Makes types.old types.new s (AType (ATypeDef kept.now)) rule) }
 {
     let def = kept.def(alloc)?;
-    define_type(alloc, scope, &def)
+    define_type(alloc, scope, types, &def)
 }
 
 fn define_type_alias(
@@ -56,18 +64,18 @@ fn add_alone(alloc: Global, scopes: &mut Scopes, item: &TypeItem) -> Result<Opti
     ensures { IfOk result (λ rule. (around : List Space) → (s : Space) → StandAll around s scopes.old → JudgedIn around s (AType (alone item.now)) scopes.new rule) }
 {
     match item {
-        TypeItem::Define(def) => define_kept(alloc, &mut scopes.inner, def),
+        TypeItem::Define(def) => define_kept(alloc, &mut scopes.inner, &mut scopes.types, def),
         TypeItem::Alias(alias) => define_type_alias(alloc, scopes, alias),
         TypeItem::Export { name, desc } => {
-            define_type_export(alloc, &mut scopes.inner, name, *desc)
+            define_type_export(alloc, &mut scopes.inner, &mut scopes.types, name, *desc)
         }
     }
 }
 
 fn walked(scopes: &Scopes, item: &TypeItem) -> u64 {
     match item {
-        TypeItem::Alias(alias) => parts_of_type_alias(scopes, alias),
-        TypeItem::Export { name: _, desc } => parts_of_desc(&scopes.inner, *desc),
+        TypeItem::Alias(alias) => walked_by_type_alias(scopes, alias),
+        TypeItem::Export { name: _, desc } => walked_by_desc(&scopes.inner, *desc),
         TypeItem::Define(_) => 0,
     }
 }
@@ -80,7 +88,7 @@ pub fn define_alone(
 ) -> Result<Option<u32>, NoMemory>
     ensures { IfOk result (λ rule. (around : List Space) → (s : Space) → StandAll around s scopes.old → JudgedIn around s (AType (alone item.now)) scopes.new rule) }
 {
-    let parts = walked(scopes, item);
-    scopes.walk(parts)?;
+    let entries = walked(scopes, item);
+    scopes.walk(entries)?;
     add_alone(alloc, scopes, item)
 }

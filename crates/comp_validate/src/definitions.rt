@@ -4,7 +4,7 @@ ghost use Rattle.comp_types.specs.Spaces.{Space};
 ghost use Rattle.comp_around.specs.Around.{StandAll};
 ghost use Rattle.comp_around.specs.Judged.{JudgedEach, JudgedIn};
 
-use crate::walks::{parts_of_alias, parts_of_export, parts_of_import, parts_of_instance};
+use crate::walks::{walked_by_alias, walked_by_export, walked_by_import, walked_by_instance};
 use comp_around::Scopes;
 use comp_externs::{define_export, define_import};
 use comp_instances::{define_export_alias, define_instance};
@@ -21,7 +21,7 @@ pub trait Defines {
 
     ghost definition: { Self → Definition };
 
-    /// How many parts of types it is judged by walking over.
+    /// How many entries of types it is judged by walking over.
     fn walked(&self, scopes: &Scopes) -> u64;
 
     /// The least rule that it breaks, or else it is added.
@@ -45,11 +45,11 @@ impl Defines for Instance {
     ghost definition = { λ i. AnInstance i };
 
     fn walked(&self, scopes: &Scopes) -> u64 {
-        parts_of_instance(&scopes.inner, self)
+        walked_by_instance(&scopes.inner, self)
     }
 
     fn define(&self, alloc: Global, scopes: &mut Scopes) -> Result<Option<u32>, NoMemory> {
-        define_instance(alloc, &mut scopes.inner, self)
+        define_instance(alloc, &mut scopes.inner, &mut scopes.types, self)
     }
 }
 
@@ -57,7 +57,7 @@ impl Defines for Alias {
     ghost definition = { λ a. AnAlias a };
 
     fn walked(&self, scopes: &Scopes) -> u64 {
-        parts_of_alias(scopes, self)
+        walked_by_alias(scopes, self)
     }
 
     fn define(&self, alloc: Global, scopes: &mut Scopes) -> Result<Option<u32>, NoMemory> {
@@ -95,11 +95,11 @@ impl Defines for ComponentImport {
     ghost definition = { λ i. AnImport i };
 
     fn walked(&self, scopes: &Scopes) -> u64 {
-        parts_of_import(&scopes.inner, self)
+        walked_by_import(&scopes.inner, self)
     }
 
     fn define(&self, alloc: Global, scopes: &mut Scopes) -> Result<Option<u32>, NoMemory> {
-        define_import(alloc, &mut scopes.inner, self)
+        define_import(alloc, &mut scopes.inner, &mut scopes.types, self)
     }
 }
 
@@ -107,11 +107,11 @@ impl Defines for ComponentExport {
     ghost definition = { λ e. AnExport e };
 
     fn walked(&self, scopes: &Scopes) -> u64 {
-        parts_of_export(&scopes.inner, self)
+        walked_by_export(&scopes.inner, self)
     }
 
     fn define(&self, alloc: Global, scopes: &mut Scopes) -> Result<Option<u32>, NoMemory> {
-        define_export(alloc, &mut scopes.inner, self)
+        define_export(alloc, &mut scopes.inner, &mut scopes.types, self)
     }
 }
 
@@ -123,8 +123,8 @@ fn define_counted<T: Defines>(
 ) -> Result<Option<u32>, NoMemory>
     ensures { IfOk result (λ rule. (around : List Space) → (s : Space) → StandAll around s scopes.old → JudgedIn around s (T.definition item.now) scopes.new rule) }
 {
-    let parts = item.walked(scopes);
-    scopes.walk(parts)?;
+    let entries = item.walked(scopes);
+    scopes.walk(entries)?;
     item.define(alloc, scopes)
 }
 

@@ -7,7 +7,6 @@ ghost use Rattle.comp_around.specs.Around.{StandAll};
 ghost use Rattle.comp_validate.specs.Judged.{JudgedPart};
 
 use crate::nested::add_nested;
-use crate::walks::searched_in;
 use comp_around::Scopes;
 use comp_scopes::{Shared, valid_module};
 use std::alloc::Global;
@@ -37,7 +36,7 @@ fn add_closed(alloc: Global, scopes: &mut Scopes) -> Result<(), NoMemory>
 {
     match scopes.close() {
         None => Ok(()),
-        Some(inner) => add_nested(alloc, &mut scopes.inner, inner),
+        Some(inner) => add_nested(alloc, &mut scopes.inner, &scopes.types, inner),
     }
 }
 
@@ -45,7 +44,7 @@ fn add_closed(alloc: Global, scopes: &mut Scopes) -> Result<(), NoMemory>
 pub fn close_nested(alloc: Global, scopes: &mut Scopes) -> Result<(), NoMemory>
     ensures { OnOk result ((around : List Space) → (t s : Space) → StandAll (t ∷ around) s scopes.old → StandAll around (and_nested t s) scopes.new) }
 {
-    let parts = searched_in(scopes.inner.exports.entries());
-    scopes.walk(parts)?;
+    let walked = scopes.inner.exports.entries().walked();
+    scopes.walk(u64::from(walked))?;
     add_closed(alloc, scopes)
 }

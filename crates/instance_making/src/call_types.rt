@@ -1,10 +1,11 @@
 ghost use Rattle.std.specs.Prelude.{◌≡◌, IfOk};
 ghost use Rattle.comp_types.specs.Substitution.{partner_in, func_with};
 
-use comp_types::{ItemType, KnownFunc, Substitution, substitute};
+use comp_types::{KnownFunc, Substitution};
 use instance_values::CallType;
 use std::alloc::Global;
 use std::rc::Rc;
+use type_relations::func_alone;
 use virt_base::NoMemory;
 
 /// The type of calls of a function. One of more than 1,000,000 parts, which no valid component has, counts as no memory.
@@ -17,22 +18,6 @@ pub fn call_type(alloc: Global, func: Rc<KnownFunc>) -> Result<CallType, NoMemor
     CallType::new(alloc, func)
 }
 
-/// The type of a function with other resources.
-fn func_with(
-    alloc: Global,
-    ty: &Rc<KnownFunc>,
-    by: &Substitution,
-) -> Result<Rc<KnownFunc>, NoMemory>
-    ensures { IfOk result (λ new. new.value ≡ func_with (partner_in by.now) ty.now.value) }
-{
-    let own = ItemType::Func(ty.clone()?);
-    match substitute(alloc, &own, by)? {
-        ItemType::Func(new) => Ok(new),
-        ItemType::Instance(_) => unreachable!(),
-        ItemType::Kind(_) => unreachable!(),
-    }
-}
-
 /// The same of the function with other resources.
 pub fn call_type_with(
     alloc: Global,
@@ -41,6 +26,6 @@ pub fn call_type_with(
 ) -> Result<CallType, NoMemory>
     ensures { IfOk result (λ new. new ≡ func_with (partner_in by.now) ty.now.value) }
 {
-    let func = func_with(alloc, ty, by)?;
+    let func = func_alone(alloc, ty, by)?;
     call_type(alloc, func)
 }

@@ -10,7 +10,7 @@ use Rattle.comp_linking.proofs.definitions.plan_export_alias.Goals as goal
 
 pub returns : goal.returns
 returns c = λ ms todo outer a valid h.
-    behind_judged ms todo outer a (AnAlias (Export c.args.sort c.args.instance c.args.name.now)) c.args.planner.now c.define_export_alias.new.scope c.in_ok-define_export_alias.field-0 c.add.new.self (Some (items.ItemOf c.args.sort c.args.instance c.in_ok-copy.copy)) h
+    behind_judged ms todo outer a (AnAlias (Export c.args.sort c.args.instance c.args.name.now)) c.args.planner.now c.define_export_alias.new.scope c.in_ok-define_export_alias.field-0 c.add.new.self (Some (items.ItemOf c.args.sort c.args.instance c.in_ok-copy.copy)) h tt
     (c.in_ok-define_export_alias.ensures (spaces outer) a.space h.scopes.inner) (λ r b. b.0 (valid r)) refl (export_alias_stays (spaces outer) a.space c.args.sort c.args.instance c.args.name.now)
     c.in_ok-add.ensures.modules c.in_ok-add.ensures.components c.in_ok-add.ensures.items
     (λ more. ap (λ name. just (ItemOf c.args.sort c.args.instance name)) c.in_ok-copy.ensures)

@@ -1,10 +1,14 @@
 use Rattle.std.proofs.Common.{◌∙◌, ap, refl, sym, subst, slice_get, ◌∷◌}
 use Rattle.std.proofs.lemmas.Result.{on_ok_weaker}
 use Rattle.std.specs.Option.{option_and_then}
+use Rattle.wasm_ast.specs.declared.component.Alias.TheVariants.{Outer}
+use Rattle.wasm_ast.specs.declared.component.OuterSort.TheVariants as sorts
 use Rattle.comp_scopes.proofs.EachLemmas.{none_of, some_of}
 use Rattle.comp_scopes.specs.Found.{EachSome, IsKnownModule}
 use Rattle.comp_types.specs.Spaces.{Space}
 use Rattle.comp_types.specs.Added.{and_module, and_some_module}
+use Rattle.type_table.specs.Covers.{Covers}
+use Rattle.type_table.proofs.ScopeLaws.{covers_alias}
 use Rattle.comp_around.specs.Around.{StandAll}
 use Rattle.comp_around.proofs.Inner.{inner_stands}
 use Rattle.comp_outer.proofs.OuterLemmas.{added_module}
@@ -21,5 +25,8 @@ returns-in-Some c =
     on_ok_weaker c.add_module.result (λ k around s h.
     let o = slice_get (s ∷ around) c.args.count in
     let e = some_of IsKnownModule (option_and_then (λ (t : Space). slice_get t.core_modules c.args.index) o) c.in-Some.known (subst (EachSome IsKnownModule (option_and_then (λ (t : Space). slice_get t.core_modules c.args.index) o)) c.in-Some.is (c.in_ok-module_at.ensures around s h)) in
-    subst (λ (t : Space). StandAll around t (record c.args.scopes.now { inner = c.add_module.new.self })) (sym (added_module s o c.args.index ∙ ap (and_some_module s) e.1))
-    (inner_stands around s (and_module s e.0) c.args.scopes.now c.add_module.new.self h (k s e.0 h.inner e.2) refl)) c.add_module.ensures
+    let x = c.args.scopes.now in
+    let same = added_module s o c.args.index ∙ ap (and_some_module s) e.1 in
+    let covers = subst (Covers x.types) same (covers_alias x.types around s (Outer sorts.CoreModule c.args.count c.args.index) h.covered.0 h.covered.1) in
+    subst (λ (t : Space). StandAll around t (record x { inner = c.add_module.new.self })) (sym same)
+    (inner_stands around s (and_module s e.0) x c.add_module.new.self x.types h (k s e.0 h.inner e.2) refl (covers, h.covered.1))) c.add_module.ensures

@@ -1,12 +1,13 @@
-use Rattle.std.proofs.Common.{◌≡◌, ◌+◌, drop}
+use Rattle.std.proofs.Common.{◌+◌, drop}
 use Rattle.comp_types.specs.Sizes.{item_size, kind_size, entries_size}
 use Rattle.comp_types.specs.Views.{item_of, kind_of, entries_of}
 use Rattle.comp_types.specs.GivenResources.{named_in}
-use Rattle.comp_resources.specs.Once.{and_each}
+use Rattle.type_table.specs.Tables.{trees, HasEntries}
+use Rattle.comp_resources.proofs.SearchLemmas.{Going}
 use Rattle.comp_resources.proofs.items.+add_item.Given as goal
 
 abbrev pub invariant-add_slice-loop-entry : goal.invariant-add_slice-loop-entry
-invariant-add_slice-loop-entry l = and_each l.fn.found (named_in (entries_of l.entries)) ≡ and_each l.found (named_in (entries_of (drop l.entry-index l.entries)))
+invariant-add_slice-loop-entry l = HasEntries l.types (entries_of l.entries) → Going (trees l.types) l.fn.search l.search (named_in (entries_of l.entries)) (named_in (entries_of (drop l.entry-index l.entries)))
 
 abbrev pub decreases-add_item : goal.decreases-add_item
 decreases-add_item l = item_size (item_of l.ty.now)

@@ -11,8 +11,9 @@ use Rattle.comp_validate.proofs.declarations.add_alone.Goals as goal
 pub returns-in-Define : goal.returns-in-Define
 returns-in-Define c =
     IfOk-weaker c.define_kept.result _ _ (λ rule k around s h.
-    subst (λ (i : TypeItem). JudgedIn around s (AType (alone i)) (record c.args.scopes.now { inner = c.define_kept.new.scope }) rule) (sym c.in-Define.is)
-    (judged_inner around s (AType (ATypeDef c.in-Define.def)) c.args.scopes.now c.define_kept.new.scope rule h (k around s h.inner))) c.define_kept.ensures
+    subst (λ (i : TypeItem). JudgedIn around s (AType (alone i)) (record c.args.scopes.now { inner = c.define_kept.new.scope; types = c.define_kept.new.types }) rule) (sym c.in-Define.is)
+    (let both = k around s h.inner h.covered.0 in
+    judged_inner around s (AType (ATypeDef c.in-Define.def)) c.args.scopes.now c.define_kept.new.scope c.define_kept.new.types rule h both.1 both.0)) c.define_kept.ensures
 
 pub returns-in-Alias : goal.returns-in-Alias
 returns-in-Alias c =
@@ -22,6 +23,7 @@ returns-in-Alias c =
 pub returns-in-Export : goal.returns-in-Export
 returns-in-Export c =
     IfOk-weaker c.define_type_export.result _ _ (λ rule k around s h.
-    subst (λ (i : TypeItem). JudgedIn around s (AType (alone i)) (record c.args.scopes.now { inner = c.define_type_export.new.scope }) rule) (sym c.in-Export.is)
-    (subst (λ (n : List ℕ). JudgedIn around s (AType (ATypeExport n c.in-Export.desc)) (record c.args.scopes.now { inner = c.define_type_export.new.scope }) rule) c.deref.ensures
-    (judged_inner around s (AType (ATypeExport c.deref.result.now c.in-Export.desc)) c.args.scopes.now c.define_type_export.new.scope rule h (k around s h.inner)))) c.define_type_export.ensures
+    subst (λ (i : TypeItem). JudgedIn around s (AType (alone i)) (record c.args.scopes.now { inner = c.define_type_export.new.scope; types = c.define_type_export.new.types }) rule) (sym c.in-Export.is)
+    (subst (λ (n : List ℕ). JudgedIn around s (AType (ATypeExport n c.in-Export.desc)) (record c.args.scopes.now { inner = c.define_type_export.new.scope; types = c.define_type_export.new.types }) rule) c.deref.ensures
+    (let both = k around s h.inner h.covered.0 in
+    judged_inner around s (AType (ATypeExport c.deref.result.now c.in-Export.desc)) c.args.scopes.now c.define_type_export.new.scope c.define_type_export.new.types rule h both.1 both.0))) c.define_type_export.ensures

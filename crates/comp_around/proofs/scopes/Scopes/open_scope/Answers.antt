@@ -1,6 +1,7 @@
 use Rattle.std.proofs.Common.{sym, subst, refl, ℕ}
 use Rattle.comp_types.specs.Spaces.{empty_space}
 use Rattle.comp_scopes.specs.Stands.{Stands}
+use Rattle.type_table.proofs.ScopeLaws.{covers_empty}
 use Rattle.comp_around.proofs.AroundLemmas.{pushed}
 use Rattle.comp_around.proofs.scopes.Scopes.open_scope.Goals as goal
 
@@ -10,4 +11,5 @@ returns c = λ around s h e. record {
       (subst (λ (n : ℕ). Stands (empty_space c.args.is_component n) c.new-inner.result) h.inner.rest.next c.new-inner.ensures);
   inside = e;
   outer = pushed around s c.args.self.now _ _ h c.replace-scope.ensures.value refl c.in_ok-push.ensures.items;
+  covered = (covers_empty c.args.self.now.types c.args.is_component s.next h.covered.0.sound, h.covered);
 }

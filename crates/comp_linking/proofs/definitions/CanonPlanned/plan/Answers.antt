@@ -8,7 +8,7 @@ use Rattle.comp_linking.proofs.definitions.CanonPlanned.plan.Goals as goal
 pub returns : goal.returns
 returns c = λ ms todo outer a valid h.
     let x = c.args.planner.now in
-    behind_judged ms todo outer a (ACanon c.args.self.now) x c.define_canon.new.scope c.in_ok-define_canon.field-0 c.add.new.self c.in_ok-item.item h
+    behind_judged ms todo outer a (ACanon c.args.self.now) x c.define_canon.new.scope c.in_ok-define_canon.field-0 c.add.new.self c.in_ok-item.item h tt
     (c.in_ok-define_canon.ensures (spaces outer) a.space h.scopes.inner) (λ r b. b.0 (valid r)) refl (canon_stays (spaces outer) a.space c.args.self.now)
     c.in_ok-add.ensures.modules c.in_ok-add.ensures.components c.in_ok-add.ensures.items
     (λ more. c.in_ok-item.ensures ms (made ms x.components.items ++ more) a.space h.scopes.inner)

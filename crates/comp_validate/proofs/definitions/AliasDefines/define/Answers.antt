@@ -4,20 +4,20 @@ use Rattle.wasm_ast.specs.declared.component.Alias.{Alias}
 use Rattle.wasm_ast.specs.declared.component.Alias.TheVariants.{Export, CoreExport}
 use Rattle.comp_types.specs.Definitions.{AnAlias}
 use Rattle.comp_around.specs.Judged.{JudgedIn}
-use Rattle.comp_around.proofs.Inner.{judged_inner}
+use Rattle.comp_validate.proofs.InnerLemmas.{judged_shared}
 use Rattle.comp_validate.proofs.definitions.AliasDefines.define.Goals as goal
 
 pub returns-in-Export : goal.returns-in-Export
 returns-in-Export c =
     IfOk-weaker c.define_export_alias.result _ _ (λ rule k around s h.
     subst (λ (a : Alias). JudgedIn around s (AnAlias a) (record c.args.scopes.now { inner = c.define_export_alias.new.scope }) rule) (sym c.in-Export.is)
-    (judged_inner around s (AnAlias (Export c.in-Export.sort c.in-Export.instance c.in-Export.name)) c.args.scopes.now c.define_export_alias.new.scope rule h (k around s h.inner))) c.define_export_alias.ensures
+    (judged_shared around s (AnAlias (Export c.in-Export.sort c.in-Export.instance c.in-Export.name)) c.args.scopes.now c.define_export_alias.new.scope rule h tt (k around s h.inner))) c.define_export_alias.ensures
 
 pub returns-in-CoreExport : goal.returns-in-CoreExport
 returns-in-CoreExport c =
     IfOk-weaker c.define_core_alias.result _ _ (λ rule k around s h.
     subst (λ (a : Alias). JudgedIn around s (AnAlias a) (record c.args.scopes.now { inner = c.define_core_alias.new.scope }) rule) (sym c.in-CoreExport.is)
-    (judged_inner around s (AnAlias (CoreExport c.in-CoreExport.sort c.in-CoreExport.instance c.in-CoreExport.name)) c.args.scopes.now c.define_core_alias.new.scope rule h (k around s h.inner))) c.define_core_alias.ensures
+    (judged_shared around s (AnAlias (CoreExport c.in-CoreExport.sort c.in-CoreExport.instance c.in-CoreExport.name)) c.args.scopes.now c.define_core_alias.new.scope rule h tt (k around s h.inner))) c.define_core_alias.ensures
 
 pub returns-in-Outer : goal.returns-in-Outer
 returns-in-Outer c =
