@@ -1,42 +1,36 @@
 //! Types of items: labels, arguments, names, and the type of a component.
 
-ghost use Rattle.std.specs.Prelude.{◌≡◌, IfOk};
-ghost use Rattle.comp_facts.specs.Facts.{AreFactsOf};
-ghost use Rattle.wit_types.specs.Plain.{fields_of};
-
 use crate::rows::{Asked, hold, is_printed, number_in, parts, printed, same};
-use comp_facts::{Facts, PartFacts};
+use comp_facts::Facts;
 use comp_signature::ComponentType;
-use comp_types::{InstanceEntries, InstanceType, ItemType, KnownValue, TypeItem, equal, is_given};
+use comp_types::{InstanceEntries, InstanceType, ItemType, KnownValue, TypeItem};
 use std::alloc::Global;
 use std::rc::Rc;
 use std::test::Fail;
-use virt_base::{NoMemory, Text};
+use type_relations::{equal, is_given};
+use type_table::TypeTable;
+use virt_base::{Items, NoMemory, Text};
 use wasm_ast::Primitive;
-use wit_types::{Field, Fields, WitType, copy_type};
+use wit_types::{Field, Fields, WitType};
 
 #[tactic(auto, using(wit_types::proofs::PlainLemmas::plains))]
-fn byte() -> KnownValue {
-    KnownValue::new(WitType::U8, Facts::primitive(Primitive::U8))
+fn byte(alloc: Global) -> KnownValue {
+    KnownValue::new(
+        WitType::U8,
+        Facts::primitive(Primitive::U8),
+        Items::empty(alloc),
+    )
 }
 
-fn one(alloc: Global, name: &str, value: &KnownValue) -> Result<(Vec<Field>, PartFacts), NoMemory>
-    ensures { IfOk result (λ made. AreFactsOf (fields_of made.0.items) made.1) }
-{
+/// A record of one field, a byte.
+fn record(alloc: Global, name: &str) -> Result<WitType, NoMemory> {
     let mut items = Vec::new(alloc);
     let name = Text::from_str(alloc, name)?;
-    let ty = copy_type(alloc, value.ty())?;
-    items.push(Field { name, ty })?;
-    let mut facts = PartFacts::none();
-    facts.add(value.facts());
-    Ok((items, facts))
-}
-
-/// A record of one field.
-fn record(alloc: Global, name: &str, value: &KnownValue) -> Result<KnownValue, NoMemory> {
-    let (items, facts) = one(alloc, name, value)?;
-    let ty = WitType::Record(Rc::new(alloc, Fields { items })?);
-    Ok(KnownValue::new(ty, Facts::record(&facts)))
+    items.push(Field {
+        name,
+        ty: WitType::U8,
+    })?;
+    Ok(WitType::Record(Rc::new(alloc, Fields { items })?))
 }
 
 fn value(alloc: Global, value: KnownValue) -> Result<ItemType, Fail> {
@@ -72,7 +66,10 @@ fn found(
 ) -> Result<Option<bool>, Fail> {
     let name = Text::from_str(alloc, name)?;
     match all.look_up(&name) {
-        Some(ty) => Ok(Some(equal(alloc, ty, &resource(number))?)),
+        Some(ty) => {
+            let none = TypeTable::none(alloc);
+            Ok(Some(equal(alloc, &none, ty, &resource(number))?))
+        }
         None => Ok(None),
     }
 }
@@ -132,19 +129,24 @@ a-b a-b => (true, true)
 a-b A-b => (false, false)
 a-b a-bc => (false, false)";
 
-fn record_of(alloc: Global, label: &str) -> Result<ItemType, Fail> {
-    value(alloc, record(alloc, label, &byte())?)
+fn record_of(alloc: Global, types: &mut TypeTable, label: &str) -> Result<ItemType, Fail> {
+    let ty = record(alloc, label)?;
+    Ok(ItemType::Kind(TypeItem::Value(types.add_whole(alloc, &ty)?)))
 }
 
-fn both_ways(alloc: Global, a: &ItemType, b: &ItemType) -> Result<String, Fail> {
-    printed(alloc, &(equal(alloc, a, b)?, equal(alloc, b, a)?))
+fn both_ways(alloc: Global, types: &TypeTable, a: &ItemType, b: &ItemType) -> Result<String, Fail> {
+    printed(
+        alloc,
+        &(equal(alloc, types, a, b)?, equal(alloc, types, b, a)?),
+    )
 }
 
 pub fn equals(alloc: Global, asked: &str) -> Result<String, Fail> {
     let (a, b) = parts(asked, " ")?;
-    let a = record_of(alloc, a)?;
-    let b = record_of(alloc, b)?;
-    both_ways(alloc, &a, &b)
+    let mut types = TypeTable::none(alloc);
+    let a = record_of(alloc, &mut types, a)?;
+    let b = record_of(alloc, &mut types, b)?;
+    both_ways(alloc, &types, &a, &b)
 }
 
 #[test]
@@ -154,7 +156,7 @@ fn labels(rt: HostRuntime) -> Result<(), Fail> {
 
 fn add_byte(alloc: Global, all: &mut InstanceEntries, name: &str) -> Result<(), Fail> {
     let name = Text::from_str(alloc, name)?;
-    Ok(all.push(name, value(alloc, byte())?)?)
+    Ok(all.push(name, value(alloc, byte(alloc))?)?)
 }
 
 /// An entry of a byte for each of one name or two.
@@ -195,7 +197,8 @@ pub fn given(alloc: Global, asked: &str) -> Result<String, Fail> {
     let (arguments, imports) = parts(asked, ", ")?;
     let arguments = instances(alloc, arguments)?;
     let imports = instances(alloc, imports)?;
-    printed(alloc, &is_given(alloc, &arguments, &imports)?)
+    let none = TypeTable::none(alloc);
+    printed(alloc, &is_given(alloc, &none, &arguments, &imports)?)
 }
 
 #[test]

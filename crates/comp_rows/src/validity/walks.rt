@@ -1,4 +1,4 @@
-//! How much of types, written out, is walked over at most.
+//! How many entries of types, written out, are walked over at most.
 
 use super::answer;
 use crate::rows::same;
@@ -33,8 +33,20 @@ fn large_function(alloc: Global) -> Result<Vec<u8>, Fail> {
     Ok(types)
 }
 
-/// So many imports of that function, under names of four digits.
-fn imports_of(alloc: Global, count: usize) -> Result<Vec<u8>, Fail> {
+/// 17 instance types, each exporting two instances of the one before it, so that the last has 262,142 entries when it is written out.
+fn large_instance(alloc: Global) -> Result<Vec<u8>, Fail> {
+    let mut types = Vec::new(alloc);
+    types.extend_from_slice(&[18, 0x42, 0])?;
+    for i in 0..17u8 {
+        types.extend_from_slice(&[0x42, 3, 2, 3, 2, 1, i])?;
+        types.extend_from_slice(&[4, 0, 1, b'a', 5, 0])?;
+        types.extend_from_slice(&[4, 0, 1, b'b', 5, 0])?;
+    }
+    Ok(types)
+}
+
+/// So many imports that are described so, under names of four digits.
+fn imports_of(alloc: Global, desc: [u8; 2], count: usize) -> Result<Vec<u8>, Fail> {
     let mut imports = Vec::new(alloc);
     put_number(&mut imports, count)?;
     for i in 0..count {
@@ -42,17 +54,22 @@ fn imports_of(alloc: Global, count: usize) -> Result<Vec<u8>, Fail> {
         for power in [1000, 100, 10, 1] {
             imports.push(b'0' + (i / power % 10) as u8)?;
         }
-        imports.extend_from_slice(&[1, 19])?;
+        imports.extend_from_slice(&desc)?;
     }
     Ok(imports)
 }
 
-/// A component in which another one with these imports is instantiated without arguments.
-fn given_nothing(alloc: Global, count: usize) -> Result<Vec<u8>, Fail> {
+/// A component in which another one with these types and so many such imports is instantiated without arguments.
+fn given_nothing(
+    alloc: Global,
+    types: &[u8],
+    desc: [u8; 2],
+    count: usize,
+) -> Result<Vec<u8>, Fail> {
     let mut inner = Vec::new(alloc);
     inner.extend_from_slice(&PREAMBLE)?;
-    put_section(&mut inner, 7, large_function(alloc)?.as_slice())?;
-    put_section(&mut inner, 10, imports_of(alloc, count)?.as_slice())?;
+    put_section(&mut inner, 7, types)?;
+    put_section(&mut inner, 10, imports_of(alloc, desc, count)?.as_slice())?;
     let mut outer = Vec::new(alloc);
     outer.extend_from_slice(&PREAMBLE)?;
     put_section(&mut outer, 4, inner.as_slice())?;
@@ -60,12 +77,29 @@ fn given_nothing(alloc: Global, count: usize) -> Result<Vec<u8>, Fail> {
     Ok(outer)
 }
 
+/// Entries of instances count as often as they stand there.
 #[test]
 fn walks_have_a_bound(rt: HostRuntime) -> Result<(), Fail> {
-    for (count, wanted) in [(1_000, "rule 23 in section 1"), (1_100, "no memory")] {
-        let bytes = given_nothing(rt.alloc(), count)?;
+    let types = large_instance(rt.alloc())?;
+    for (count, wanted) in [(2_000, "rule 23 in section 1"), (2_100, "no memory")] {
+        let bytes = given_nothing(rt.alloc(), types.as_slice(), [5, 17], count)?;
         let found = answer(rt.alloc(), bytes.as_slice())?;
-        same(&rt, "types compared", found.as_str(), wanted);
+        same(&rt, "instances compared", found.as_str(), wanted);
     }
+    Ok(())
+}
+
+/// A value type counts as one, however large it is written out.
+#[test]
+fn value_types_are_one_step(rt: HostRuntime) -> Result<(), Fail> {
+    let types = large_function(rt.alloc())?;
+    let bytes = given_nothing(rt.alloc(), types.as_slice(), [1, 19], 4_000)?;
+    let found = answer(rt.alloc(), bytes.as_slice())?;
+    same(
+        &rt,
+        "functions compared",
+        found.as_str(),
+        "rule 23 in section 1",
+    );
     Ok(())
 }
