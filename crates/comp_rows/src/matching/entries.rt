@@ -32,7 +32,7 @@ fn item(alloc: Global, types: &mut Types, keyword: &str, rest: &str) -> Result<I
         "resource" => Ok(ItemType::Kind(TypeItem::Resource(number(rest)?))),
         "type" => {
             let value = types.value(alloc, rest)?;
-            Ok(ItemType::Kind(TypeItem::Value(Rc::new(alloc, value)?)))
+            Ok(ItemType::Kind(TypeItem::Value(value)))
         }
         "func" => function(types.func(alloc, rest)?),
         "functype" => Ok(ItemType::Kind(types.func(alloc, rest)?)),

@@ -6,6 +6,7 @@ use comp_kinds::{kind_of, value_at};
 use comp_scopes::Scope;
 use comp_types::{ItemType, KnownValue, TypeItem};
 use std::alloc::Global;
+use std::rc::Rc;
 use std::test::Fail;
 use virt_base::{Items, Text};
 use wasm_ast::{CaseType, LabelType, Labels, MaybeType, Primitive, TypeDef, ValType};
@@ -192,7 +193,7 @@ impl Types {
     }
 
     /// The value type that words spell.
-    pub fn value(&mut self, alloc: Global, text: &str) -> Result<KnownValue, Fail> {
+    pub fn value(&mut self, alloc: Global, text: &str) -> Result<Rc<KnownValue>, Fail> {
         let mut stack = self.stack(alloc, text)?;
         let ty = first_value(&mut stack)?;
         let value = value_at(alloc, &self.scope, ty)?;
