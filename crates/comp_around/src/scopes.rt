@@ -11,8 +11,11 @@ use std::mem;
 use type_table::TypeTable;
 use virt_base::NoMemory;
 
-/// A walk over more entries than these in all takes seconds.
-const MOST_WALKED: u64 = 536_870_912;
+/// A walk over so many entries takes half a second.
+const WALKED_IN_ANY: u64 = 16_777_216;
+
+/// So many more may be walked over for each definition: a component's time and memory stay in proportion to its length.
+const WALKED_FOR_EACH: u64 = 512;
 
 /// A scope further out, and how many instance types stand between it and its component.
 #[derive(Drop)]
@@ -31,8 +34,8 @@ pub struct Scopes {
     inside: usize,
     /// From the outside in.
     outer: Vec<Level>,
-    /// How many entries of types, written out, were walked over so far: no answer but `NoMemory` rests on it.
-    walked: u64,
+    /// How many entries of types, written out, may still be walked over: no answer but `NoMemory` rests on it.
+    left: u64,
 }
 
 impl Scopes {
@@ -47,20 +50,20 @@ impl Scopes {
             types: TypeTable::none(alloc),
             inside: 0,
             outer: Vec::new(alloc),
-            walked: 0,
+            left: WALKED_IN_ANY,
         }
     }
 
-    /// Counts entries of types that are to be compared, searched for resources or made anew: small components can have instances that
-    /// are large when they are written out, so that all such walks together have a bound.
+    /// Counts the entries of types that are to be compared, searched for resources or made anew for a definition: small components can
+    /// have instances that are large when they are written out, so that all such walks together have a bound.
     pub fn walk(&mut self, entries: u64) -> Result<(), NoMemory>
         ensures { OnOk result ((around : List Space) → (s : Space) → StandAll around s self.old → StandAll around s self.new) }
     {
-        let walked = self.walked.saturating_add(entries);
-        if walked > MOST_WALKED {
+        let left = self.left.saturating_add(WALKED_FOR_EACH);
+        let Some(left) = left.checked_sub(entries) else {
             return Err(NoMemory);
-        }
-        self.walked = walked;
+        };
+        self.left = left;
         Ok(())
     }
 

@@ -1,4 +1,4 @@
-//! How many entries of types, written out, are walked over at most.
+//! How many entries of types, written out, are walked over at most, and types that are not told apart by their keys.
 
 use super::answer;
 use crate::rows::same;
@@ -59,17 +59,30 @@ fn imports_of(alloc: Global, desc: [u8; 2], count: usize) -> Result<Vec<u8>, Fai
     Ok(imports)
 }
 
-/// A component in which another one with these types and so many such imports is instantiated without arguments.
+/// So many types of one byte.
+fn bytes_of(alloc: Global, count: usize) -> Result<Vec<u8>, Fail> {
+    let mut types = Vec::new(alloc);
+    put_number(&mut types, count)?;
+    for _ in 0..count {
+        types.push(0x7D)?;
+    }
+    Ok(types)
+}
+
+/// A component in which another one with these types, so many such imports and so many types of one byte is instantiated without
+/// arguments.
 fn given_nothing(
     alloc: Global,
     types: &[u8],
     desc: [u8; 2],
     count: usize,
+    spare: usize,
 ) -> Result<Vec<u8>, Fail> {
     let mut inner = Vec::new(alloc);
     inner.extend_from_slice(&PREAMBLE)?;
     put_section(&mut inner, 7, types)?;
     put_section(&mut inner, 10, imports_of(alloc, desc, count)?.as_slice())?;
+    put_section(&mut inner, 7, bytes_of(alloc, spare)?.as_slice())?;
     let mut outer = Vec::new(alloc);
     outer.extend_from_slice(&PREAMBLE)?;
     put_section(&mut outer, 4, inner.as_slice())?;
@@ -77,12 +90,16 @@ fn given_nothing(
     Ok(outer)
 }
 
-/// Entries of instances count as often as they stand there.
+/// Entries of instances count as often as they stand there: 262,143 an import, of 16,777,216 and 512 for each definition.
 #[test]
 fn walks_have_a_bound(rt: HostRuntime) -> Result<(), Fail> {
     let types = large_instance(rt.alloc())?;
-    for (count, wanted) in [(2_000, "rule 23 in section 1"), (2_100, "no memory")] {
-        let bytes = given_nothing(rt.alloc(), types.as_slice(), [5, 17], count)?;
+    for (count, spare, wanted) in [
+        (64, 0, "rule 23 in section 1"),
+        (65, 0, "no memory"),
+        (65, 500, "rule 23 in section 1"),
+    ] {
+        let bytes = given_nothing(rt.alloc(), types.as_slice(), [5, 17], count, spare)?;
         let found = answer(rt.alloc(), bytes.as_slice())?;
         same(&rt, "instances compared", found.as_str(), wanted);
     }
@@ -93,7 +110,7 @@ fn walks_have_a_bound(rt: HostRuntime) -> Result<(), Fail> {
 #[test]
 fn value_types_are_one_step(rt: HostRuntime) -> Result<(), Fail> {
     let types = large_function(rt.alloc())?;
-    let bytes = given_nothing(rt.alloc(), types.as_slice(), [1, 19], 4_000)?;
+    let bytes = given_nothing(rt.alloc(), types.as_slice(), [1, 19], 4_000, 0)?;
     let found = answer(rt.alloc(), bytes.as_slice())?;
     same(
         &rt,
@@ -101,5 +118,34 @@ fn value_types_are_one_step(rt: HostRuntime) -> Result<(), Fail> {
         found.as_str(),
         "rule 23 in section 1",
     );
+    Ok(())
+}
+
+/// A record type of one byte, under a name of so many letters: a word of Thue and Morse, or that with its two letters turned.
+fn put_record(out: &mut Vec<u8>, letters: usize, turned: u32) -> Result<(), Fail> {
+    out.extend_from_slice(&[0x72, 1])?;
+    put_number(out, letters)?;
+    for i in 0..letters {
+        out.push(b'a' + ((i.count_ones() % 2 + turned % 2) % 2) as u8)?;
+    }
+    out.push(0x7D)?;
+    Ok(())
+}
+
+/// Names of a length that is a power of two, the tenth or a higher one, have the same key then: a polynomial whose value at an odd
+/// number is a product of ten even factors or more, which is a multiple of 2^64. Unlike types of one key do not stand in a table.
+#[test]
+fn types_of_one_key(rt: HostRuntime) -> Result<(), Fail> {
+    for (letters, wanted) in [(512, "valid"), (1_024, "no memory")] {
+        let mut types = Vec::new(rt.alloc());
+        types.push(2)?;
+        put_record(&mut types, letters, 0)?;
+        put_record(&mut types, letters, 1)?;
+        let mut bytes = Vec::new(rt.alloc());
+        bytes.extend_from_slice(&PREAMBLE)?;
+        put_section(&mut bytes, 7, types.as_slice())?;
+        let found = answer(rt.alloc(), bytes.as_slice())?;
+        same(&rt, "two record types", found.as_str(), wanted);
+    }
     Ok(())
 }
