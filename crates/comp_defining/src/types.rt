@@ -10,13 +10,14 @@ ghost use Rattle.comp_scopes.specs.Stands.{Stands};
 ghost use Rattle.comp_types.specs.Views.{kind_of};
 ghost use Rattle.type_table.specs.Anew.{HasPartsOf, Makes};
 ghost use Rattle.type_table.specs.Covers.{Covers};
-ghost use Rattle.type_table.specs.Tables.{Grew, HasKind};
+ghost use Rattle.type_table.specs.Tables.{Grew, Has, HasKind, HasOwnParts};
 
 use crate::faults::type_fault;
 use comp_kinds::kind_of;
 use comp_scopes::{KnownEntry, Scope};
-use comp_types::TypeItem;
+use comp_types::{KnownValue, TypeItem};
 use std::alloc::Global;
+use std::rc::Rc;
 use type_table::TypeTable;
 use virt_base::NoMemory;
 use wasm_ast::TypeDef;
@@ -65,12 +66,20 @@ fn and_depth(scope: &mut Scope, depth: u32)
     scope.deepest = u32::max(scope.deepest, depth);
 }
 
+/// Adds a value type, whose parts are there, to the table.
+fn add_value(alloc: Global, types: &mut TypeTable, known: &Rc<KnownValue>) -> Result<(), NoMemory>
+    ensures { OnOk result (HasOwnParts types.old known.now.value → Grew types.old types.new × Has types.new known.now.value) }
+{
+    types.add(alloc, known.clone()?)?;
+    Ok(())
+}
+
 /// Keeps a value type, whose parts are there, in the table.
 fn keep_type(alloc: Global, types: &mut TypeTable, kind: &TypeItem) -> Result<(), NoMemory>
     ensures { OnOk result (HasPartsOf types.old (kind_of kind.now) → Grew types.old types.new × HasKind types.new (kind_of kind.now)) }
 {
     match kind {
-        TypeItem::Value(known) => types.add(alloc, known),
+        TypeItem::Value(known) => add_value(alloc, types, known),
         TypeItem::Resource(_) => Ok(()),
         TypeItem::Func(_) => Ok(()),
         TypeItem::Instance(_) => Ok(()),

@@ -5,7 +5,7 @@ ghost use Rattle.wit_types.specs.Plain.{Plain, plain, plain_func, plain_result, 
 ghost use Rattle.comp_facts.specs.Facts.{IsAnswerOf, IsFuncFactsOf};
 ghost use Rattle.comp_types.specs.GivenResources.{named_in_answer, named_in_func, named_in_parts, named_in_value};
 ghost use Rattle.comp_facts.specs.Keys.{key_of, keys_in};
-ghost use Rattle.type_table.specs.Nodes.{AreBelow, IsBelow, placed, type_at};
+ghost use Rattle.type_table.specs.Nodes.{AreBelow, IsBelow, placed};
 ghost use Rattle.type_table.specs.Tables.{trees, AreLinks, Has, HasAnswer, HasFunc, HasParts, IsSound, Leads};
 ghost use Rattle.type_table.specs.Slots.{slots_of};
 ghost use Rattle.comp_resources.specs.Searches.{Finds, named_in_slots};
@@ -14,19 +14,9 @@ use crate::search::Search;
 use crate::values::add_value;
 use comp_facts::{Facts, FuncFacts};
 use comp_types::{KnownFunc, KnownValue};
-use type_table::{Node, TypeTable, form_number, link_at, slot_at, slot_count};
+use type_table::{Node, TypeTable, form_number, link_at, part_type, slot_count};
 use virt_base::NoMemory;
 use wit_types::{Field, FuncType, WitType};
-
-/// The type of the part at an index, if it has one.
-fn part_type(ty: &WitType, index: usize) -> Option<&WitType>
-    ensures { option_map (λ ty. plain ty.now) result ≡ type_at (slots_of (plain ty.now)) index }
-{
-    match slot_at(ty, index) {
-        None => None,
-        Some(slot) => slot.ty,
-    }
-}
 
 /// Adds the resources of a part that is written out.
 fn add_written(search: &mut Search, ty: Option<&WitType>) -> Result<(), NoMemory>

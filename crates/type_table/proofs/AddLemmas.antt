@@ -1,15 +1,13 @@
 -- What becomes of a table to which a type is added, or is not since it stands there.
-use Rattle.std.proofs.Common.{◌≡◌, ◌∙◌, ◌<◌, ◌≤◌, ℕ, zero, suc, arith, ap, refl, sym, subst, Bool, true, false, Option, Some, None, List, [], ◌∷◌, ◌++◌, length, slice_get}
-use Rattle.std.specs.Prelude.{All, Contains, ⊤}
-use Rattle.std.specs.Bool.{OnTrue}
-use Rattle.std.proofs.lemmas.Bool.{OnTrue_at}
+use Rattle.std.proofs.Common.{◌≡◌, ◌∙◌, ◌<◌, ◌≤◌, ℕ, zero, suc, arith, ap, refl, sym, subst, false, Option, Some, None, List, [], ◌∷◌, ◌++◌, length, slice_get}
+use Rattle.std.specs.Prelude.{All}
 use Rattle.std.proofs.lemmas.List.{append-nil}
 use Rattle.std.proofs.Common.{append_assoc}
 use Rattle.std.proofs.lemmas.List.Elements.{All-weaker}
 use Rattle.wit_types.specs.Plain.{Plain, ListType, RecordType, VariantType, FlagsType, BoolType, SignedType, UnsignedType, CharType, StringType, OwnType, BorrowType}
 use Rattle.type_table.specs.Slots.{Part, slots_of}
 use Rattle.type_table.specs.Tables.{Placed, Types, trees, Leads, AreLinks, IsSound, needs_place, Has, HasOwnParts, Grew}
-use Rattle.type_table.specs.Nodes.{IsBelow, AreBelow, IsLonger}
+use Rattle.type_table.specs.Nodes.{IsBelow, AreBelow, IsLonger, IsThere}
 use Rattle.type_table.specs.Made.{MadeOf, IsMadeAt}
 use Rattle.type_table.specs.declared.making.Made.{Made}
 use Rattle.type_table.proofs.HasLaws.{get-append, trees-append, has_leaf, has-push, has-grew, grew_same, grew_push}
@@ -37,11 +35,11 @@ module _ (types : Types) (p : Plain) where
   adds-leaf e h = (grew_same types, has_leaf types p (own-sound types p h) e)
 
   -- it is there
-  pub adds-there : (there : Bool) (links : List (Option ℕ)) → (HasOwnParts types p → AreLinks (trees types) links (slots_of p))
-      → (IsSound types → AreLinks (trees types) links (slots_of p) → OnTrue there (Contains (trees types) p)) → there ≡ true → HasOwnParts types p → Grew types types × Has types p
-  adds-there there links linked is on h =
+  pub adds-there : (same : Plain) (links : List (Option ℕ)) → (HasOwnParts types p → AreLinks (trees types) links (slots_of p))
+      → (IsSound types → AreLinks (trees types) links (slots_of p) → IsThere types p same) → HasOwnParts types p → Grew types types × Has types p
+  adds-there same links linked is h =
       let sound = own-sound types p h in
-      (grew_same types, (sound, λ needs. OnTrue_at on (is sound (linked h))))
+      (grew_same types, (sound, λ needs. (is sound (linked h)).1))
 
   -- it goes behind the others
   pub adds-pushed : (new : Types) (t : Plain) (links : List (Option ℕ)) → new ≡ types ++ record { tree = t; links = links } ∷ [] → t ≡ p → (HasOwnParts types p → AreLinks (trees types) links (slots_of p))
@@ -65,7 +63,8 @@ get-within (z ∷ xs) zero x e = omega arith
 get-within (z ∷ xs) (suc at) x e = let h = get-within xs at x e in omega arith
 
 lead-back : (tys more : List Plain) (at : ℕ) (link : Option ℕ) (o : Option Plain) → at ≤ length tys → IsBelow at link → Leads (tys ++ more) link o → Leads tys link o
-lead-back tys more at None o le b h = tt
+lead-back tys more at None None le b h = tt
+lead-back tys more at None (Some ty) le b h = h
 lead-back tys more at (Some other) None le b h = h
 lead-back tys more at (Some other) (Some ty) le b h = get-back tys more other ty (omega (arith, le, b)) h
 

@@ -44,7 +44,8 @@ tree_at (q ∷ types) (suc at) p e = tree_at types at p e
 -- ---- places of parts
 
 lead-append : (tys more : List Plain) (link : Option ℕ) (o : Option Plain) → Leads tys link o → Leads (tys ++ more) link o
-lead-append tys more None o h = h
+lead-append tys more None None h = tt
+lead-append tys more None (Some ty) h = h
 lead-append tys more (Some at) None h = h
 lead-append tys more (Some at) (Some ty) h = get-append tys more at ty h
 

@@ -1,14 +1,13 @@
 -- What walks over a table remember holds while the pairs of resources, or the table, only grow.
-use Rattle.std.proofs.Common.{◌≡◌, ◌∙◌, ap, refl, sym, subst, ℕ, List, Some, slice_get}
+use Rattle.std.proofs.Common.{◌≡◌, ◌∙◌, refl, sym, subst, ℕ, List, Some, slice_get}
 use Rattle.std.specs.Prelude.{All, Contains}
 use Rattle.std.proofs.lemmas.List.Elements.{All-weaker, All-contains}
 use Rattle.std.proofs.lemmas.Option.{same_Some}
 use Rattle.wit_types.specs.Plain.{Plain}
-use Rattle.comp_types.specs.Substitution.{value_with}
 use Rattle.comp_types.specs.Matching.{Pairs, matched_value}
 use Rattle.comp_types.proofs.MeetLaws.{Grows, grows-same}
 use Rattle.type_table.specs.Tables.{Types, trees, Grew}
-use Rattle.type_table.specs.Met.{HaveMet, IsMade}
+use Rattle.type_table.specs.Met.{HaveMet}
 use Rattle.type_table.proofs.MatchLaws.{value-again}
 use Rattle.type_table.proofs.HasLaws.{get-append, trees-append}
 
@@ -31,19 +30,10 @@ module _ (types : Types) where
   pub met_again : (by : Pairs) (ps : List (ℕ × ℕ)) (i j : ℕ) (a b : Plain) → All (HaveMet types by) ps → Contains ps (i, j) → slice_get (trees types) i ≡ Some a → slice_get (trees types) j ≡ Some b → matched_value by a b ≡ Some by
   met_again by ps i j a b h c e f = All-contains (HaveMet types by) ps (i, j) h c a b e f
 
--- ---- types made with other resources
+-- ---- longer tables
 
 module _ (old new : Types) where
   pub tree-grew : (at : ℕ) (ty : Plain) → Grew old new → slice_get (trees old) at ≡ Some ty → slice_get (trees new) at ≡ Some ty
   tree-grew at ty g e =
       subst (λ ts. slice_get (trees ts) at ≡ Some ty) (sym g.is)
       (subst (λ tys. slice_get tys at ≡ Some ty) (sym (trees-append old g.more)) (get-append (trees old) (trees g.more) at ty e))
-
-  pub made-grew : (f : ℕ → ℕ) (p : ℕ × ℕ) → Grew old new → IsMade old f p → IsMade new f p
-  made-grew f p g h = (h.0, tree-grew p.0 h.0 g h.1, tree-grew p.1 (value_with f h.0) g h.2)
-
-  pub all_made-grew : (f : ℕ → ℕ) (ps : List (ℕ × ℕ)) → Grew old new → All (IsMade old f) ps → All (IsMade new f) ps
-  all_made-grew f ps g h = All-weaker (IsMade old f) (IsMade new f) (λ p. made-grew f p g) ps h
-
-pub made_at : (types : Types) (f : ℕ → ℕ) (i j : ℕ) (ty : Plain) → IsMade types f (i, j) → slice_get (trees types) i ≡ Some ty → slice_get (trees types) j ≡ Some (value_with f ty)
-made_at types f i j ty h e = h.2 ∙ ap (λ a. Some (value_with f a)) (same_Some h.0 ty (sym h.1 ∙ e))

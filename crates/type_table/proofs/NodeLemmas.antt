@@ -1,13 +1,14 @@
 -- Tables of value types: what stands at places, and what keeps it.
 use mathlib.Core.Logic.{inl, inr, ⊎_elim}
-use Rattle.std.proofs.Common.{◌≡◌, ◌<◌, ◌≤◌, ◌+◌, ℕ, zero, suc, refl, ap, sym, subst, ◌∙◌, arith, Bool, true, false, cond, Option, Some, None, List, [], ◌∷◌, ◌++◌, length, get_or, take, drop, slice_get}
-use Rattle.std.specs.Prelude.{Contains, IfSome, option_map, slice_index, ⊤, ◌⊎◌}
+use Rattle.std.proofs.Common.{◌≡◌, ◌<◌, ◌≤◌, ◌+◌, ℕ, zero, suc, refl, ap, sym, subst, ◌∙◌, arith, Bool, true, false, Option, Some, None, List, [], ◌∷◌, ◌++◌, length, get_or, take, drop, slice_get}
+use Rattle.std.specs.Prelude.{Contains, IfSome, option_map, slice_index, ◌⊎◌}
 use Rattle.std.specs.BTreeMap.{BTreeMap, get, is_at, Updates}
 use Rattle.std.specs.Ordering.{nat_cmp}
-use Rattle.std.proofs.lemmas.Bool.{cases_eq, false≢true}
+use Rattle.std.proofs.lemmas.Bool.{cases_eq}
 use Rattle.std.proofs.lemmas.Option.{slice_get-get_or, slice_get_within, get_or_from_slice_get}
 use Rattle.std.proofs.Math.Seq.{drop-nil}
-use Rattle.std.proofs.lemmas.List.{take_more}
+use Rattle.std.proofs.lemmas.List.{take_more, length-append}
+use Rattle.std.proofs.lemmas.List.Elements.{Contains-get_or}
 use Rattle.std.proofs.lemmas.Option.{slice_get-map}
 use Rattle.std.proofs.lemmas.Bool.{OnTrue_at, OnTrue_from}
 use Rattle.std.specs.Bool.{OnTrue}
@@ -15,9 +16,9 @@ use Rattle.std.specs.Borrow.{Bor}
 use Rattle.std.proofs.lemmas.Grind.{common_steps}
 use Rattle.wit_types.specs.Plain.{Name, Plain, Parts, End, More, Bare, BoolType, SignedType, UnsignedType, CharType, StringType, ListType, RecordType, VariantType, FlagsType, OwnType, BorrowType}
 use Rattle.comp_facts.specs.Keys.{key_of}
-use Rattle.type_table.specs.Tables.{Placed, Types, trees, Leads, AreLinks, Has, HasParts, HasOwnParts, HasAnswer}
+use Rattle.type_table.specs.Tables.{Placed, Types, trees, Leads, AreLinks, HasParts, HasOwnParts, HasAnswer}
 use Rattle.type_table.specs.Slots.{Part, slots_in, slots_of}
-use Rattle.type_table.specs.Nodes.{IsBelow, AreBelow, link_or, link_at, type_in, type_at, count_types, IsKeyOf, part_keys, slot_keys, HasSlots, place_for, placed, types_in, AreNodes}
+use Rattle.type_table.specs.Nodes.{IsBelow, AreBelow, link_at, type_at, count_types, IsKeyOf, part_keys, slot_keys, HasSlots, IsAt, IsPlaceOf, placed, types_in, AreNodes}
 use Rattle.type_table.specs.declared.table.Node.{Node}
 use Rattle.type_table.proofs.HasLaws.{trees-append}
 
@@ -104,9 +105,13 @@ part-count (Some ty) = omega arith
 
 -- ---- what a look-up gives
 
-pub leads-some : (tys : List Plain) (o : Option ℕ) (ty : Plain) → IfSome o (λ at. slice_get tys at ≡ Some ty) → Leads tys o (Some ty)
-leads-some tys None ty h = tt
-leads-some tys (Some at) ty h = h
+pub leads-placed : (tys : List Plain) (o : Option ℕ) (ty : Plain) → IsPlaceOf tys ty o → Leads tys o (Some ty)
+leads-placed tys None ty h = h
+leads-placed tys (Some at) ty h = h
+
+pub placed-at : (tys : List Plain) (o : Option ℕ) (ty : Plain) → IsAt tys ty o → IsPlaceOf tys ty o
+placed-at tys None ty h = absurd h
+placed-at tys (Some at) ty h = h
 
 pub below-some : (n : ℕ) (o : Option ℕ) → IfSome o (λ at. at < n) → IsBelow n o
 below-some n None h = tt
@@ -179,59 +184,74 @@ apart-by k q false e h = e
 apart : (k q : ℕ) → (k ≡ q → ⊥) → is_at (nat_cmp k) q ≡ false
 apart k q h = apart-by k q _ refl h
 
-pub found : (types : Types) (places : BTreeMap ℕ (Option ℕ)) (key at : ℕ) (ty : Plain) → AreNodes types places → get nat_cmp places key ≡ Some (Some at) → key ≡ key_of ty → Contains (trees types) ty → slice_get (trees types) at ≡ Some ty
-found types places key at ty ok e is h =
+pub found : (types : Types) (places : BTreeMap ℕ ℕ) (key : ℕ) (o : Option ℕ) (ty : Plain) → AreNodes types places → get nat_cmp places key ≡ o → key ≡ key_of ty → Contains (trees types) ty → IsAt (trees types) ty o
+found types places key None ty ok e is h = let p = contained (trees types) ty h in ok.new key p.0 ty e p.1 (sym is)
+found types places key (Some at) ty ok e is h =
     let p = contained (trees types) ty h in
     subst (λ i. slice_get (trees types) i ≡ Some ty) (ok.one key at p.0 ty e p.1 (sym is)) p.1
 
-pub node-below : (nodes : List Node) (places : BTreeMap ℕ (Option ℕ)) (at : ℕ) (r : Option (Bor Node)) → AreNodes (types_in nodes) places → option_map (λ x. x.now) r ≡ slice_get nodes at → IfSome r (λ n. AreBelow at n.now.links)
+pub found-within : (types : Types) (places : BTreeMap ℕ ℕ) (key : ℕ) (o : Option ℕ) → AreNodes types places → get nat_cmp places key ≡ o → IfSome o (λ at. at < length types)
+found-within types places key None ok e = tt
+found-within types places key (Some at) ok e = ok.within key at e
+
+module _ (types : Types) (places : BTreeMap ℕ ℕ) (ok : AreNodes types places) (at other : ℕ) (ty : Plain) (e : slice_get (trees types) at ≡ Some ty) (f : slice_get (trees types) other ≡ Some ty) where
+  same-by : (o : Option ℕ) → get nat_cmp places (key_of ty) ≡ o → at ≡ other
+  same-by None g = absurd (ok.new (key_of ty) at ty g e refl)
+  same-by (Some p) g = ok.one (key_of ty) p at ty g e refl ∙ sym (ok.one (key_of ty) p other ty g f refl)
+
+  pub once : at ≡ other
+  once = same-by _ refl
+
+pub node-below : (nodes : List Node) (places : BTreeMap ℕ ℕ) (at : ℕ) (r : Option (Bor Node)) → AreNodes (types_in nodes) places → option_map (λ x. x.now) r ≡ slice_get nodes at → IfSome r (λ n. AreBelow at n.now.links)
 node-below nodes places at None ok e = tt
 node-below nodes places at (Some x) ok e = ok.below at (placed x.now) (slice_get-map placed nodes at ∙ ap (option_map placed) (sym e))
 
-pub no_nodes : (places : BTreeMap ℕ (Option ℕ)) → AreNodes [] places
-no_nodes places = record { below = λ at p e. absurd cc; new = λ key at ty e h k. absurd cc; one = λ key at other ty e h k. absurd cc }
+pub no_nodes : (places : BTreeMap ℕ ℕ) → (updates : (key : ℕ) → get nat_cmp places key ≡ None) → AreNodes [] places
+no_nodes places empty = record { below = λ at p e. absurd cc; within = λ key at e. let f = empty key in absurd cc; new = λ key at ty e h k. absurd cc; one = λ key at other ty e h k. absurd cc }
 
-module _ (types : Types) (old new : BTreeMap ℕ (Option ℕ)) (ok : AreNodes types old) (key : ℕ) (p : Placed) (is : key ≡ key_of p.tree)
-    (updates : Updates nat_cmp old new key (Some (place_for (get nat_cmp old key) (length types)))) where
-  some-place : (w : Option (Option ℕ)) → get nat_cmp old key ≡ w → (at : ℕ) → get nat_cmp new key ≡ Some (Some at) → (get nat_cmp old key ≡ None) × (at ≡ length types)
-  some-place None e at h = let v : place_for (get nat_cmp old key) (length types) ≡ Some (length types) = ap (λ w. place_for w (length types)) e in let g = updates.1 in (e, cc)
-  some-place (Some w) e at h = let v : place_for (get nat_cmp old key) (length types) ≡ None = ap (λ w. place_for w (length types)) e in let g = updates.1 in absurd cc
+pub contains-got : {A : Type 0} (xs : List A) (i : ℕ) (x : A) → slice_get xs i ≡ Some x → Contains xs x
+contains-got xs i x e = subst (Contains xs) (get_or_from_slice_get xs i x x e) (Contains-get_or xs i x (slice_get_within xs i x e))
 
-  kept-new : (q at : ℕ) (t : Plain) → get nat_cmp new q ≡ None → slice_get (trees types) at ≡ Some t → key_of t ≡ q → ⊥
-  kept-new q at t e h k = ⊎_elim (λ same. absurd (let g = updates.1 in let f = ap (get nat_cmp new) same in cc)) (λ ne. ok.new q at t (sym (updates.2 q (apart key q ne)) ∙ e) h k) (cases_eq key q)
+-- one type more, of a new key
+module _ (types : Types) (old new : BTreeMap ℕ ℕ) (ok : AreNodes types old) (key : ℕ) (p : Placed) (is : key ≡ key_of p.tree)
+    (updates : Updates nat_cmp old new key (Some (length types))) (fresh : (t : Plain) → key_of p.tree ≡ key_of t → Contains (trees types) t → ⊥) (under : AreBelow (length types) p.links) where
+  more : trees (types ++ p ∷ []) ≡ trees types ++ p.tree ∷ []
+  more = trees-append types (p ∷ [])
 
-  kept-one : (q at other : ℕ) (t : Plain) → get nat_cmp new q ≡ Some (Some at) → slice_get (trees types) other ≡ Some t → key_of t ≡ q → other ≡ at
-  kept-one q at other t e h k =
-      ⊎_elim (λ same. let s = some-place _ refl at (ap (get nat_cmp new) same ∙ e) in absurd (ok.new key other t s.0 h (k ∙ sym same)))
-      (λ ne. ok.one q at other t (sym (updates.2 q (apart key q ne)) ∙ e) h k)
+  all-under : (at : ℕ) (q : Placed) → slice_get (types ++ p ∷ []) at ≡ Some q → AreBelow at q.links
+  all-under at q e =
+      ⊎_elim (λ h. ok.below at q h)
+      (λ h. subst (λ (m : Placed). AreBelow at m.links) h.1 (subst (λ i. AreBelow i p.links) (sym h.0) under))
+      (get-pushed types p at q e)
+
+  its-place : (q at : ℕ) → key ≡ q → get nat_cmp new q ≡ Some at → at ≡ length types
+  its-place q at same e = let g = updates.1 in let f = ap (get nat_cmp new) same in cc
+
+  elsewhere : (q : ℕ) → (key ≡ q → ⊥) → get nat_cmp old q ≡ get nat_cmp new q
+  elsewhere q ne = sym (updates.2 q (apart key q ne))
+
+  all-within : (q at : ℕ) → get nat_cmp new q ≡ Some at → at < length (types ++ p ∷ [])
+  all-within q at e =
+      let longer = length-append types (p ∷ []) in
+      ⊎_elim (λ same. let here = its-place q at same e in omega (arith, longer, here))
+      (λ ne. let there = ok.within q at (elsewhere q ne ∙ e) in omega (arith, longer, there))
       (cases_eq key q)
 
-  -- the place is known, the type is not there yet
-  pub awaited : AreNodes types new
-  awaited = record { below = ok.below; new = kept-new; one = kept-one }
+  all-new : (q at : ℕ) (t : Plain) → get nat_cmp new q ≡ None → slice_get (trees (types ++ p ∷ [])) at ≡ Some t → key_of t ≡ q → ⊥
+  all-new q at t e h k =
+      ⊎_elim (λ same. absurd (let g = updates.1 in let f = ap (get nat_cmp new) same in cc))
+      (λ ne. ⊎_elim (λ here. ok.new q at t (elsewhere q ne ∙ e) here k) (λ here. ne (is ∙ (ap key_of here.1 ∙ k))) (get-pushed (trees types) p.tree at t (sym (ap (λ tys. slice_get tys at) more) ∙ h)))
+      (cases_eq key q)
 
-  module _ (under : AreBelow (length types) p.links) where
-    more : trees (types ++ p ∷ []) ≡ trees types ++ p.tree ∷ []
-    more = trees-append types (p ∷ [])
+  all-one : (q at other : ℕ) (t : Plain) → get nat_cmp new q ≡ Some at → slice_get (trees (types ++ p ∷ [])) other ≡ Some t → key_of t ≡ q → other ≡ at
+  all-one q at other t e h k =
+      ⊎_elim
+      (λ here.
+      ⊎_elim (λ same. absurd (fresh t (sym is ∙ (same ∙ sym k)) (contains-got (trees types) other t here)))
+      (λ ne. ok.one q at other t (elsewhere q ne ∙ e) here k)
+      (cases_eq key q))
+      (λ here. here.0 ∙ (trees-length types ∙ sym (its-place q at (is ∙ (ap key_of here.1 ∙ k)) e)))
+      (get-pushed (trees types) p.tree other t (sym (ap (λ tys. slice_get tys other) more) ∙ h))
 
-    all-under : (at : ℕ) (q : Placed) → slice_get (types ++ p ∷ []) at ≡ Some q → AreBelow at q.links
-    all-under at q e =
-        ⊎_elim (λ h. ok.below at q h)
-        (λ h. subst (λ (m : Placed). AreBelow at m.links) h.1 (subst (λ i. AreBelow i p.links) (sym h.0) under))
-        (get-pushed types p at q e)
-
-    new-stays : (q at : ℕ) (t : Plain) → get nat_cmp new q ≡ None → slice_get (trees (types ++ p ∷ [])) at ≡ Some t → key_of t ≡ q → ⊥
-    new-stays q at t e h k =
-        ⊎_elim (λ here. kept-new q at t e here k)
-        (λ here. let same : key ≡ q = is ∙ (ap key_of here.1 ∙ k) in let g = updates.1 in let f = ap (get nat_cmp new) same in absurd cc)
-        (get-pushed (trees types) p.tree at t (sym (ap (λ tys. slice_get tys at) more) ∙ h))
-
-    one-stays : (q at other : ℕ) (t : Plain) → get nat_cmp new q ≡ Some (Some at) → slice_get (trees (types ++ p ∷ [])) other ≡ Some t → key_of t ≡ q → other ≡ at
-    one-stays q at other t e h k =
-        ⊎_elim (λ here. kept-one q at other t e here k)
-        (λ here. let same : key ≡ q = is ∙ (ap key_of here.1 ∙ k) in here.0 ∙ (trees-length types ∙ sym (some-place _ refl at (ap (get nat_cmp new) same ∙ e)).1))
-        (get-pushed (trees types) p.tree other t (sym (ap (λ tys. slice_get tys other) more) ∙ h))
-
-    -- the type stands behind the others
-    pub pushed : AreNodes (types ++ p ∷ []) new
-    pushed = record { below = all-under; new = new-stays; one = one-stays }
+  pub pushed : AreNodes (types ++ p ∷ []) new
+  pushed = record { below = all-under; within = all-within; new = all-new; one = all-one }

@@ -1,6 +1,6 @@
 -- Types whose parts have other types: what is made of all parts, what a table has then, and how large a part is.
 use Rattle.std.proofs.Common.{◌≡◌, ◌∙◌, ◌+◌, ◌*◌, ◌<◌, ◌≤◌, ℕ, zero, suc, arith, ap, refl, sym, Option, Some, None, List, [], ◌∷◌, ◌++◌, length, map, take}
-use Rattle.std.specs.Prelude.{IfOk, Result, Ok, Err, option_map, is_some, slice_get, ⊤}
+use Rattle.std.specs.Prelude.{IfOk, Result, Ok, Err, option_map, is_some, ⊤}
 use Rattle.std.specs.Borrow.{Bor}
 use Rattle.std.proofs.lemmas.List.{map-append}
 use Rattle.wit_types.specs.declared.types.WitType.{WitType}
@@ -104,6 +104,11 @@ has-retyped types _ tys s fits h = s
 pub always : {A E P : Type 0} (r : Result A E) → P → IfOk r (λ _. P)
 always (Ok x) p = p
 always (Err e) p = tt
+
+-- what is made is the same where a condition holds
+pub made-with : {E : Type 0} (r : Result Plain E) (was is : Plain) (C : Type 0) → (C → was ≡ is) → IfOk r (λ new. new ≡ was) → IfOk r (λ new. C → new ≡ is)
+made-with (Ok new) was is C h e = λ c. e ∙ h c
+made-with (Err x) was is C h e = tt
 
 -- ---- how large a part is
 

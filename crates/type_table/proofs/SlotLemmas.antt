@@ -1,7 +1,7 @@
 -- Parts of types by their indexes.
-use Rattle.std.proofs.Common.{◌≡◌, ◌<◌, ◌≤◌, arith, get_or, ℕ, zero, suc, refl, ap, sym, ◌∙◌, Bool, true, false, Option, Some, None, Global, List as Lst, [], ◌∷◌, length, slice_get}
+use Rattle.std.proofs.Common.{◌≡◌, ◌<◌, ◌≤◌, arith, get_or, ℕ, zero, suc, refl, ap, sym, ◌∙◌, Option, Some, None, Global, List as Lst, [], ◌∷◌, length, slice_get}
 use Rattle.std.specs.Borrow.{Bor}
-use Rattle.std.specs.Prelude.{IfSome, is_some, option_map, nat_lt, nat_eq}
+use Rattle.std.specs.Prelude.{IfSome, is_some, option_map, nat_lt}
 use Rattle.std.proofs.lemmas.Bool.Decides.{nat_tests}
 use Rattle.std.proofs.lemmas.Option.{slice_get_past, slice_get_read}
 use Rattle.std.specs.declared.rc.Rc.{Rc}

@@ -1,10 +1,9 @@
 -- What a definition makes anew of value types: the type that it defines, and those of an instance that it makes or describes. All
 -- else that it adds stands in the index spaces before.
-use Rattle.std.specs.Prelude.{◌≡◌, ℕ, List, ◌++◌, ⊤, Option, Some, None, slice_get}
+use Rattle.std.specs.Prelude.{◌≡◌, ℕ, ◌++◌, ⊤, Option, Some, None, slice_get}
 use Rattle.wasm_ast.specs.declared.component.Instance.{Instance}
 use Rattle.wasm_ast.specs.declared.component.Instance.TheVariants as instances
 use Rattle.wasm_ast.specs.declared.component.ExternDesc.{ExternDesc}
-use Rattle.wasm_ast.specs.declared.component.NamedItem.{NamedItem}
 use Rattle.comp_types.specs.Items.{Kind, Entries, ResourceKind, ValueKind, FuncKind, InstanceKind}
 use Rattle.comp_types.specs.Spaces.{Space, NestedComponent}
 use Rattle.comp_types.specs.GivenResources.{renamed, given_by, numbered}

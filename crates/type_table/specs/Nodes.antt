@@ -1,11 +1,11 @@
 -- What is kept of a type in a table, and how it is found.
-use Rattle.std.specs.Prelude.{◌≡◌, ℕ, ◌<◌, List, [], ◌∷◌, ◌++◌, map, ⊤, slice_get, Option as Opt, Some, None}
+use Rattle.std.specs.Prelude.{◌≡◌, ℕ, ◌<◌, List, [], ◌∷◌, ◌++◌, map, length, Contains, false, ⊤, slice_get, Option as Opt, Some, None}
 use Rattle.std.specs.BTreeMap.{BTreeMap, get}
 use Rattle.std.specs.Ordering.{nat_cmp}
 use Rattle.wit_types.specs.Plain.{Plain}
 use Rattle.comp_facts.specs.Keys.{key_of}
 use Rattle.type_table.specs.Slots.{Part}
-use Rattle.type_table.specs.Tables.{Placed, Types, trees, IsSound, HasAnswer}
+use Rattle.type_table.specs.Tables.{Placed, Types, trees, needs_place, IsSound, HasAnswer}
 use Rattle.type_table.specs.declared.table.Node.{Node}
 
 abbrev pub placed : Node → Placed
@@ -61,10 +61,23 @@ abbrev pub HasSlots : Types → List Part → Type 0
 HasSlots types [] = ⊤
 HasSlots types (part ∷ parts) = HasAnswer types part.1 × HasSlots types parts
 
--- the place that a type is given whose key is new, or is not
-abbrev pub place_for : Opt (Opt ℕ) → ℕ → Opt ℕ
-place_for None at = Some at
-place_for (Some other) at = None
+-- the type stands at this place
+abbrev pub IsAt : List Plain → Plain → Opt ℕ → Type 0
+IsAt tys ty None = ⊥
+IsAt tys ty (Some at) = slice_get tys at ≡ Some ty
+
+-- the place where the type stands, or none where it needs none
+abbrev pub IsPlaceOf : List Plain → Plain → Opt ℕ → Type 0
+IsPlaceOf tys ty None = needs_place ty ≡ false
+IsPlaceOf tys ty (Some at) = slice_get tys at ≡ Some ty
+
+-- no type stands at two places
+abbrev pub AreApart : List Plain → Type 0
+AreApart tys = (at other : ℕ) (ty : Plain) → slice_get tys at ≡ Some ty → slice_get tys other ≡ Some ty → at ≡ other
+
+-- this is the type, and a table has it
+abbrev pub IsThere : Types → Plain → Plain → Type 0
+IsThere types ty same = (same ≡ ty) × Contains (trees types) ty
 
 -- a table has each of these types
 abbrev pub HasEach : Types → List (Opt Plain) → Type 0
@@ -77,8 +90,9 @@ pub record IsLonger (old new : Types) : Type 0 where
   pub is : new ≡ old ++ more
   pub back : IsSound new → IsSound old
 
--- the types of a table, each behind its parts, and where the one type of each key stands: none where types share the key
-pub record AreNodes (types : Types) (places : BTreeMap ℕ (Opt ℕ)) : Type 0 where
+-- the types of a table, each behind its parts, and where the type of each key stands
+pub record AreNodes (types : Types) (places : BTreeMap ℕ ℕ) : Type 0 where
   pub below : (at : ℕ) (p : Placed) → slice_get types at ≡ Some p → AreBelow at p.links
+  pub within : (key at : ℕ) → get nat_cmp places key ≡ Some at → at < length types
   pub new : (key at : ℕ) (ty : Plain) → get nat_cmp places key ≡ None → slice_get (trees types) at ≡ Some ty → key_of ty ≡ key → ⊥
-  pub one : (key at other : ℕ) (ty : Plain) → get nat_cmp places key ≡ Some (Some at) → slice_get (trees types) other ≡ Some ty → key_of ty ≡ key → other ≡ at
+  pub one : (key at other : ℕ) (ty : Plain) → get nat_cmp places key ≡ Some at → slice_get (trees types) other ≡ Some ty → key_of ty ≡ key → other ≡ at

@@ -1,7 +1,7 @@
 -- What a table of value types holds: their trees, in the order in which they came, and for each part of a type the place of the part's
--- type. What is said to be in a table is found there by its key, if no other type has that.
+-- type. No two types in it have one key, so what is said to be in a table is found there by its key.
 use Rattle.std.specs.Prelude.{◌≡◌, ℕ, List, [], ◌∷◌, ◌++◌, map, Contains, IsTrue, Bool, true, false, ⊤, slice_get, Option as Opt, Some, None}
-use Rattle.wit_types.specs.Plain.{Plain, Parts, PlainFunc, BoolType, SignedType, UnsignedType, CharType, StringType, ListType, RecordType, VariantType, FlagsType, OwnType, BorrowType, End as NoParts, More as Part, Bare}
+use Rattle.wit_types.specs.Plain.{Plain, Parts, PlainFunc, ListType, RecordType, VariantType, FlagsType, End as NoParts, More as Part, Bare}
 use Rattle.comp_types.specs.Items.{Item, Kind, Entries, FuncItem, InstanceItem, KindItem, ResourceKind, ValueKind, FuncKind, InstanceKind, End, More}
 use Rattle.type_table.specs.Slots.{Part as SlotPart, slots_of}
 
@@ -16,9 +16,18 @@ Types = List Placed
 abbrev pub trees : Types → List Plain
 trees types = map (λ (p : Placed). p.tree) types
 
--- at this place, if there is one, stands the part's type
+-- all but primitives and handles, which are judged at once, stand in a table
+abbrev pub needs_place : Plain → Bool
+needs_place (ListType item) = true
+needs_place (RecordType form fields) = true
+needs_place (VariantType form cases) = true
+needs_place (FlagsType labels) = true
+needs_place _ = false
+
+-- at this place stands the part's type; there is none where the type needs none, or where the part has no type
 abbrev pub Leads : List Plain → Opt ℕ → Opt Plain → Type 0
-Leads tys None ty = ⊤
+Leads tys None None = ⊤
+Leads tys None (Some ty) = needs_place ty ≡ false
 Leads tys (Some at) None = ⊥
 Leads tys (Some at) (Some ty) = slice_get tys at ≡ Some ty
 
@@ -31,14 +40,6 @@ AreLinks tys _ _ = ⊥
 -- each place is that of the part's type: so it is while what is added has its parts in the table
 pub record IsSound (types : Types) : Type 0 where
   pub linked : (at : ℕ) (p : Placed) → slice_get types at ≡ Some p → AreLinks (trees types) p.links (slots_of p.tree)
-
--- all but primitives and handles, which are judged at once, stand in a table
-abbrev pub needs_place : Plain → Bool
-needs_place (ListType item) = true
-needs_place (RecordType form fields) = true
-needs_place (VariantType form cases) = true
-needs_place (FlagsType labels) = true
-needs_place _ = false
 
 abbrev pub Has : Types → Plain → Type 0
 Has types ty = IsSound types × (IsTrue (needs_place ty) → Contains (trees types) ty)

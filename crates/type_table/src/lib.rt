@@ -15,4 +15,4 @@ pub use making::Making;
 pub use matching::Matching;
 pub use same::link_at;
 pub use slots::{Slot, form_number, slot_at, slot_count};
-pub use table::{Node, TypeTable, needs_place};
+pub use table::{Node, TypeTable, part_type};

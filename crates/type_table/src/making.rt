@@ -147,7 +147,7 @@ impl<'a> Making<'a> {
         ensures by { self.new.by ≡ self.old.by }
         ensures longer { IsLonger self.old.types self.new.types }
         ensures grew { IsSound self.old.types → Grew self.old.types self.new.types }
-        ensures made { IfOk result (λ new. new.value ≡ value_with (partner_in self.old.by) (plain ty.now)) }
+        ensures made { IfOk result (λ new. IsSound self.old.types → new.value ≡ value_with (partner_in self.old.by) (plain ty.now)) }
         ensures has { IfOk result (λ new. IsSound self.old.types → Has self.new.types new.value) }
     {
         let by = self.by;
@@ -155,17 +155,17 @@ impl<'a> Making<'a> {
         Ok(new)
     }
 
-    /// Adds what was made to the table.
+    /// Adds what was made to the table, and gives it as it stands there.
     fn add(&mut self, alloc: Global, new: KnownValue) -> Result<Rc<KnownValue>, NoMemory>
-        ensures value { IfOk result (λ same. same.value ≡ new) }
+        ensures value { IfOk result (λ same. HasOwnParts self.old.types new → same.value ≡ new) }
         ensures by { self.new.by ≡ self.old.by }
         ensures longer { IsLonger self.old.types self.new.types }
         ensures has { IfOk result (λ same. HasOwnParts self.old.types new → Grew self.old.types self.new.types × Has self.new.types new) }
         ensures err { OnErr result (self.new ≡ self.old) }
     {
         let new = Rc::new(alloc, new)?;
-        self.table.add(alloc, &new)?;
-        Ok(new)
+        let same = self.table.add(alloc, new)?;
+        Ok(same)
     }
 
     /// The type with these types of parts.
@@ -179,7 +179,7 @@ impl<'a> Making<'a> {
         ensures by { self.new.by ≡ self.old.by }
         ensures longer { IsLonger self.old.types self.new.types }
         ensures grew { IsSound self.old.types → HasEach self.old.types (values_of parts.now) → Grew self.old.types self.new.types }
-        ensures made { IfOk result (λ new. new.value ≡ retyped (plain ty.now) (values_of parts.now)) }
+        ensures made { IfOk result (λ new. IsSound self.old.types → HasEach self.old.types (values_of parts.now) → new.value ≡ retyped (plain ty.now) (values_of parts.now)) }
         ensures has { IfOk result (λ new. IsSound self.old.types → HasEach self.old.types (values_of parts.now) → Has self.new.types new.value) }
     {
         let new = rebuilt(alloc, ty, parts)?;

@@ -5,7 +5,7 @@ ghost use Rattle.comp_facts.specs.Keys.{key_of};
 ghost use Rattle.type_table.specs.Slots.{slots_of};
 ghost use Rattle.std.specs.BTreeMap.{get};
 ghost use Rattle.std.specs.Ordering.{nat_cmp};
-ghost use Rattle.type_table.specs.Nodes.{types_in, type_at, count_types, IsKeyOf, place_for};
+ghost use Rattle.type_table.specs.Nodes.{types_in, type_at, count_types, IsKeyOf, IsAt, IsPlaceOf, IsThere, AreApart};
 ghost use Rattle.type_table.specs.Tables.{trees, needs_place, Leads, AreLinks, IsSound, Has, HasOwnParts, HasAnswer, Grew};
 
 use crate::slots::{form_number, slot_at, slot_count};
@@ -17,8 +17,7 @@ use std::rc::Rc;
 use virt_base::{Items, NoMemory};
 use wit_types::WitType;
 
-/// A type of a table, and for each part of it in order the place of the part's type. Types without parts and handles have no place,
-/// and neither have those that share their key with another type.
+/// A type of a table, and for each part of it in order the place of the part's type. Primitives and handles have no place.
 #[derive(Debug, Drop)]
 pub struct Node {
     pub known: Rc<KnownValue>,
@@ -29,8 +28,8 @@ pub struct Node {
 #[derive(Debug, Drop)]
 pub struct TypeTable {
     nodes: Vec<Node>,
-    /// Where the type of a key stands; none where two types share the key.
-    places: BTreeMap<u64, Option<usize>>,
+    /// Where the type of a key stands.
+    places: BTreeMap<u64, usize>,
 }
 
 impl Model for TypeTable {
@@ -48,7 +47,7 @@ impl Model for TypeTable {
 }
 
 /// Whether a type stands in tables: all but primitives and handles do.
-pub fn needs_place(ty: &WitType) -> bool
+fn needs_place(ty: &WitType) -> bool
     ensures { result ≡ needs_place (plain ty.now) }
 {
     match ty {
@@ -93,16 +92,6 @@ fn own_key(known: &KnownValue) -> u64
     known.facts().key
 }
 
-/// The place of a type that goes behind the others: none, where another one has its key.
-fn new_place(nodes: &[Node], places: &BTreeMap<u64, Option<usize>>, key: u64) -> Option<usize>
-    ensures { result ≡ place_for (get nat_cmp places.now key) (length (types_in nodes.now)) }
-{
-    match places.get(&key) {
-        Some(_) => None,
-        None => Some(nodes.len()),
-    }
-}
-
 pub fn share(known: &Rc<KnownValue>) -> Result<Rc<KnownValue>, NoMemory>
     ensures { IfOk result (λ same. same.value ≡ known.now.value) }
 {
@@ -122,8 +111,10 @@ impl TypeTable {
         }
     }
 
+    /// How many types there are, each of which stands there once.
     pub fn len(&self) -> usize
-        ensures { result ≡ length self.now }
+        ensures length { result ≡ length self.now }
+        ensures once { AreApart (trees self.now) }
     {
         self.nodes.len()
     }
@@ -139,23 +130,15 @@ impl TypeTable {
     /// The place of the one type that has a key.
     fn place_of(&self, key: u64) -> Option<usize>
         ensures within { IfSome result (λ at. at < length self.now) }
-        ensures one { (ty : Plain) → key ≡ key_of ty → Contains (trees self.now) ty → IfSome result (λ at. slice_get (trees self.now) at ≡ Some ty) }
+        ensures one { (ty : Plain) → key ≡ key_of ty → Contains (trees self.now) ty → IsAt (trees self.now) ty result }
     {
-        match self.places.get(&key) {
-            Some(Some(at)) => if *at < self.nodes.len() {
-                Some(*at)
-            } else {
-                None
-            },
-            Some(None) => None,
-            None => None,
-        }
+        self.places.get(&key).copied()
     }
 
-    /// The place of a type that stands in the table, found by its key: none where others share the key.
+    /// The place of a type that stands in the table, found by its key: each has one but primitives and handles.
     pub fn place(&self, ty: &WitType, key: u64) -> Option<usize>
         ensures within { IfSome result (λ at. at < length self.now) }
-        ensures one { key ≡ key_of (plain ty.now) → Has self.now (plain ty.now) → IfSome result (λ at. slice_get (trees self.now) at ≡ Some (plain ty.now)) }
+        ensures one { key ≡ key_of (plain ty.now) → Has self.now (plain ty.now) → IsPlaceOf (trees self.now) (plain ty.now) result }
     {
         if needs_place(ty) {
             self.place_of(key)
@@ -191,52 +174,64 @@ impl TypeTable {
         Ok(links)
     }
 
-    /// Whether the type is the one that stands under its key.
-    fn is_there(
+    /// The type at a place, where it is this one: `NoMemory` where it only has the same key, which seldom happens but on purpose.
+    fn known_at(
         &self,
         alloc: Global,
         known: &KnownValue,
         links: &[Option<usize>],
-    ) -> Result<bool, NoMemory>
-        ensures { IfOk result (λ there. IsSound self.now → AreLinks (trees self.now) links.now (slots_of known.now) → OnTrue there (Contains (trees self.now) known.now)) }
+        at: usize,
+    ) -> Result<Rc<KnownValue>, NoMemory>
+        ensures { IfOk result (λ same. IsSound self.now → AreLinks (trees self.now) links.now (slots_of known.now) → IsThere self.now known.now same.value) }
     {
-        match self.place_of(own_key(known)) {
-            None => Ok(false),
-            Some(at) => {
-                let same = self.is_same(alloc, known.ty(), links, at)?;
+        if !self.is_same(alloc, known.ty(), links, at)? {
+            return Err(NoMemory);
+        }
+        match self.node(at) {
+            None => Err(NoMemory),
+            Some(node) => {
+                let same = share(&node.known)?;
                 Ok(same)
             }
         }
     }
 
-    /// Adds a type behind the others, and remembers its place unless it shares its key.
+    /// Adds a type behind the others, and remembers its place.
     fn push(&mut self, known: Rc<KnownValue>, links: Items<Option<usize>>) -> Result<(), NoMemory>
-        requires { AreBelow (length self.old) links }
+        requires below { AreBelow (length self.old) links }
+        requires new { (ty : Plain) → key_of known.value ≡ key_of ty → Contains (trees self.old) ty → ⊥ }
         ensures ok { OnOk result (self.new ≡ self.old ++ record { tree = known.value; links = links } ∷ []) }
         ensures err { OnErr result (self.new ≡ self.old) }
         ensures longer { OnOk result (IsLonger self.old self.new) }
     {
         let key = own_key(&known);
-        let place = new_place(self.nodes.as_slice(), &self.places, key);
-        self.places.insert(key, place)?;
-        self.nodes.push(Node { known, links })?;
+        self.nodes.reserve(1)?;
+        self.places.insert(key, self.nodes.len())?;
+        self.nodes.push_reserved(Node { known, links });
         Ok(())
     }
 
-    /// Adds a type whose parts are there, unless it is there itself.
-    pub fn add(&mut self, alloc: Global, known: &Rc<KnownValue>) -> Result<(), NoMemory>
-        ensures ok { OnOk result (HasOwnParts self.old known.now.value → Grew self.old self.new × Has self.new known.now.value) }
+    /// Adds a type whose parts are there, and gives the one that stands in the table then, which is an equal one where it was there
+    /// before. Where another type has its key, the answer is `NoMemory`.
+    pub fn add(&mut self, alloc: Global, known: Rc<KnownValue>) -> Result<Rc<KnownValue>, NoMemory>
+        ensures ok { OnOk result (HasOwnParts self.old known.value → Grew self.old self.new × Has self.new known.value) }
+        ensures same { IfOk result (λ same. HasOwnParts self.old known.value → same.value ≡ known.value) }
         ensures err { OnErr result (self.new ≡ self.old) }
         ensures longer { IsLonger self.old self.new }
     {
         if !needs_place(known.ty()) {
-            return Ok(());
+            return Ok(known);
         }
-        let links = self.links(alloc, known)?;
-        if self.is_there(alloc, known, links.as_slice())? {
-            return Ok(());
+        let links = self.links(alloc, &known)?;
+        match self.place_of(own_key(&known)) {
+            Some(at) => {
+                let same = self.known_at(alloc, &known, links.as_slice(), at)?;
+                Ok(same)
+            }
+            None => {
+                self.push(share(&known)?, links)?;
+                Ok(known)
+            }
         }
-        self.push(share(known)?, links)?;
-        Ok(())
     }
 }

@@ -1,13 +1,13 @@
 //! Types that are found in no table: with all that they are made of they come into it.
 #![tactic(auto, using(wit_types::proofs::PlainLemmas::plains))]
 
-ghost use Rattle.std.specs.Prelude.{◌≡◌, map, option_map, IfOk};
+ghost use Rattle.std.specs.Prelude.{◌≡◌, map, option_map, is_some, IfOk};
 ghost use Rattle.wit_types.specs.Plain.{plain};
 ghost use Rattle.comp_types.specs.Substitution.{partner_in, value_with, answer_with};
 ghost use Rattle.type_table.specs.Slots.{Part, slots_of};
 ghost use Rattle.type_table.specs.Tables.{IsSound, Has, HasOwnParts, HasAnswer, Grew};
 ghost use Rattle.type_table.specs.Nodes.{HasEach, IsLonger};
-ghost use Rattle.type_table.specs.Retyped.{value_of, values_of};
+ghost use Rattle.type_table.specs.Retyped.{Fits, value_of, values_of};
 
 use crate::rebuilt::{borrow_as, own_as, rebuilt};
 use crate::slots::slot_count;
@@ -27,7 +27,8 @@ impl TypeTable {
         ty: &WitType,
         by: &Substitution,
     ) -> Result<Vec<Option<Rc<KnownValue>>>, NoMemory>
-        ensures parts { IfOk result (λ parts. values_of parts.items ≡ map (λ (p : Part). answer_with (partner_in by.now) p.1) (slots_of (plain ty.now))) }
+        ensures fits { IfOk result (λ parts. Fits (slots_of (plain ty.now)) (values_of parts.items)) }
+        ensures parts { IfOk result (λ parts. IsSound self.old → values_of parts.items ≡ map (λ (p : Part). answer_with (partner_in by.now) p.1) (slots_of (plain ty.now))) }
         ensures grew { IsSound self.old → Grew self.old self.new }
         ensures longer { IsLonger self.old self.new }
         ensures has { IfOk result (λ parts. IsSound self.old → HasEach self.new (values_of parts.items)) }
@@ -48,7 +49,8 @@ impl TypeTable {
         ty: Option<&WitType>,
         by: &Substitution,
     ) -> Result<Option<Rc<KnownValue>>, NoMemory>
-        ensures value { IfOk result (λ new. value_of new ≡ answer_with (partner_in by.now) (option_map (λ t. plain t.now) ty.entry)) }
+        ensures fits { IfOk result (λ new. is_some (option_map (λ t. plain t.now) ty.entry) ≡ is_some (value_of new)) }
+        ensures value { IfOk result (λ new. IsSound self.old → value_of new ≡ answer_with (partner_in by.now) (option_map (λ t. plain t.now) ty.entry)) }
         ensures grew { IsSound self.old → Grew self.old self.new }
         ensures longer { IsLonger self.old self.new }
         ensures has { IfOk result (λ new. IsSound self.old → HasAnswer self.new (value_of new)) }
@@ -69,7 +71,7 @@ impl TypeTable {
         ty: &WitType,
         by: &Substitution,
     ) -> Result<KnownValue, NoMemory>
-        ensures value { IfOk result (λ new. new ≡ value_with (partner_in by.now) (plain ty.now)) }
+        ensures value { IfOk result (λ new. IsSound self.old → new ≡ value_with (partner_in by.now) (plain ty.now)) }
         ensures grew { IsSound self.old → Grew self.old self.new }
         ensures longer { IsLonger self.old self.new }
         ensures has { IfOk result (λ new. IsSound self.old → HasOwnParts self.new (value_with (partner_in by.now) (plain ty.now))) }
@@ -84,7 +86,7 @@ impl TypeTable {
         }
     }
 
-    /// The type with other resources, which stands in the table then.
+    /// The type with other resources, as it stands in the table then.
     #[cycle(add_tree)]
     pub fn add_tree(
         &mut self,
@@ -92,19 +94,19 @@ impl TypeTable {
         ty: &WitType,
         by: &Substitution,
     ) -> Result<Rc<KnownValue>, NoMemory>
-        ensures value { IfOk result (λ new. new.value ≡ value_with (partner_in by.now) (plain ty.now)) }
+        ensures value { IfOk result (λ new. IsSound self.old → new.value ≡ value_with (partner_in by.now) (plain ty.now)) }
         ensures grew { IsSound self.old → Grew self.old self.new }
         ensures longer { IsLonger self.old self.new }
         ensures has { IfOk result (λ new. IsSound self.old → Has self.new new.value) }
     {
         let known = Rc::new(alloc, self.tree_with(alloc, ty, by)?)?;
-        self.add(alloc, &known)?;
-        Ok(known)
+        let same = self.add(alloc, known)?;
+        Ok(same)
     }
 
-    /// Adds a type, and all that it is made of.
+    /// Adds a type, and all that it is made of, and gives the type as it stands in the table then.
     pub fn add_whole(&mut self, alloc: Global, ty: &WitType) -> Result<Rc<KnownValue>, NoMemory>
-        ensures value { IfOk result (λ new. new.value ≡ plain ty.now) }
+        ensures value { IfOk result (λ new. IsSound self.old → new.value ≡ plain ty.now) }
         ensures grew { IsSound self.old → Grew self.old self.new }
         ensures longer { IsLonger self.old self.new }
         ensures has { IfOk result (λ new. IsSound self.old → Has self.new (plain ty.now)) }

@@ -10,8 +10,8 @@ use Rattle.comp_defining.proofs.types.keep_type.Goals as goal
 pub returns-in-Value : goal.returns-in-Value
 returns-in-Value c =
     let old = c.args.types.now in
-    let new = c.add.new.self in
-    on_ok_weaker c.add.result (λ k. subst (λ (x : TypeItem). HasPartsOf old (kind_of x) → Grew old new × HasKind new (kind_of x)) (sym c.in-Value.is) k) c.add.ensures.ok
+    let new = c.add_value.new.types in
+    on_ok_weaker c.add_value.result (λ k. subst (λ (x : TypeItem). HasPartsOf old (kind_of x) → Grew old new × HasKind new (kind_of x)) (sym c.in-Value.is) k) c.add_value.ensures
 
 pub returns-in-Resource : goal.returns-in-Resource
 returns-in-Resource c =

@@ -108,6 +108,9 @@ known_with-returns-clause-made t c = λ s links.
     let f = partner_in old.by in
     let ty = plain c.ty-ty.result.now in
     let is : ty ≡ c.args.known.now.value = c.ty-ty.ensures ∙ c.deref-2.ensures in
+    let slice = ap values_of c.as_slice.ensures.value in
+    let sound = (c.parts_with.ensures.grew s).sound s in
+    let has = subst (HasEach c.parts_with.new.self.types) (sym slice) (c.in_ok-parts.ensures.has s) in
     let parts = c.in_ok-parts.ensures.made s (subst (λ p. AreLinks (trees old.types) c.args.links.now (slots_of p)) (sym is) links) in
-    rebuilt-made f ty c.in_ok-new-2.new.value (values_of c.as_slice.result.now) (λ zero. c.if-form_number-eq0.false (c.form_number.ensures ∙ zero)) (ap values_of c.as_slice.ensures.value ∙ parts) c.in_ok-new-2.ensures.made
+    rebuilt-made f ty c.in_ok-new-2.new.value (values_of c.as_slice.result.now) (λ zero. c.if-form_number-eq0.false (c.form_number.ensures ∙ zero)) (slice ∙ parts) (c.in_ok-new-2.ensures.made sound has)
     ∙ ap (value_with f) is

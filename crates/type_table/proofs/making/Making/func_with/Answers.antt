@@ -1,4 +1,4 @@
-use Rattle.std.proofs.Common.{◌≡◌, ◌∙◌, ap, refl, sym, subst, true, false}
+use Rattle.std.proofs.Common.{◌≡◌, ◌∙◌, ap, refl, sym, subst, true}
 use Rattle.wit_types.specs.declared.types.Fields.{out-roll-Fields}
 use Rattle.wit_types.specs.Plain.{PlainFunc, plain_func, plain_result, fields_of}
 use Rattle.comp_facts.specs.Handles.{func_has_handle}

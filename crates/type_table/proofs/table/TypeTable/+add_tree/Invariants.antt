@@ -5,13 +5,14 @@ use Rattle.comp_types.specs.Substitution.{partner_in, answer_with}
 use Rattle.type_table.specs.Slots.{Part, slots_of}
 use Rattle.type_table.specs.Tables.{IsSound, Grew}
 use Rattle.type_table.specs.Nodes.{HasEach, IsLonger}
-use Rattle.type_table.specs.Retyped.{values_of}
+use Rattle.type_table.specs.Retyped.{Fits, values_of}
 use Rattle.type_table.proofs.RetypedLemmas.{part_size}
 use Rattle.type_table.proofs.table.TypeTable.+add_tree.Given as goal
 
 abbrev pub invariant-add_parts-loop-index : goal.invariant-add_parts-loop-index
 invariant-add_parts-loop-index l = record {
-  parts : values_of l.parts.items ≡ map (λ (p : Part). answer_with (partner_in l.by) p.1) (take l.index (slots_of (plain l.ty)));
+  fits : Fits (take l.index (slots_of (plain l.ty))) (values_of l.parts.items);
+  parts : IsSound l.fn.self → values_of l.parts.items ≡ map (λ (p : Part). answer_with (partner_in l.by) p.1) (take l.index (slots_of (plain l.ty)));
   grew : IsSound l.fn.self → Grew l.fn.self l.self;
   longer : IsLonger l.fn.self l.self;
   has : IsSound l.fn.self → HasEach l.self (values_of l.parts.items);
