@@ -12,6 +12,8 @@ mod named;
 #[cfg(test)]
 mod places;
 #[cfg(test)]
+mod relations;
+#[cfg(test)]
 mod rows;
 #[cfg(test)]
 mod trees;

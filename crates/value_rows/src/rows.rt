@@ -1,6 +1,6 @@
 //! Rows as lines of a text, and how they are read.
 
-use crate::{items, layouts, wasi};
+use crate::{items, layouts, relations, wasi};
 use std::alloc::Global;
 use std::fmt::Debug;
 use std::test::Fail;
@@ -45,6 +45,8 @@ pub enum Asked {
     Name,
     Given,
     Equal,
+    Subtype,
+    Substituted,
 }
 
 fn answer(alloc: Global, asked: Asked, of: &'static str) -> Result<String, Fail> {
@@ -56,6 +58,8 @@ fn answer(alloc: Global, asked: Asked, of: &'static str) -> Result<String, Fail>
         Asked::Name => items::looked_up(alloc, of),
         Asked::Given => items::given(alloc, of),
         Asked::Equal => items::equals(alloc, of),
+        Asked::Subtype => relations::subtypes(alloc, of),
+        Asked::Substituted => relations::substituted(alloc, of),
     }
 }
 
