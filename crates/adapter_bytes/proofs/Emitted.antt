@@ -1,8 +1,8 @@
 -- Both modules may be written.
 use Rattle.std.proofs.Common.{ℕ, ◌≤◌}
 use Rattle.core_write.specs.Written.{IsWritable}
-use Rattle.adapter_emit.specs.declared.modules.Routines.{Routines}
-use Rattle.adapter_emit.specs.Emit.{posts_in, AreRoutines, state_in, stubs_in}
+use Rattle.adapter_bytes.specs.declared.modules.Routines.{Routines}
+use Rattle.adapter_bytes.specs.Emit.{posts_in, AreRoutines, state_in, stubs_in}
 use Rattle.adapter_bytes.specs.Weight.{weight_in, most_weight, AreNumberedStubs}
 use Rattle.adapter_bytes.proofs.StateModule.{state_writable}
 use Rattle.adapter_bytes.proofs.StubsModule.{stubs_writable}

@@ -29,10 +29,10 @@ use Rattle.wasm_ast.specs.Expressions.{expr}
 use Rattle.wasm_ast.specs.Items.{import_item, import, export_item, export, global, segment}
 use Rattle.adapter_code.specs.declared.statement.Width.TheVariants.{Narrow}
 use Rattle.adapter_compile.specs.Instructions.{constant}
-use Rattle.adapter_spelled.proofs.Numbers.{few_unsigned}
-use Rattle.adapter_spelled.proofs.Instructions.{constant_short}
-use Rattle.adapter_spelled.proofs.Pieces.{nothing, in_front}
-use Rattle.adapter_spelled.proofs.Routines.{type_fits, type_few, code_fits}
+use Rattle.adapter_bytes.proofs.Numbers.{few_unsigned}
+use Rattle.adapter_bytes.proofs.Instructions.{constant_short}
+use Rattle.adapter_bytes.proofs.Pieces.{nothing, in_front}
+use Rattle.adapter_bytes.proofs.Routines.{type_fits, type_few, code_fits}
 use Rattle.adapter_state.specs.State.{constant_code}
 
 -- ---- types of functions

@@ -1,3 +1,10 @@
+pub mod Numbers
+pub mod Instructions
+pub mod Pieces
+pub mod Routines
+pub mod Keeping
+pub mod Standing
+pub mod Filling
 pub mod Sections
 pub mod Items
 pub mod Functions
@@ -5,3 +12,8 @@ pub mod StateModule
 pub mod StubsModule
 pub mod Weighing
 pub mod Emitted
+pub mod Placing
+pub mod Opened
+pub mod Working
+pub mod Importing
+pub mod Stubbing

@@ -3,7 +3,7 @@ use Rattle.std.proofs.Common.{◌≡◌, ℕ, zero, suc, ◌+◌, ◌<◌, ◌�
 use Rattle.std.specs.List.{AllByRecursion}
 use Rattle.wasm_format.specs.Format.{Format, vec, sized, u32_format, write_items}
 use Rattle.core_write.specs.Written.{ListFits}
-use Rattle.adapter_spelled.proofs.Numbers.{few_unsigned}
+use Rattle.adapter_bytes.proofs.Numbers.{few_unsigned}
 
 pub record IsSmall {A : Type 0} (F : Format A) (most : ℕ) (items : List A) : Type 0 where
   pub fits : AllByRecursion F.Fits items

@@ -5,7 +5,7 @@ use Rattle.adapter_code.specs.declared.statement.Statement.{Statement, Const, Mo
 use Rattle.adapter_code.specs.Code.{Code, Stop, before, code_of}
 use Rattle.adapter_code.proofs.Codes.{before_if, before_repeat}
 use Rattle.adapter_code.proofs.Running.{drop_from}
-use Rattle.adapter_spelled.specs.Spelled.{statements, AreNumbered}
+use Rattle.adapter_bytes.specs.Spelled.{statements, AreNumbered}
 use Rattle.adapter_state.proofs.EachKind.{left_at}
 use Rattle.adapter_stubs.specs.declared.stub.Stub.{Stub}
 use Rattle.adapter_bytes.specs.Weight.{weight_of, weight_in, IsNumberedStub, AreNumberedStubs}

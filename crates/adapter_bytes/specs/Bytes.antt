@@ -1,8 +1,8 @@
 -- Both modules of the adapter may be written.
 use Rattle.std.specs.Prelude.{◌≤◌}
 use Rattle.core_write.specs.Written.{IsWritable}
-use Rattle.adapter_emit.specs.declared.modules.Routines.{Routines}
-use Rattle.adapter_emit.specs.Emit.{AreRoutines, state_in, stubs_in}
+use Rattle.adapter_bytes.specs.declared.modules.Routines.{Routines}
+use Rattle.adapter_bytes.specs.Emit.{AreRoutines, state_in, stubs_in}
 use Rattle.adapter_bytes.specs.Weight.{weight_in, most_weight, AreNumberedStubs}
 
 abbrev pub EmittedAreWritable : Type 0

@@ -1,2 +1,9 @@
+pub mod Spelled
+pub mod Bodies
+pub mod Memories
 pub mod Weight
 pub mod Bytes
+pub mod Emit
+pub mod Opening
+pub mod StateWorks
+pub mod StubsWork

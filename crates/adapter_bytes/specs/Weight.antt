@@ -2,7 +2,7 @@
 use Rattle.std.specs.Prelude.{ℕ, ◌+◌, ◌<◌, ◌≤◌, ◌^◌, List, [], ◌∷◌, Option, Some, None, length}
 use Rattle.std.specs.List.{AllByRecursion}
 use Rattle.adapter_code.specs.Code.{code_of}
-use Rattle.adapter_spelled.specs.Spelled.{statements, AreNumbered}
+use Rattle.adapter_bytes.specs.Spelled.{statements, AreNumbered}
 use Rattle.adapter_stubs.specs.declared.stub.HostFunc.{HostFunc}
 use Rattle.adapter_stubs.specs.declared.stub.Stub.{Stub}
 use Rattle.adapter_stubs.specs.Widths.{stub_widths}

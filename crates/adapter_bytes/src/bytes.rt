@@ -3,13 +3,13 @@
 ghost use Rattle.std.specs.Prelude.{◌≡◌, ◌≤◌, ◌<◌, IfOk, IfErr};
 ghost use Rattle.core_validate.specs.Validity.{IsValidModule};
 ghost use Rattle.core_write.specs.Written.{IsShortestOf, IsWritable};
-ghost use Rattle.adapter_emit.specs.Emit.{AreRoutines, state_in, stubs_in};
+ghost use Rattle.adapter_bytes.specs.Emit.{AreRoutines, state_in, stubs_in};
 ghost use Rattle.adapter_bytes.specs.Weight.{weight_in, most_weight, AreNumberedStubs};
 ghost use Rattle.adapter_bytes.specs.declared.fault.EmitFault.TheVariants.{TooLarge as IsTooLarge};
 
 use crate::fault::EmitFault;
 use crate::weight::is_light;
-use adapter_emit::{Emitted, Routines, emit};
+use crate::{Emitted, Routines, emit};
 use core_write::write_writable;
 use std::alloc::Global;
 use virt_base::NoMemory;

@@ -3,7 +3,7 @@
 ghost use Rattle.std.specs.Prelude.{◌≡◌, ◌+◌, ◌<◌, ◌^◌, IfSome, IfNone};
 ghost use Rattle.adapter_code.specs.Code.{Stop, before, code_of};
 ghost use Rattle.adapter_code.specs.Plain.{IsPlain};
-ghost use Rattle.adapter_spelled.specs.Spelled.{statements, AreNumbered};
+ghost use Rattle.adapter_bytes.specs.Spelled.{statements, AreNumbered};
 
 use adapter_code::Statement;
 

@@ -6,7 +6,7 @@ use Rattle.std.specs.Prelude.{map}
 use Rattle.virt_base.specs.declared.core_type.CoreType.TheVariants.{I32}
 use Rattle.wasm_ast.specs.declared.module.Body.{Body}
 use Rattle.wasm_ast.specs.declared.instr.Instr.TheVariants.{End}
-use Rattle.core_code.specs.Tree.{tree}
+use Rattle.core_store.specs.Tree.{tree}
 use Rattle.core_store.specs.State.{State as StoreState}
 use Rattle.core_store.specs.declared.value.CoreSpaces.{CoreSpaces}
 use Rattle.core_store.specs.Locals.{each_local}

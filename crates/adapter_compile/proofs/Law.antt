@@ -4,7 +4,7 @@ use Rattle.std.proofs.Math.Path.{fun_ext}
 use Rattle.std.specs.Prelude.{map}
 use Rattle.wasm_ast.specs.declared.instr.BlockType.TheVariants.{Empty}
 use Rattle.wasm_ast.specs.declared.instr.Instr.{Instr}
-use Rattle.core_code.specs.Tree.{Seq, Stop, InBlock, tree}
+use Rattle.core_store.specs.Tree.{Seq, Stop, InBlock, tree}
 use Rattle.core_store.specs.Config.{Reply, Out, Over as Stops}
 use Rattle.core_store.specs.Eval.{exec, go}
 use Rattle.handle_space.specs.HandleMap.{HandleMap}

@@ -4,7 +4,7 @@ use Rattle.wasm_ast.specs.declared.instr.BlockType.TheVariants.{Empty}
 use Rattle.wasm_ast.specs.declared.instr.Op.TheVariants as op
 use Rattle.wasm_ast.specs.declared.instr.Instr.{Instr}
 use Rattle.wasm_ast.specs.declared.instr.Instr.TheVariants.{Plain, Unreachable, Block, Loop, If, Else, End, Br, BrIf}
-use Rattle.core_code.specs.Tree.{Seq, Stop, Then, InBlock, InLoop, InIf, Part, first, onto, placed, parts, tree}
+use Rattle.core_store.specs.Tree.{Seq, Stop, Then, InBlock, InLoop, InIf, Part, first, onto, placed, parts, tree}
 use Rattle.adapter_code.specs.declared.statement.Width.{Width}
 use Rattle.adapter_code.specs.declared.statement.Width.TheVariants.{Narrow, Broad}
 use Rattle.adapter_code.specs.declared.statement.Statement.{Statement, Const, Move, Int, Load, Store, If', Repeat', Leave, NewHandle, DropHandle, Trap, Answer}

@@ -2,7 +2,7 @@
 use Rattle.std.proofs.Common.{◌≡◌, ℕ, zero, suc, ◌+◌, ◌*◌, ◌<◌, ◌≤◌, List, [], ◌∷◌, ◌++◌, Some, None, Bool, length, refl, sym, ap, ◌∙◌, subst, arith, inl, inr, append-nil, append_assoc}
 use Rattle.std.proofs.Math.Path.{fun_ext}
 use Rattle.std.specs.Prelude.{◌⊎◌, map, slice_get}
-use Rattle.core_code.specs.Tree.{Stop}
+use Rattle.core_store.specs.Tree.{Stop}
 use Rattle.core_store.specs.Config.{Reply, Config, Trapped, Out, Break, Over as Stops, then_do}
 use Rattle.core_store.specs.Eval.{block_end, exec, go}
 use Rattle.handle_space.specs.HandleMap.{HandleMap}

@@ -10,7 +10,7 @@ use Rattle.wasm_ast.specs.declared.instr.Op.TheVariants as op
 use Rattle.wasm_ast.specs.declared.instr.Instr.TheVariants.{Plain, Call}
 use Rattle.wasm_ast.specs.Numeric.{numeric as numeric_of}
 use Rattle.wasm_ast.specs.declared.module.CoreFunc.{CoreFunc}
-use Rattle.core_code.specs.Tree.{Seq, Then}
+use Rattle.core_store.specs.Tree.{Seq, Then}
 use Rattle.core_memory.specs.Number.{bytes_of}
 use Rattle.core_memory.specs.Linear.{Linear, touched, loaded as loaded_from, written}
 use Rattle.core_store.specs.State.{memory_at}

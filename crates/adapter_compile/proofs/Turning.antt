@@ -6,7 +6,7 @@ use Rattle.std.proofs.lemmas.Bool.{eq-eqb}
 use Rattle.std.specs.Prelude.{◌⊎◌, map, slice_get, slice_set, if◌then◌else◌, ◌==◌}
 use Rattle.wasm_ast.specs.declared.instr.BlockType.TheVariants.{Empty}
 use Rattle.wasm_ast.specs.declared.instr.Instr.TheVariants.{BrIf}
-use Rattle.core_code.specs.Tree.{Seq, Stop, Then}
+use Rattle.core_store.specs.Tree.{Seq, Stop, Then}
 use Rattle.core_store.specs.Words.{i32_in}
 use Rattle.core_store.specs.Config.{Reply, Config, Out, Next as Goes, Break, Over as Stops, Trapped, then_do, with_locals}
 use Rattle.core_store.specs.Eval.{Turn, loop_end, choose, exec, go}

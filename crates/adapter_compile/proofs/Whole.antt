@@ -7,7 +7,7 @@ use Rattle.std.specs.Int.{from_bool}
 use Rattle.wasm_ast.specs.declared.instr.BlockType.TheVariants.{Empty}
 use Rattle.wasm_ast.specs.declared.instr.Op.TheVariants as op
 use Rattle.wasm_ast.specs.declared.instr.Instr.TheVariants.{Plain, BrIf, Call}
-use Rattle.core_code.specs.Tree.{Seq, Stop, Then, InLoop, InIf}
+use Rattle.core_store.specs.Tree.{Seq, Stop, Then, InLoop, InIf}
 use Rattle.core_store.specs.declared.value.CoreValue.TheVariants.{I32}
 use Rattle.core_store.specs.Words.{i32_in}
 use Rattle.core_store.specs.Config.{Reply, Config, Next as Goes, Break, Over as Stops, Asks, then_do, with_stack, with_locals}

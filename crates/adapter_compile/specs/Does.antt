@@ -8,7 +8,7 @@ use Rattle.wasm_ast.specs.declared.module.Body.{Body}
 use Rattle.wasm_ast.specs.declared.module.LocalRun.{LocalRun}
 use Rattle.wasm_ast.specs.declared.instr.Instr.{Instr}
 use Rattle.wasm_ast.specs.declared.instr.Instr.TheVariants.{End}
-use Rattle.core_code.specs.Tree.{tree}
+use Rattle.core_store.specs.Tree.{tree}
 use Rattle.core_store.specs.declared.value.CoreValue.{CoreValue}
 use Rattle.core_store.specs.declared.value.CoreValue.TheVariants as values
 use Rattle.core_store.specs.declared.value.CoreSpaces.{CoreSpaces}

@@ -23,9 +23,9 @@ use Rattle.adapter_code.specs.Layout.{Fits as FitsPages}
 use Rattle.adapter_compile.specs.Instructions.{call_at}
 use Rattle.adapter_compile.specs.Bounds.{nesting}
 use Rattle.adapter_compile.specs.Handles.{makes_type, drops_type}
-use Rattle.adapter_valid.specs.Valid.{HasFunctions}
-use Rattle.adapter_valid.proofs.Pieces.{whole_body}
-use Rattle.adapter_valid.proofs.Functions.{sum_declared, get_front, valid_function}
+use Rattle.adapter_transfer.specs.Valid.{HasFunctions}
+use Rattle.adapter_transfer.proofs.ValidPieces.{whole_body}
+use Rattle.adapter_transfer.proofs.Functions.{sum_declared, get_front, valid_function}
 use Rattle.adapter_transfer.specs.Transfer.{HasEnd, realloc_code, reset_code}
 use Rattle.adapter_transfer.proofs.Pieces.{realloc_piece, reset_piece}
 use Rattle.adapter_module.specs.declared.module.Defined.{Defined}

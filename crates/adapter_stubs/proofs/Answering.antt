@@ -6,7 +6,7 @@ use Rattle.std.proofs.lemmas.List.Elements.{All-head, All-tail}
 use Rattle.virt_base.specs.declared.core_type.CoreType.{CoreType}
 use Rattle.virt_base.specs.declared.core_type.CoreType.TheVariants.{I32, I64, Funcref, Externref}
 use Rattle.wasm_ast.specs.declared.instr.Instr.TheVariants.{End}
-use Rattle.core_code.specs.Tree.{Stop, tree}
+use Rattle.core_store.specs.Tree.{Stop, tree}
 use Rattle.core_store.specs.declared.value.CoreValue.TheVariants as values
 use Rattle.core_store.specs.State.{State as StoreState}
 use Rattle.core_store.specs.Words.{value_in, values_in}

@@ -6,7 +6,7 @@ use Rattle.wasm_ast.specs.declared.module.CoreFunc.{CoreFunc}
 use Rattle.wasm_ast.specs.declared.instr.BlockType.TheVariants.{Empty}
 use Rattle.wasm_ast.specs.declared.instr.Instr.{Instr}
 use Rattle.wasm_ast.specs.declared.instr.Instr.TheVariants.{If, End, Call}
-use Rattle.core_code.specs.Tree.{Seq, Stop, Then, InBlock, InIf, Part, first, onto, placed, parts, tree}
+use Rattle.core_store.specs.Tree.{Seq, Stop, Then, InBlock, InIf, Part, first, onto, placed, parts, tree}
 use Rattle.core_memory.specs.Linear.{Linear}
 use Rattle.core_store.specs.State.{State as StoreState, memory_at}
 use Rattle.core_store.specs.Words.{words, word_of, values_in}

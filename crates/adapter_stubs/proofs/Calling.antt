@@ -10,7 +10,7 @@ use Rattle.virt_base.specs.declared.core_type.CoreType.{CoreType}
 use Rattle.virt_base.specs.declared.core_type.CoreType.TheVariants.{I32}
 use Rattle.wasm_ast.specs.declared.instr.Instr.{Instr}
 use Rattle.wasm_ast.specs.declared.instr.Instr.TheVariants.{End}
-use Rattle.core_code.specs.Tree.{tree}
+use Rattle.core_store.specs.Tree.{tree}
 use Rattle.core_store.specs.Locals.{each_local}
 use Rattle.core_store.specs.State.{memory_at}
 use Rattle.core_store.specs.Words.{words, word_of, values_in}

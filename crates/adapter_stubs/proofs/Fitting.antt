@@ -21,9 +21,9 @@ use Rattle.adapter_compile.specs.declared.calls.HandleCalls.{HandleCalls}
 use Rattle.adapter_compile.specs.Instructions.{call_at}
 use Rattle.adapter_compile.specs.Handles.{makes_type, drops_type}
 use Rattle.adapter_compile.specs.Does.{declared_of}
-use Rattle.adapter_valid.specs.Valid.{HasFunctions}
-use Rattle.adapter_valid.proofs.Pieces.{whole_body}
-use Rattle.adapter_valid.proofs.Functions.{sum_declared, get_front, get_back}
+use Rattle.adapter_transfer.specs.Valid.{HasFunctions}
+use Rattle.adapter_transfer.proofs.ValidPieces.{whole_body}
+use Rattle.adapter_transfer.proofs.Functions.{sum_declared, get_front, get_back}
 use Rattle.adapter_module.specs.declared.module.Defined.{Defined}
 use Rattle.adapter_module.specs.Module.{exports_from}
 use Rattle.adapter_module.specs.Valid.{AreDistinct, AreLimits, ImportFits, GlobalFits, SegmentFits, ExportFits, FunctionFits, Fits, names_of}

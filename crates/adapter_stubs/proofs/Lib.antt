@@ -1,3 +1,4 @@
+pub mod Spans
 pub mod Asking
 pub mod Ranging
 pub mod Locals

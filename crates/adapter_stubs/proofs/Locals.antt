@@ -12,7 +12,7 @@ use Rattle.core_body.specs.Locals.{spread}
 use Rattle.adapter_code.specs.declared.statement.Width.{Width}
 use Rattle.adapter_code.specs.declared.statement.Width.TheVariants.{Narrow}
 use Rattle.adapter_compile.specs.Does.{core_type, declared_of}
-use Rattle.adapter_valid.proofs.Functions.{get_front, get_back, locals_of, whole_locals}
+use Rattle.adapter_transfer.proofs.Functions.{get_front, get_back, locals_of, whole_locals}
 use Rattle.adapter_stubs.specs.declared.stub.Stub.{Stub}
 use Rattle.adapter_stubs.specs.Widths.{width_of, IsFlat, widths_of, further, further_of, result_width, host_params, first_widths, stub_widths, flag_of, result_of}
 use Rattle.adapter_stubs.specs.Bodies.{counters_of}

@@ -7,7 +7,7 @@ use Rattle.wasm_ast.specs.declared.instr.BlockType.TheVariants.{Empty}
 use Rattle.wasm_ast.specs.declared.instr.Instr.{Instr}
 use Rattle.wasm_ast.specs.declared.module.Body.{Body}
 use Rattle.wasm_ast.specs.declared.module.CoreFunc.{CoreFunc}
-use Rattle.core_code.specs.Tree.{Seq, Stop, InBlock, tree}
+use Rattle.core_store.specs.Tree.{Seq, Stop, InBlock, tree}
 use Rattle.core_store.specs.State.{can_enter}
 use Rattle.core_store.specs.declared.value.CoreSpaces.{CoreSpaces}
 use Rattle.core_store.specs.declared.value.StoreFunc.TheVariants.{Inside}

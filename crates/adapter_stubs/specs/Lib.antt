@@ -1,3 +1,4 @@
+pub mod Named
 pub mod Stub
 pub mod Widths
 pub mod Bodies

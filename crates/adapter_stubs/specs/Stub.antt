@@ -4,7 +4,7 @@ use Rattle.wasm_ast.specs.declared.module.CoreFunc.{CoreFunc}
 use Rattle.wasm_ast.specs.declared.instr.BlockType.TheVariants.{Empty}
 use Rattle.wasm_ast.specs.declared.instr.Instr.{Instr}
 use Rattle.wasm_ast.specs.declared.instr.Instr.TheVariants.{If, End, Call}
-use Rattle.core_code.specs.Tree.{tree}
+use Rattle.core_store.specs.Tree.{tree}
 use Rattle.core_store.specs.State.{memory_at}
 use Rattle.core_store.specs.Words.{words, values_in}
 use Rattle.core_store.specs.Config.{Reply, Over, Asks, then_do}

@@ -5,7 +5,7 @@ use Rattle.virt_base.specs.declared.core_type.CoreType.TheVariants.{I32, I64, Fu
 use Rattle.adapter_code.specs.declared.statement.Width.{Width}
 use Rattle.adapter_code.specs.declared.statement.Width.TheVariants.{Narrow, Broad}
 use Rattle.adapter_code.specs.Code.{code_of}
-use Rattle.routine_locals.specs.Named.{span}
+use Rattle.adapter_stubs.specs.Named.{span}
 use Rattle.adapter_stubs.specs.declared.stub.HostFunc.{HostFunc}
 use Rattle.adapter_stubs.specs.declared.stub.Stub.{Stub}
 

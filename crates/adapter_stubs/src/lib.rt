@@ -6,6 +6,7 @@ mod functions;
 mod host_call;
 mod imports;
 mod laws;
+mod named;
 mod stub;
 mod stubs;
 mod types;
@@ -13,6 +14,7 @@ mod widths;
 
 pub use host_call::HostCall;
 pub use laws::{stubs_ask, stubs_run};
+pub use named::locals_named;
 pub use stub::{HostFunc, Stub};
 pub use stubs::stubs_module;
 pub use widths::stub_widths;

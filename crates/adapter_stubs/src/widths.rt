@@ -2,12 +2,12 @@
 
 ghost use Rattle.std.specs.Prelude.{◌≡◌, ◌+◌, ◌-◌, ◌++◌, IfOk, OnOk, max};
 ghost use Rattle.adapter_code.specs.Code.{code_of};
-ghost use Rattle.routine_locals.specs.Named.{span};
+ghost use Rattle.adapter_stubs.specs.Named.{span};
 ghost use Rattle.adapter_stubs.specs.Widths.{width_of as width_from, widths_of, width_at as width_in_turn, further, result_width as result_from, host_params, stub_widths as stub_widths_of};
 
+use crate::locals_named;
 use crate::stub::{HostFunc, Stub};
 use adapter_code::Width;
-use routine_locals::locals_named;
 use std::alloc::Global;
 use virt_base::{CoreType, NoMemory};
 

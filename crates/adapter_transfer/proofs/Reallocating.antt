@@ -7,7 +7,7 @@ use Rattle.virt_base.specs.declared.core_type.CoreType.{CoreType}
 use Rattle.virt_base.specs.declared.core_type.CoreType.TheVariants.{I32, I64}
 use Rattle.wasm_ast.specs.declared.instr.BlockType.TheVariants.{Empty}
 use Rattle.wasm_ast.specs.declared.instr.Instr.TheVariants.{Unreachable, End}
-use Rattle.core_code.specs.Tree.{Seq, Stop, Then, InIf, tree}
+use Rattle.core_store.specs.Tree.{Seq, Stop, Then, InIf, tree}
 use Rattle.core_store.specs.declared.value.CoreValue.{CoreValue}
 use Rattle.core_store.specs.declared.value.CoreValue.TheVariants as values
 use Rattle.core_store.specs.declared.value.CoreSpaces.{CoreSpaces}

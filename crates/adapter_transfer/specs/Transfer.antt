@@ -25,7 +25,7 @@ use Rattle.adapter_code.specs.declared.statement.IntOp.TheVariants.{LtU, Add, Su
 use Rattle.adapter_code.specs.Layout.{padded, transfer_at, end_of}
 use Rattle.adapter_compile.specs.Instructions.{get, set, numeric, constant, opcode}
 use Rattle.adapter_compile.specs.Does.{core_type}
-use Rattle.adapter_valid.specs.Valid.{IsPiece}
+use Rattle.adapter_transfer.specs.Valid.{IsPiece}
 
 -- the last multiple of 8 in the area
 abbrev pub last_at : Layout → ℕ

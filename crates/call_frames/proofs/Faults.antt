@@ -7,8 +7,8 @@ use Rattle.wit_types.specs.declared.value.Value.{Value}
 use Rattle.abi_store.specs.Plan.{Plan}
 use Rattle.comp_worlds.specs.Groups.{Config}
 use Rattle.comp_worlds.specs.Locals.{Local, Args}
-use Rattle.instance_handles.specs.declared.fault.HandleFault.{HandleFault}
-use Rattle.instance_handles.specs.declared.fault.HandleFault.TheVariants.{Trap, NoMemory}
+use Rattle.instance_state.specs.declared.fault.HandleFault.{HandleFault}
+use Rattle.instance_state.specs.declared.fault.HandleFault.TheVariants.{Trap, NoMemory}
 use Rattle.instance_values.specs.Passed.{LiftsAs, LowersAs}
 use Rattle.call_frames.specs.declared.end.Stop.{Stop}
 use Rattle.call_frames.specs.Stops.{stop_of_handles}

@@ -1,8 +1,8 @@
 -- How the faults of what stands below end a run.
 use Rattle.core_memory.specs.declared.fault.StoreFault.{StoreFault}
 use Rattle.core_memory.specs.declared.fault.StoreFault.TheVariants as stores
-use Rattle.instance_handles.specs.declared.fault.HandleFault.{HandleFault}
-use Rattle.instance_handles.specs.declared.fault.HandleFault.TheVariants as handles
+use Rattle.instance_state.specs.declared.fault.HandleFault.{HandleFault}
+use Rattle.instance_state.specs.declared.fault.HandleFault.TheVariants as handles
 use Rattle.call_frames.specs.declared.end.Stop.{Stop}
 use Rattle.call_frames.specs.declared.end.Stop.TheVariants.{Trapped, NoMemory}
 

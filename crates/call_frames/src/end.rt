@@ -1,5 +1,5 @@
 use core_store::StoreFault;
-use instance_handles::HandleFault;
+use instance_state::HandleFault;
 use std::alloc::{AllocError, AllocFailed};
 use virt_base::{NoMemory, Trap};
 use wit_types::Value;

@@ -4,7 +4,7 @@ ghost use Rattle.abi_store.specs.Plan.{is_due};
 use crate::depth::Depth;
 use abi_store::StorePlan;
 use core_slots::CoreValues;
-use instance_handles::Loan;
+use instance_state::Loan;
 use instance_values::{CallOptions, Lifting, Target};
 use std::rc::Rc;
 use wit_types::Value;

@@ -4,7 +4,7 @@ ghost use Rattle.call_frames.specs.Grouped.{canon_in};
 
 use host_port::Resource;
 use indexmap::IndexMap;
-use instance_handles::Owners;
+use instance_state::Owners;
 use instance_values::Canon;
 use std::alloc::Global;
 use virt_base::NoMemory;

@@ -2,7 +2,7 @@ ghost use Rattle.std.specs.Prelude.{◌≡◌, ◌<◌, IfSome, IfNone, IsTrue, 
 ghost use Rattle.wit_types.specs.Plain.{plain};
 ghost use Rattle.instance_values.specs.Passed.{needs_memory, IsInStore};
 
-use core_runs::CoreRuns;
+use instance_state::CoreRuns;
 use instance_values::{CallOptions, PassedType};
 
 /// The memory that a canonical function names.

@@ -11,8 +11,8 @@ use Rattle.comp_worlds.specs.Acts.{Trapped, Over, Act, ◌>>◌, traps}
 use Rattle.comp_worlds.specs.Groups.{deeper, Group, World}
 use Rattle.comp_worlds.specs.Calls.{begins_call, asks_for}
 use Rattle.comp_worlds.specs.Hosts.{hosted}
-use Rattle.comp_runs.specs.Running.{running}
-use Rattle.comp_stores.specs.Left.{goes_granted}
+use Rattle.comp_frames.specs.Running.{running}
+use Rattle.comp_frames.specs.Left.{goes_granted}
 use Rattle.comp_frames.specs.Frames.{Awaiting, instance_in}
 use Rattle.comp_frames.proofs.Steps.{storing_goes_on}
 use Rattle.instance_values.specs.Passed.{options_of}
@@ -24,9 +24,9 @@ use Rattle.call_frames.specs.declared.frames.Flow.{Flow}
 use Rattle.call_frames.specs.declared.frames.Flow.TheVariants as flows
 use Rattle.call_frames.specs.declared.frames.Purpose.TheVariants as purposes
 use Rattle.call_frames.specs.declared.frames.Storing.{Storing}
-use Rattle.call_laws.specs.CodeLaws.{nested}
-use Rattle.call_laws.specs.Held.{loans_next}
-use Rattle.call_laws.specs.Shown.{depth_of, storing_of, grants_of, purpose_of}
+use Rattle.call_moments.specs.CodeLaws.{nested}
+use Rattle.call_moments.specs.Held.{loans_next}
+use Rattle.call_moments.specs.Shown.{depth_of, storing_of, grants_of, purpose_of}
 use Rattle.call_moments.specs.Fits.{scenes_of}
 use Rattle.call_moments.specs.Waiting.{due_next, instance_of, AsksRoom}
 use Rattle.call_moments.specs.Leads.{Moment, sizes_of, so_far, Waits, Leads}

@@ -2,12 +2,12 @@
 use Rattle.std.proofs.Common.{◌≡◌, ℕ, List, [], ◌∷◌, sym, subst}
 use Rattle.core_store.specs.State.{State}
 use Rattle.core_store.specs.Scene.{Scene, scene_of, Grows, CameBack}
-use Rattle.core_runs.specs.declared.calls.CoreCall.{CoreCall}
+use Rattle.instance_state.specs.declared.calls.CoreCall.{CoreCall}
 use Rattle.host_port.specs.Hosts.{HostStep}
 use Rattle.comp_worlds.specs.Groups.{Group}
 use Rattle.comp_frames.specs.Frames.{Awaiting}
 use Rattle.call_frames.specs.declared.frames.Frame.{Frame}
-use Rattle.call_laws.specs.Standing.{Calls, with_calls, Stands, AllStand}
+use Rattle.call_moments.specs.Standing.{Calls, with_calls, Stands, AllStand}
 
 module _ {S : Type 0} (h : HostStep S) (G : Group) (stores stores' : ℕ → State) (same : (k : ℕ) → scene_of (stores' k) ≡ scene_of (stores k)) where
   back_on : (k n : ℕ) (since : State) → CameBack since (record (stores k) { nesting = n }) → CameBack since (record (stores' k) { nesting = n })

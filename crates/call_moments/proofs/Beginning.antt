@@ -12,10 +12,10 @@ use Rattle.abi_layout.specs.Functions.{flat_result, core_params, lowered}
 use Rattle.abi_layout.specs.Storing.{Step, Ask, Write, Place, Refuse, Base, Target, Answer, FlatItem, lower_flat, spills}
 use Rattle.abi_store.specs.Plan.{Plan, Nothing, at_plan, flat_plan, spill_plan, is_due, number_in, core_values}
 use Rattle.comp_worlds.specs.Passing.{params_tuple, answer_tuple, answer_parts, most_params, most_results, spills_over}
-use Rattle.comp_stores.specs.Within.{IsRoomy, StayWithin}
-use Rattle.comp_stores.proofs.Rooms.{flat_within}
-use Rattle.comp_stores.proofs.Halts.{begins_within}
-use Rattle.comp_stores.proofs.Flats.{AreIntegerTypes, values_same, flat_integers}
+use Rattle.comp_frames.specs.Within.{IsRoomy, StayWithin}
+use Rattle.comp_frames.proofs.Rooms.{flat_within}
+use Rattle.comp_frames.proofs.Halts.{begins_within}
+use Rattle.comp_frames.proofs.Flats.{AreIntegerTypes, values_same, flat_integers}
 use Rattle.instance_values.specs.Passed.{params_plan, result_plan}
 use Rattle.call_moments.specs.Functions.{ComesLater}
 use Rattle.call_moments.proofs.FlatCounts.{flats_count}

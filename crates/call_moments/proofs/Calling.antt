@@ -23,14 +23,14 @@ use Rattle.comp_worlds.specs.Groups.{Nesting, deeper, Group, Lifting, Target, Mi
 use Rattle.comp_worlds.specs.Locals.{Local, Args, gives_in, done, is_open, enter, lifts}
 use Rattle.comp_worlds.specs.Calls.{on, below, begins_call, place_in, performs}
 use Rattle.comp_worlds.specs.Hosts.{passed_by, hosted}
-use Rattle.comp_runs.specs.Running.{running}
+use Rattle.comp_frames.specs.Running.{running}
 use Rattle.comp_frames.specs.Frames.{Asker, Awaiting, FromCode, instance_in, is_answered}
 use Rattle.comp_frames.specs.Laws.{is_called, calls_lifted, asks_target}
 use Rattle.comp_frames.proofs.Steps.{calls_go_back}
 use Rattle.instance_state.specs.declared.instance.Instance.{Instance}
 use Rattle.instance_state.specs.Shown.{config_of}
-use Rattle.instance_handles.specs.declared.loan.Loan.{Loan}
-use Rattle.instance_handles.specs.Loans.{indexes_of, IsLentAs}
+use Rattle.instance_state.specs.declared.loan.Loan.{Loan}
+use Rattle.instance_state.specs.Loans.{indexes_of, IsLentAs}
 use Rattle.instance_values.specs.Passed.{options_of, needs_memory, IsInStore, IsLiftedAs}
 use Rattle.instance_values.specs.Targets.{target_of, lifting_of}
 use Rattle.instance_values.specs.declared.options.CallOptions.{CallOptions}
@@ -50,12 +50,12 @@ use Rattle.call_frames.specs.declared.frames.Caller.TheVariants as callers
 use Rattle.call_frames.specs.declared.frames.Due.TheVariants as dues
 use Rattle.call_frames.specs.declared.frames.Frame.{Frame}
 use Rattle.call_frames.specs.declared.frames.Service.{Service}
-use Rattle.call_laws.specs.CodeLaws.{nested}
-use Rattle.call_laws.specs.Held.{Maps, with_map, AllLend, loans_by}
-use Rattle.call_laws.specs.Lending.{IsLending}
-use Rattle.call_laws.specs.Shown.{depth_of, asker_of, caller_of}
-use Rattle.call_laws.proofs.Ending.{last_first}
-use Rattle.call_laws.proofs.Lending.{handles_stay}
+use Rattle.call_moments.specs.CodeLaws.{nested}
+use Rattle.call_moments.specs.Held.{Maps, with_map, AllLend, loans_by}
+use Rattle.call_moments.specs.Lending.{IsLending}
+use Rattle.call_moments.specs.Shown.{depth_of, asker_of, caller_of}
+use Rattle.call_moments.proofs.LawsEnding.{last_first}
+use Rattle.call_moments.proofs.Lending.{handles_stay}
 use Rattle.call_moments.specs.Fits.{scenes_of, OptionsFit, HasMemory, LiftingFits, PassesAlike, TargetFits}
 use Rattle.call_moments.specs.Waiting.{due_to, instance_of, CallerFits, AllAwait}
 use Rattle.call_moments.specs.Leads.{Moment, calls_of, maps_of, so_far, Same, Waits, Ends, Leads}

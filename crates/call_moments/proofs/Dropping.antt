@@ -15,16 +15,16 @@ use Rattle.comp_worlds.specs.Groups.{Nesting, deeper, Group, Func, ResourceNew, 
 use Rattle.comp_worlds.specs.Locals.{Local, gives_in, done, enter, makes, reads, removes}
 use Rattle.comp_worlds.specs.Calls.{on, below, begins_call, owned_by, owns, plainly, as_words, performs}
 use Rattle.comp_worlds.specs.Hosts.{hosted}
-use Rattle.comp_runs.proofs.Heads.{before_before, then_alike}
-use Rattle.comp_runs.proofs.Hosting.{host_loses}
-use Rattle.comp_runs.specs.Running.{running}
+use Rattle.comp_frames.proofs.Heads.{before_before, then_alike}
+use Rattle.comp_frames.proofs.Hosting.{host_loses}
+use Rattle.comp_frames.specs.Running.{running}
 use Rattle.comp_frames.specs.Frames.{Awaiting, Destroys as ToDestroy, instance_in, comes_back}
 use Rattle.comp_frames.specs.Laws.{destroys, drops_own, drops_taken}
 use Rattle.comp_frames.proofs.Steps.{calls_go_back}
 use Rattle.instance_state.specs.declared.instance.Instance.{Instance}
 use Rattle.instance_state.specs.Shown.{config_of}
-use Rattle.instance_handles.specs.declared.owners.Owner.{Owner as CodeOwner}
-use Rattle.instance_handles.specs.Owning.{owner_of, owner_in}
+use Rattle.instance_state.specs.declared.owners.Owner.{Owner as CodeOwner}
+use Rattle.instance_state.specs.Owning.{owner_of, owner_in}
 use Rattle.call_frames.specs.Steps.{BeginsCall}
 use Rattle.call_frames.specs.Words.{only_word_in}
 use Rattle.call_frames.specs.declared.depth.Depth.{Depth}
@@ -35,11 +35,11 @@ use Rattle.call_frames.specs.declared.frames.Flow.TheVariants as flows
 use Rattle.call_frames.specs.declared.frames.Purpose.TheVariants as purposes
 use Rattle.call_frames.specs.declared.frames.Visit.{Visit}
 use Rattle.call_frames.specs.declared.frames.Visit.TheVariants as visits
-use Rattle.call_laws.specs.CodeLaws.{nested}
-use Rattle.call_laws.specs.Configs.{world_of}
-use Rattle.call_laws.specs.LoanLaws.{LeavesLent}
-use Rattle.call_laws.specs.Shown.{depth_of, visits_of}
-use Rattle.call_laws.proofs.Lending.{handles_stay}
+use Rattle.call_moments.specs.CodeLaws.{nested}
+use Rattle.call_moments.specs.Configs.{world_of}
+use Rattle.call_moments.specs.LoanLaws.{LeavesLent}
+use Rattle.call_moments.specs.Shown.{depth_of, visits_of}
+use Rattle.call_moments.proofs.Lending.{handles_stay}
 use Rattle.call_moments.specs.Fits.{scenes_of, core_type_of, Takes, OwnerFits, FuncFits}
 use Rattle.call_moments.specs.Waiting.{instance_of}
 use Rattle.call_moments.specs.Leads.{Moment, sizes_of, so_far, Same, Waits, Ends, Leads}

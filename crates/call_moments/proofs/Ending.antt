@@ -12,8 +12,8 @@ use Rattle.comp_worlds.specs.Acts.{Next, seen_before, Act, ◌>>◌, gives}
 use Rattle.comp_worlds.specs.Groups.{Nesting, deeper, Group, Func, World}
 use Rattle.comp_worlds.specs.Calls.{begins_call, performs}
 use Rattle.comp_worlds.specs.Hosts.{hosted}
-use Rattle.comp_runs.proofs.Heads.{before_next}
-use Rattle.comp_runs.specs.Running.{running}
+use Rattle.comp_frames.proofs.Heads.{before_next}
+use Rattle.comp_frames.specs.Running.{running}
 use Rattle.comp_frames.specs.Frames.{Awaiting}
 use Rattle.instance_values.specs.Targets.{func_of}
 use Rattle.instance_values.specs.declared.canon.Canon.{Canon}
@@ -31,10 +31,10 @@ use Rattle.call_frames.specs.declared.frames.Purpose.TheVariants as purposes
 use Rattle.call_frames.specs.declared.frames.Service.{Service}
 use Rattle.call_frames.specs.declared.frames.Storing.{Storing}
 use Rattle.call_frames.specs.declared.frames.Visit.{Visit}
-use Rattle.call_laws.specs.CodeLaws.{nested}
-use Rattle.call_laws.specs.Configs.{world_of}
-use Rattle.call_laws.specs.Held.{AllLend, loans_behind}
-use Rattle.call_laws.specs.Shown.{depth_of, purpose_of}
+use Rattle.call_moments.specs.CodeLaws.{nested}
+use Rattle.call_moments.specs.Configs.{world_of}
+use Rattle.call_moments.specs.Held.{AllLend, loans_behind}
+use Rattle.call_moments.specs.Shown.{depth_of, purpose_of}
 use Rattle.call_moments.specs.Fits.{scenes_of, core_type_of, FuncFits}
 use Rattle.call_moments.specs.Waiting.{due_behind, instance_of, PurposeFits, WillAnswer, RoomOf, GrantFits}
 use Rattle.call_moments.specs.Leads.{Moment, stores_of, calls_of, maps_of, sizes_of, so_far, Waits, IsDone, Leads}

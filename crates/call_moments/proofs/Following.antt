@@ -12,10 +12,10 @@ use Rattle.comp_worlds.specs.Groups.{deeper, Group, Config, World}
 use Rattle.comp_worlds.specs.Locals.{Local, gives_in, done}
 use Rattle.comp_worlds.specs.Calls.{with_config, on, begins_call}
 use Rattle.comp_frames.specs.Frames.{Awaiting}
-use Rattle.comp_runs.proofs.Heads.{on_some, on_none, after_unseen, after_over, after_spent, before_before}
-use Rattle.comp_stores.proofs.Halts.{here, world_twice}
+use Rattle.comp_frames.proofs.Heads.{on_some, on_none, after_unseen, after_over, after_spent, before_before}
+use Rattle.comp_frames.proofs.Halts.{here, world_twice}
 use Rattle.instance_state.specs.declared.instance.Instance.{Instance}
-use Rattle.instance_handles.specs.declared.loan.Loan.{Loan}
+use Rattle.instance_state.specs.declared.loan.Loan.{Loan}
 use Rattle.instance_state.specs.Shown.{config_of}
 use Rattle.call_frames.specs.declared.depth.Depth.{Depth}
 use Rattle.call_frames.specs.declared.end.Stop.{Stop}
@@ -23,16 +23,16 @@ use Rattle.call_frames.specs.declared.end.Stop.TheVariants as stops
 use Rattle.call_frames.specs.declared.frames.Flow.{Flow}
 use Rattle.call_frames.specs.declared.frames.Flow.TheVariants as flows
 use Rattle.call_frames.specs.Steps.{BeginsCall}
-use Rattle.call_laws.specs.Laws.{nested}
-use Rattle.call_laws.proofs.Begins.{begun}
-use Rattle.call_laws.specs.Configs.{config_or_rest, configs_of, world_of}
-use Rattle.call_laws.proofs.Worlds.{config_at, changed}
-use Rattle.call_laws.specs.Standing.{AllStand}
-use Rattle.call_laws.specs.Lending.{IsLending}
-use Rattle.call_laws.specs.Held.{AllLend}
-use Rattle.call_laws.specs.LoanLaws.{LeavesLent}
-use Rattle.call_laws.specs.EndingLaws.{LeavesLent as LeavesMap}
-use Rattle.call_laws.proofs.Ending.{last_first}
+use Rattle.call_moments.specs.Laws.{nested}
+use Rattle.call_moments.proofs.Begins.{begun}
+use Rattle.call_moments.specs.Configs.{config_or_rest, configs_of, world_of}
+use Rattle.call_moments.proofs.Worlds.{config_at, changed}
+use Rattle.call_moments.specs.Standing.{AllStand}
+use Rattle.call_moments.specs.Lending.{IsLending}
+use Rattle.call_moments.specs.Held.{AllLend}
+use Rattle.call_moments.specs.LoanLaws.{LeavesLent}
+use Rattle.call_moments.specs.EndingLaws.{LeavesLent as LeavesMap}
+use Rattle.call_moments.proofs.LawsEnding.{last_first}
 use Rattle.call_moments.specs.Fits.{scenes_of, Fits}
 use Rattle.call_moments.specs.Waiting.{AllAwait, AllRoomy}
 use Rattle.call_moments.specs.Leads.{Moment, stores_of, calls_of, maps_of, so_far, Same, Waits, GoesOn, IsDone, Ends, Leads}

@@ -11,15 +11,15 @@ use Rattle.host_port.specs.Hosts.{HostStep}
 use Rattle.comp_worlds.specs.Acts.{Out}
 use Rattle.comp_worlds.specs.Groups.{Group, World}
 use Rattle.comp_worlds.specs.Hosts.{hosted}
-use Rattle.comp_runs.specs.Running.{running}
-use Rattle.comp_stores.specs.Left.{goes_granted, does_due}
+use Rattle.comp_frames.specs.Running.{running}
+use Rattle.comp_frames.specs.Left.{goes_granted, does_due}
 use Rattle.comp_frames.specs.Frames.{Awaiting}
 use Rattle.instance_values.specs.Passed.{options_of}
 use Rattle.call_frames.specs.Words.{only_word_in}
 use Rattle.call_frames.specs.declared.end.Stop.{Stop}
 use Rattle.call_frames.specs.declared.frames.Flow.{Flow}
 use Rattle.call_frames.specs.declared.frames.Storing.{Storing}
-use Rattle.call_laws.specs.Shown.{depth_of, storing_of, grants_of}
+use Rattle.call_moments.specs.Shown.{depth_of, storing_of, grants_of}
 use Rattle.call_moments.specs.Leads.{Moment, so_far, Leads}
 use Rattle.call_moments.specs.Functions.{Stores, IsGranted, behind, storing_so}
 use Rattle.call_moments.proofs.Following.{leads_by}

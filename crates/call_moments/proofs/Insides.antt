@@ -8,17 +8,17 @@ use Rattle.core_store.specs.Scene.{Scene}
 use Rattle.core_store.specs.declared.value.CoreValue.{CoreValue}
 use Rattle.virt_base.specs.declared.fault.Trap.{Trap as IsTrap}
 use Rattle.core_interp.specs.Session.{awaited}
-use Rattle.core_runs.specs.Ready.{Runs}
-use Rattle.core_runs.specs.Done.{Resumes}
+use Rattle.instance_state.specs.Ready.{Runs}
+use Rattle.instance_state.specs.Done.{Resumes}
 use Rattle.host_port.specs.Hosts.{HostStep}
 use Rattle.comp_worlds.specs.Groups.{Group}
 use Rattle.comp_frames.specs.Frames.{Awaiting, instance_in}
 use Rattle.instance_state.specs.declared.instance.Instance.{Instance}
-use Rattle.instance_handles.specs.declared.loan.Loan.{Loan}
+use Rattle.instance_state.specs.declared.loan.Loan.{Loan}
 use Rattle.call_frames.specs.declared.frames.Frame.{Frame}
 use Rattle.call_frames.specs.declared.end.Stop.{Stop}
 use Rattle.call_frames.specs.declared.end.Stop.TheVariants as stops
-use Rattle.call_laws.specs.Standing.{Calls, AllStand}
+use Rattle.call_moments.specs.Standing.{Calls, AllStand}
 use Rattle.call_moments.specs.Fits.{scenes_of}
 use Rattle.call_moments.specs.Waiting.{instance_of, AllAwait}
 use Rattle.call_moments.specs.Leads.{Moment, stores_of, calls_of, Waits}

@@ -9,13 +9,13 @@ use Rattle.std.proofs.lemmas.Option.{slice_get-map}
 use Rattle.core_memory.specs.Linear.{Linear}
 use Rattle.core_store.specs.State.{memory_at}
 use Rattle.core_store.specs.Scene.{Scene, scene_of}
-use Rattle.core_runs.specs.declared.calls.CoreCall.{CoreCall}
+use Rattle.instance_state.specs.declared.calls.CoreCall.{CoreCall}
 use Rattle.comp_worlds.specs.Calls.{pick}
 use Rattle.instance_state.specs.declared.instance.Instance.{Instance}
-use Rattle.call_laws.specs.Configs.{config_or_rest}
-use Rattle.call_laws.proofs.Worlds.{same_place, other_place}
-use Rattle.call_laws.specs.Standing.{with_calls, with_store}
-use Rattle.call_laws.specs.Held.{with_map}
+use Rattle.call_moments.specs.Configs.{config_or_rest}
+use Rattle.call_moments.proofs.Worlds.{same_place, other_place}
+use Rattle.call_moments.specs.Standing.{with_calls, with_store}
+use Rattle.call_moments.specs.Held.{with_map}
 use Rattle.call_moments.specs.Fits.{scenes_of}
 use Rattle.call_moments.specs.Leads.{calls_in, stores_of, calls_of, maps_of, sizes_of, AreStill, OneGoes}
 

@@ -9,7 +9,7 @@ use Rattle.core_store.specs.declared.value.CoreValue.TheVariants as values
 use Rattle.wit_types.specs.Plain.{Plain, PlainFunc}
 use Rattle.wit_types.specs.Layout.{flat_fields}
 use Rattle.abi_layout.specs.Functions.{flat_result, params_spill, result_spills, core_params, lifted, lowered}
-use Rattle.comp_stores.proofs.Flats.{AreIntegerTypes, flat_integers, fields_integers}
+use Rattle.comp_frames.proofs.Flats.{AreIntegerTypes, flat_integers, fields_integers}
 use Rattle.instance_values.proofs.Words.{AreIntegers}
 
 integers_of : (ts : List CoreType) (vs : List CoreValue) → AreIntegerTypes ts → HaveTypes ts vs → AreIntegers vs

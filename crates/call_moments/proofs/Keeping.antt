@@ -9,18 +9,18 @@ use Rattle.abi_store.specs.Plan.{Due, Nothing, Given, Asked}
 use Rattle.host_port.specs.Hosts.{HostStep}
 use Rattle.comp_worlds.specs.Groups.{Group}
 use Rattle.comp_worlds.specs.Calls.{pick}
-use Rattle.comp_stores.specs.Within.{IsRoomy}
-use Rattle.comp_stores.proofs.Rooms.{grown_within}
+use Rattle.comp_frames.specs.Within.{IsRoomy}
+use Rattle.comp_frames.proofs.Rooms.{grown_within}
 use Rattle.comp_frames.specs.Frames.{Awaiting}
 use Rattle.instance_state.specs.declared.instance.Instance.{Instance}
-use Rattle.instance_handles.specs.declared.loan.Loan.{Loan}
+use Rattle.instance_state.specs.declared.loan.Loan.{Loan}
 use Rattle.call_frames.specs.declared.frames.Frame.{Frame}
 use Rattle.call_frames.specs.declared.frames.Purpose.{Purpose}
 use Rattle.call_frames.specs.declared.frames.Purpose.TheVariants as purposes
 use Rattle.call_frames.specs.declared.frames.Storing.{Storing}
-use Rattle.call_laws.specs.Held.{AllLend}
-use Rattle.call_laws.specs.MemoryLaws.{NoShorter}
-use Rattle.call_laws.specs.Standing.{with_calls, AllStand}
+use Rattle.call_moments.specs.Held.{AllLend}
+use Rattle.call_moments.specs.MemoryLaws.{NoShorter}
+use Rattle.call_moments.specs.Standing.{with_calls, AllStand}
 use Rattle.call_moments.specs.Fits.{scenes_of, Fits}
 use Rattle.call_moments.specs.Waiting.{IsRoomyFor, RoomOf, AllRoomy, AllAwait}
 use Rattle.call_moments.specs.Leads.{Moment, stores_of, calls_of, maps_of, sizes_of, Same, Waits}

@@ -12,11 +12,11 @@ use Rattle.comp_worlds.specs.Groups.{Nesting, deeper, Lifting, Group, World, Due
 use Rattle.comp_worlds.specs.Calls.{on, begins_call}
 use Rattle.comp_worlds.specs.Locals.{done, exit, close, reopen}
 use Rattle.comp_worlds.specs.Hosts.{hosted}
-use Rattle.comp_runs.proofs.Heads.{before_next}
-use Rattle.comp_runs.proofs.Hosting.{host_left}
+use Rattle.comp_frames.proofs.Heads.{before_next}
+use Rattle.comp_frames.proofs.Hosting.{host_left}
 use Rattle.comp_frames.specs.Frames.{Awaiting, Back, ToOutside, Returns, Destroys, instance_in, is_left, goes_back, comes_back, resumes}
 use Rattle.comp_frames.proofs.Steps.{leaves_calls}
-use Rattle.comp_runs.specs.Running.{running}
+use Rattle.comp_frames.specs.Running.{running}
 use Rattle.instance_state.specs.declared.instance.Instance.{Instance}
 use Rattle.call_frames.specs.declared.frames.Frame.{Frame}
 use Rattle.instance_state.specs.Shown.{config_of}
@@ -29,12 +29,12 @@ use Rattle.call_frames.specs.declared.frames.Visit.{Visit}
 use Rattle.call_frames.specs.declared.frames.Visit.TheVariants as visits
 use Rattle.wit_types.specs.declared.value.Value.{Value}
 use Rattle.wit_types.specs.PlainValue.{plain_value}
-use Rattle.call_laws.specs.Shown.{back_of, visits_of}
-use Rattle.call_laws.specs.Configs.{world_of}
-use Rattle.call_laws.specs.CodeLaws.{nested}
-use Rattle.call_laws.specs.Standing.{Calls, AllStand}
-use Rattle.call_laws.specs.Held.{AllLend}
-use Rattle.call_laws.proofs.Lending.{handles_stay}
+use Rattle.call_moments.specs.Shown.{back_of, visits_of}
+use Rattle.call_moments.specs.Configs.{world_of}
+use Rattle.call_moments.specs.CodeLaws.{nested}
+use Rattle.call_moments.specs.Standing.{Calls, AllStand}
+use Rattle.call_moments.specs.Held.{AllLend}
+use Rattle.call_moments.proofs.Lending.{handles_stay}
 use Rattle.call_moments.specs.Fits.{scenes_of}
 use Rattle.call_moments.specs.Waiting.{due_back, AllAwait}
 use Rattle.call_moments.specs.Leads.{Moment, stores_of, calls_of, maps_of, so_far, Same, Waits, IsDone, Leads}

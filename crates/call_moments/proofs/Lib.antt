@@ -1,3 +1,16 @@
+pub mod Begins
+pub mod Own
+pub mod Answers
+pub mod Worlds
+pub mod Backs
+pub mod Coding
+pub mod LawsStoring
+pub mod Counting
+pub mod Lending
+pub mod LawsEnding
+pub mod Changes
+pub mod Running
+pub mod Whole
 pub mod Instances
 pub mod Following
 pub mod Resuming

@@ -23,18 +23,18 @@ use Rattle.comp_worlds.specs.Groups.{Group, Options, Lifting, type_of, Config, W
 use Rattle.comp_worlds.specs.Locals.{Local, gives_in, done, close, adds_handles, ends_loans}
 use Rattle.comp_worlds.specs.Calls.{pick, with_config, on, borrowed, unborrowed, plainly}
 use Rattle.comp_worlds.specs.Hosts.{passed_by, hosted}
-use Rattle.comp_runs.proofs.Heads.{on_some}
-use Rattle.comp_runs.specs.Running.{running}
-use Rattle.comp_stores.specs.Left.{does_due}
-use Rattle.comp_stores.proofs.Halts.{here, world_twice}
+use Rattle.comp_frames.proofs.Heads.{on_some}
+use Rattle.comp_frames.specs.Running.{running}
+use Rattle.comp_frames.specs.Left.{does_due}
+use Rattle.comp_frames.proofs.Halts.{here, world_twice}
 use Rattle.comp_frames.specs.Frames.{Awaiting, FromCode, Params, Result as ResultNext, Stored as StoredNext, instance_in, is_storing, is_answered}
 use Rattle.comp_frames.specs.Laws.{does_plan, is_called}
 use Rattle.comp_frames.proofs.Lowering.{lowers_by_plans}
 use Rattle.instance_state.specs.declared.instance.Instance.{Instance}
 use Rattle.instance_state.specs.Shown.{config_of}
-use Rattle.instance_handles.specs.declared.loan.Loan.{Loan}
-use Rattle.instance_handles.specs.Loans.{indexes_of, AreLent}
-use Rattle.instance_handles.specs.Owning.{plain_for}
+use Rattle.instance_state.specs.declared.loan.Loan.{Loan}
+use Rattle.instance_state.specs.Loans.{indexes_of, AreLent}
+use Rattle.instance_state.specs.Owning.{plain_for}
 use Rattle.instance_values.specs.Passed.{options_of, needs_memory, IsLoweredAs, params_plan, result_plan}
 use Rattle.instance_values.specs.Targets.{target_of, lifting_of}
 use Rattle.call_frames.specs.Stores.{BeginsToStore, Stores as BeginStores, without_loans}
@@ -48,15 +48,15 @@ use Rattle.call_frames.specs.declared.frames.Call.{Call}
 use Rattle.call_frames.specs.declared.frames.Due.{Due}
 use Rattle.call_frames.specs.declared.frames.Storing.{Storing}
 use Rattle.call_frames.specs.declared.frames.Stored.TheVariants as stored
-use Rattle.call_laws.specs.CodeLaws.{nested}
-use Rattle.call_laws.specs.Configs.{world_of}
-use Rattle.call_laws.specs.EndingLaws.{LeavesLent as LeavesMap}
-use Rattle.call_laws.specs.Held.{Maps, with_map, AllLend, loans_by}
-use Rattle.call_laws.specs.Lending.{IsLending}
-use Rattle.call_laws.specs.Shown.{depth_of, asker_of, caller_of, due_of, service_of, next_of}
-use Rattle.call_laws.proofs.Ending.{last_first}
-use Rattle.call_laws.proofs.Lending.{handles_stay}
-use Rattle.call_laws.proofs.Worlds.{config_at, changed}
+use Rattle.call_moments.specs.CodeLaws.{nested}
+use Rattle.call_moments.specs.Configs.{world_of}
+use Rattle.call_moments.specs.EndingLaws.{LeavesLent as LeavesMap}
+use Rattle.call_moments.specs.Held.{Maps, with_map, AllLend, loans_by}
+use Rattle.call_moments.specs.Lending.{IsLending}
+use Rattle.call_moments.specs.Shown.{depth_of, asker_of, caller_of, due_of, service_of, next_of}
+use Rattle.call_moments.proofs.LawsEnding.{last_first}
+use Rattle.call_moments.proofs.Lending.{handles_stay}
+use Rattle.call_moments.proofs.Worlds.{config_at, changed}
 use Rattle.call_moments.specs.Fits.{scenes_of, OptionsFit, HasMemory, PassesAlike}
 use Rattle.call_moments.specs.Waiting.{due_to, due_next, instance_of, AsksRoom, StoringFits, NextFits, ServiceFits, DueFits, IsDueAt, AllAwait}
 use Rattle.call_moments.specs.Leads.{Moment, calls_of, maps_of, sizes_of, so_far, Waits, Ends, Leads}

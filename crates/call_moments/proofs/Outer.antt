@@ -16,8 +16,8 @@ use Rattle.comp_worlds.specs.Passing.{Passed, params_tuple, answer_tuple, blank,
 use Rattle.comp_worlds.specs.Groups.{Nesting, Endless, Nested, Group, Lifting, Target, Mine, Theirs, type_of, Import, World, Answer, Origin, Inside, Outside, Ports, has_room}
 use Rattle.comp_worlds.specs.Calls.{below, below_end, begins_call, finds_room, if_room, too_deep, answers, leaves, starts}
 use Rattle.comp_worlds.specs.Hosts.{passed_by, hosted, reacts}
-use Rattle.comp_runs.proofs.Heads.{before_then, before_next, then_then, then_alike, gives_then, below_then}
-use Rattle.comp_runs.specs.Running.{running}
+use Rattle.comp_frames.proofs.Heads.{before_then, before_next, then_then, then_alike, gives_then, below_then}
+use Rattle.comp_frames.specs.Running.{running}
 use Rattle.comp_frames.specs.Frames.{Awaiting, instance_in}
 use Rattle.comp_frames.specs.Laws.{calls_lifted}
 use Rattle.comp_frames.specs.Frames as defined
@@ -32,12 +32,12 @@ use Rattle.call_frames.specs.declared.frames.Flow.{Flow}
 use Rattle.call_frames.specs.declared.frames.Flow.TheVariants as flows
 use Rattle.call_frames.specs.declared.frames.Caller.TheVariants as callers
 use Rattle.call_frames.specs.declared.frames.Purpose.TheVariants as purposes
-use Rattle.call_laws.specs.CodeLaws.{nested}
-use Rattle.call_laws.specs.Configs.{world_of}
-use Rattle.call_laws.specs.Held.{AllLend}
-use Rattle.call_laws.specs.Shown.{depth_of}
-use Rattle.call_laws.specs.Standing.{AllStand}
-use Rattle.call_laws.proofs.Own.{numbers, own_numbers}
+use Rattle.call_moments.specs.CodeLaws.{nested}
+use Rattle.call_moments.specs.Configs.{world_of}
+use Rattle.call_moments.specs.Held.{AllLend}
+use Rattle.call_moments.specs.Shown.{depth_of}
+use Rattle.call_moments.specs.Standing.{AllStand}
+use Rattle.call_moments.proofs.Own.{numbers, own_numbers}
 use Rattle.call_moments.specs.Fits.{scenes_of, Takes, TargetFits}
 use Rattle.call_moments.specs.Waiting.{HoldsNone, instance_of, AllAwait, AllRoomy}
 use Rattle.call_moments.specs.Leads.{Moment, stores_of, calls_of, maps_of, sizes_of, so_far, Same, Waits, GoesOn, IsAtRest, IsDone, Ends, Leads}

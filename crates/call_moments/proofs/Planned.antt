@@ -13,15 +13,15 @@ use Rattle.comp_worlds.specs.Acts.{Trapped, Out, Next, Over, then_do, seen_befor
 use Rattle.comp_worlds.specs.Groups.{Nesting, Options, Group, Config, World, Ports}
 use Rattle.comp_worlds.specs.Locals.{with_store, flat_word}
 use Rattle.comp_worlds.specs.Calls.{with_config, Run, asks_for}
-use Rattle.comp_stores.specs.Within.{IsRoomy}
-use Rattle.comp_stores.specs.Left.{store_with, config_with, world_with, does_left, goes_granted, does_due, goes_from}
-use Rattle.comp_stores.proofs.Acts.{nothing_before}
-use Rattle.comp_stores.proofs.Halts.{goes_on_as}
-use Rattle.comp_runs.proofs.Heads.{then_at}
+use Rattle.comp_frames.specs.Within.{IsRoomy}
+use Rattle.comp_frames.specs.Left.{store_with, config_with, world_with, does_left, goes_granted, does_due, goes_from}
+use Rattle.comp_frames.proofs.Acts.{nothing_before}
+use Rattle.comp_frames.proofs.Halts.{goes_on_as}
+use Rattle.comp_frames.proofs.Heads.{then_at}
 use Rattle.instance_state.specs.declared.instance.Instance.{Instance}
 use Rattle.instance_state.specs.Shown.{config_of}
-use Rattle.call_laws.specs.Configs.{configs_of, world_of}
-use Rattle.call_laws.proofs.Worlds.{config_at, changed}
+use Rattle.call_moments.specs.Configs.{configs_of, world_of}
+use Rattle.call_moments.proofs.Worlds.{config_at, changed}
 use Rattle.call_moments.specs.Functions.{ComesLater}
 use Rattle.call_moments.specs.Leads.{Moment, so_far}
 use Rattle.call_moments.proofs.Following.{with_instance}

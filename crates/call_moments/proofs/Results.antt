@@ -25,7 +25,7 @@ use Rattle.comp_worlds.specs.Hosts.{passed_by, hosted}
 use Rattle.comp_frames.specs.Frames.{Awaiting, Serves, instance_in, is_left, is_answered}
 use Rattle.instance_state.specs.declared.instance.Instance.{Instance}
 use Rattle.instance_state.specs.Shown.{config_of}
-use Rattle.instance_handles.specs.Loans.{indexes_of, IsLentAs}
+use Rattle.instance_state.specs.Loans.{indexes_of, IsLentAs}
 use Rattle.instance_values.specs.Passed.{options_of, needs_memory, IsInStore, IsLiftedAs}
 use Rattle.instance_values.specs.Targets.{target_of, lifting_of}
 use Rattle.instance_values.specs.declared.target.Lifting.{Lifting as CodeLifting}
@@ -41,12 +41,12 @@ use Rattle.call_frames.specs.declared.frames.Due.TheVariants as dues
 use Rattle.call_frames.specs.declared.frames.Frame.{Frame}
 use Rattle.call_frames.specs.declared.frames.Served.{Served}
 use Rattle.call_frames.specs.declared.frames.Service.{Service}
-use Rattle.call_laws.specs.CodeLaws.{nested}
-use Rattle.call_laws.specs.EndingLaws.{LeavesLent as LeavesMap}
-use Rattle.call_laws.specs.Held.{loans_by}
-use Rattle.call_laws.specs.Shown.{depth_of, caller_of, service_of}
-use Rattle.call_laws.proofs.Lending.{handles_stay}
-use Rattle.call_laws.proofs.Own.{numbers, own_numbers}
+use Rattle.call_moments.specs.CodeLaws.{nested}
+use Rattle.call_moments.specs.EndingLaws.{LeavesLent as LeavesMap}
+use Rattle.call_moments.specs.Held.{loans_by}
+use Rattle.call_moments.specs.Shown.{depth_of, caller_of, service_of}
+use Rattle.call_moments.proofs.Lending.{handles_stay}
+use Rattle.call_moments.proofs.Own.{numbers, own_numbers}
 use Rattle.call_moments.specs.Fits.{scenes_of, Takes, HasMemory, OptionsFit, answers_of}
 use Rattle.call_moments.specs.Waiting.{due_to, instance_of, HoldsNone, CallerFits, ServiceFits, DueFits}
 use Rattle.call_moments.specs.Leads.{Moment, so_far, Same, Waits, Ends, Leads}

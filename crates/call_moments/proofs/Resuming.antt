@@ -12,9 +12,9 @@ use Rattle.core_memory.specs.declared.fault.StoreFault.{StoreFault}
 use Rattle.core_memory.specs.declared.fault.StoreFault.TheVariants as faults
 use Rattle.call_frames.specs.declared.end.Stop.{Stop}
 use Rattle.call_frames.specs.Stops.{stop_of_store}
-use Rattle.core_runs.specs.declared.calls.CoreCall.{CoreCall}
-use Rattle.core_runs.specs.Ready.{Runs}
-use Rattle.core_runs.specs.Done.{Begun, Begins, Resumes, Resumed}
+use Rattle.instance_state.specs.declared.calls.CoreCall.{CoreCall}
+use Rattle.instance_state.specs.Ready.{Runs}
+use Rattle.instance_state.specs.Done.{Begun, Begins, Resumes, Resumed}
 use Rattle.wit_types.specs.PlainValue.{PlainValue}
 use Rattle.host_port.specs.Hosts.{HostStep}
 use Rattle.comp_worlds.specs.Acts.{Out, seen_before, Act, ◌>>◌}
@@ -22,27 +22,27 @@ use Rattle.comp_worlds.specs.Groups.{Group, Config, World}
 use Rattle.comp_worlds.specs.Locals.{with_store}
 use Rattle.comp_worlds.specs.Calls.{pick, with_config}
 use Rattle.comp_worlds.specs.Hosts.{hosted}
-use Rattle.comp_parts.proofs.Fair.{host_fair}
-use Rattle.comp_runs.specs.Running.{running, stored}
-use Rattle.comp_runs.specs.Pausing.{IsRunBy}
-use Rattle.comp_runs.proofs.Heads.{then_at}
-use Rattle.comp_runs.proofs.Pausing.{pauses_lead}
+use Rattle.comp_worlds.proofs.Fair.{host_fair}
+use Rattle.comp_frames.specs.Running.{running, stored}
+use Rattle.comp_frames.specs.Pausing.{IsRunBy}
+use Rattle.comp_frames.proofs.Heads.{then_at}
+use Rattle.comp_frames.proofs.Pausing.{pauses_lead}
 use Rattle.comp_frames.specs.Frames.{Awaiting, resumes, ends_in}
 use Rattle.comp_frames.specs.Frames as defined
 use Rattle.instance_state.specs.declared.instance.Instance.{Instance}
 use Rattle.instance_state.specs.Shown.{config_of}
 use Rattle.call_frames.specs.declared.frames.Frame.{Frame}
 use Rattle.call_frames.specs.declared.frames.Purpose.{Purpose}
-use Rattle.call_laws.specs.Configs.{configs_of, world_of}
-use Rattle.call_laws.proofs.Worlds.{same_place, config_at, changed}
-use Rattle.call_laws.specs.CodeLaws.{nested, HasBegun}
-use Rattle.call_laws.proofs.Coding.{code_begins}
-use Rattle.call_laws.specs.Shown.{purpose_of}
-use Rattle.call_laws.specs.Standing.{Calls, with_calls, with_store as with_state, AllStand, Goes}
-use Rattle.call_laws.specs.FrameLaws.{GoOn}
-use Rattle.call_laws.specs.Held.{loans_behind, AllLend}
-use Rattle.call_laws.proofs.Ending.{last_first}
-use Rattle.call_laws.proofs.Backs.{results_come, code_begins_inside}
+use Rattle.call_moments.specs.Configs.{configs_of, world_of}
+use Rattle.call_moments.proofs.Worlds.{same_place, config_at, changed}
+use Rattle.call_moments.specs.CodeLaws.{nested, HasBegun}
+use Rattle.call_moments.proofs.Coding.{code_begins}
+use Rattle.call_moments.specs.Shown.{purpose_of}
+use Rattle.call_moments.specs.Standing.{Calls, with_calls, with_store as with_state, AllStand, Goes}
+use Rattle.call_moments.specs.FrameLaws.{GoOn}
+use Rattle.call_moments.specs.Held.{loans_behind, AllLend}
+use Rattle.call_moments.proofs.LawsEnding.{last_first}
+use Rattle.call_moments.proofs.Backs.{results_come, code_begins_inside}
 use Rattle.call_moments.specs.Fits.{scenes_of, answers_in, answers_of, Fits}
 use Rattle.call_moments.specs.Waiting.{due_behind, instance_of, WillAnswer, FrameFits, AllAwait, AllRoomy}
 use Rattle.call_moments.specs.Leads.{Moment, stores_of, calls_of, maps_of, sizes_of, so_far, Same, OneGoes, Waits, GoesOn, Ends}

@@ -32,9 +32,9 @@ use Rattle.call_frames.specs.declared.frames.Flow.{Flow}
 use Rattle.call_frames.specs.declared.frames.Flow.TheVariants as flows
 use Rattle.call_frames.specs.declared.frames.Purpose.TheVariants as purposes
 use Rattle.call_frames.specs.declared.frames.Service.{Service}
-use Rattle.call_laws.specs.Shown.{depth_of, service_of, due_of, back_of}
-use Rattle.call_laws.specs.CodeLaws.{nested}
-use Rattle.call_laws.proofs.Lending.{handles_stay}
+use Rattle.call_moments.specs.Shown.{depth_of, service_of, due_of, back_of}
+use Rattle.call_moments.specs.CodeLaws.{nested}
+use Rattle.call_moments.proofs.Lending.{handles_stay}
 use Rattle.call_moments.specs.Fits.{scenes_of, Takes}
 use Rattle.call_moments.specs.Waiting.{due_back, instance_of, ServiceFits}
 use Rattle.call_moments.specs.Leads.{Moment, sizes_of, so_far, Same, Waits, Ends, Leads}

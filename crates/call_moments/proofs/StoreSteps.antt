@@ -20,16 +20,16 @@ use Rattle.comp_worlds.specs.Acts.{Trapped, Out, Next, Over, seen_before, Act, â
 use Rattle.comp_worlds.specs.Groups.{Nesting, Options, Group, Config, World, Ports}
 use Rattle.comp_worlds.specs.Locals.{with_store}
 use Rattle.comp_worlds.specs.Calls.{Run}
-use Rattle.comp_stores.specs.Within.{IsRoomy}
-use Rattle.comp_stores.specs.Left.{store_with, world_with, does_left, does_due}
-use Rattle.comp_stores.proofs.Halts.{world_stays}
-use Rattle.comp_runs.proofs.Heads.{after_unseen, after_over}
+use Rattle.comp_frames.specs.Within.{IsRoomy}
+use Rattle.comp_frames.specs.Left.{store_with, world_with, does_left, does_due}
+use Rattle.comp_frames.proofs.Halts.{world_stays}
+use Rattle.comp_frames.proofs.Heads.{after_unseen, after_over}
 use Rattle.instance_state.specs.declared.instance.Instance.{Instance}
 use Rattle.instance_state.specs.Shown.{config_of}
 use Rattle.instance_values.specs.Passed.{options_of, IsInStore}
 use Rattle.instance_values.specs.declared.options.CallOptions.{CallOptions}
-use Rattle.call_laws.specs.Configs.{world_of}
-use Rattle.call_laws.proofs.Worlds.{config_at}
+use Rattle.call_moments.specs.Configs.{world_of}
+use Rattle.call_moments.proofs.Worlds.{config_at}
 use Rattle.call_moments.specs.Fits.{scenes_of, HasMemory}
 use Rattle.call_moments.specs.Waiting.{HasRequest, AsksRoom}
 use Rattle.call_moments.specs.Functions.{ComesLater}

@@ -8,7 +8,7 @@ use Rattle.core_store.specs.Scene.{scene_of}
 use Rattle.core_store.specs.declared.value.CoreValue.{CoreValue}
 use Rattle.core_store.specs.Words.{words, values_in}
 use Rattle.core_store.proofs.Keeping.{same_memory}
-use Rattle.core_runs.specs.Done.{Stores as RunsStore}
+use Rattle.instance_state.specs.Done.{Stores as RunsStore}
 use Rattle.wit_types.specs.PlainValue.{PlainValue}
 use Rattle.abi_layout.specs.Storing.{FlatItem, Lowered}
 use Rattle.abi_store.specs.Plan as plans
@@ -22,10 +22,10 @@ use Rattle.comp_worlds.specs.Groups.{Group, Config, World}
 use Rattle.comp_worlds.specs.Locals.{with_store, done, reopen}
 use Rattle.comp_worlds.specs.Calls.{on, asks_for}
 use Rattle.comp_worlds.specs.Hosts.{hosted}
-use Rattle.comp_runs.specs.Running.{running}
-use Rattle.comp_stores.specs.Within.{IsRoomy}
-use Rattle.comp_stores.specs.Left.{store_with, does_due, goes_granted}
-use Rattle.comp_stores.proofs.Halts.{keeps_within}
+use Rattle.comp_frames.specs.Running.{running}
+use Rattle.comp_frames.specs.Within.{IsRoomy}
+use Rattle.comp_frames.specs.Left.{store_with, does_due, goes_granted}
+use Rattle.comp_frames.proofs.Halts.{keeps_within}
 use Rattle.comp_frames.specs.Frames.{Awaiting, instance_in, is_storing, is_stored, goes_next}
 use Rattle.instance_state.specs.declared.instance.Instance.{Instance}
 use Rattle.instance_state.specs.Shown.{config_of}
@@ -34,13 +34,13 @@ use Rattle.call_frames.specs.declared.end.Stop.{Stop}
 use Rattle.call_frames.specs.declared.end.Stop.TheVariants as stops
 use Rattle.call_frames.specs.declared.frames.Flow.{Flow}
 use Rattle.call_frames.specs.declared.frames.Storing.{Storing}
-use Rattle.call_laws.specs.CodeLaws.{nested}
-use Rattle.call_laws.specs.Held.{loans_next}
-use Rattle.call_laws.specs.MemoryLaws.{NoShorter}
-use Rattle.call_laws.specs.Shown.{depth_of, storing_of, next_of}
-use Rattle.call_laws.proofs.Lending.{handles_stay}
-use Rattle.call_laws.proofs.Whole.{never_shrink}
-use Rattle.call_laws.proofs.Worlds.{same_place}
+use Rattle.call_moments.specs.CodeLaws.{nested}
+use Rattle.call_moments.specs.Held.{loans_next}
+use Rattle.call_moments.specs.MemoryLaws.{NoShorter}
+use Rattle.call_moments.specs.Shown.{depth_of, storing_of, next_of}
+use Rattle.call_moments.proofs.Lending.{handles_stay}
+use Rattle.call_moments.proofs.Whole.{never_shrink}
+use Rattle.call_moments.proofs.Worlds.{same_place}
 use Rattle.call_moments.specs.Fits.{scenes_of, HasMemory}
 use Rattle.call_moments.specs.Waiting.{due_next, instance_of, AsksRoom, NextFits, StoringFits}
 use Rattle.call_moments.specs.Leads.{Moment, sizes_of, so_far, Waits, Leads}

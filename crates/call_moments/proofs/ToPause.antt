@@ -16,9 +16,9 @@ use Rattle.core_interp.specs.declared.machine.Machine.{Machine}
 use Rattle.core_interp.specs.declared.machine.Pause.{Pause}
 use Rattle.core_interp.specs.declared.machine.Pause.TheVariants as pauses
 use Rattle.core_interp.specs.Session.{Asked, Says, Follows, IsAnswer, awaited, resumed}
-use Rattle.core_runs.specs.declared.calls.CoreCall.{CoreCall}
-use Rattle.core_runs.specs.Ready.{Runs, IsAt}
-use Rattle.core_runs.specs.Done.{Goes as RunsGo, Ran, stays_by, goes_by, left_if}
+use Rattle.instance_state.specs.declared.calls.CoreCall.{CoreCall}
+use Rattle.instance_state.specs.Ready.{Runs, IsAt}
+use Rattle.instance_state.specs.Done.{Goes as RunsGo, Ran, stays_by, goes_by, left_if}
 use Rattle.wit_types.specs.PlainValue.{PlainValue}
 use Rattle.host_port.specs.Hosts.{HostStep, Kept}
 use Rattle.comp_worlds.specs.Acts.{Trapped, TooDeep, Out, Next, Over, Spent, seen_before, Act, ◌>>◌}
@@ -26,9 +26,9 @@ use Rattle.comp_worlds.specs.Groups.{Nesting, deeper, Group, Config, World}
 use Rattle.comp_worlds.specs.Locals.{with_store}
 use Rattle.comp_worlds.specs.Calls.{with_config, begins_call, performs}
 use Rattle.comp_worlds.specs.Hosts.{hosted}
-use Rattle.comp_runs.proofs.Heads.{after_unseen, after_over, after_spent, then_at}
-use Rattle.comp_runs.specs.Running.{running, stored}
-use Rattle.comp_runs.specs.Pausing.{IsRunBy, LeadsTo, asks}
+use Rattle.comp_frames.proofs.Heads.{after_unseen, after_over, after_spent, then_at}
+use Rattle.comp_frames.specs.Running.{running, stored}
+use Rattle.comp_frames.specs.Pausing.{IsRunBy, LeadsTo, asks}
 use Rattle.comp_frames.specs.Frames.{Awaiting, resumes, ends_in}
 use Rattle.comp_frames.proofs.Steps.{calls_go_back}
 use Rattle.instance_state.specs.declared.instance.Instance.{Instance}
@@ -38,16 +38,16 @@ use Rattle.call_frames.specs.declared.end.Stop.TheVariants as stops
 use Rattle.call_frames.specs.declared.frames.Flow.{Flow}
 use Rattle.call_frames.specs.declared.frames.Frame.{Frame}
 use Rattle.call_frames.specs.Grouped.{canon_in}
-use Rattle.call_laws.specs.CodeLaws.{nested, HasPaused, AwaitsSince}
-use Rattle.call_laws.specs.Configs.{world_of}
-use Rattle.call_laws.specs.Held.{AllLend, loans_behind}
-use Rattle.call_laws.specs.MemoryLaws.{NoShorter}
-use Rattle.call_laws.specs.Shown.{purpose_of}
-use Rattle.call_laws.specs.Standing.{Calls, with_calls, Stands, AllStand}
-use Rattle.call_laws.proofs.Coding.{code_goes}
-use Rattle.call_laws.proofs.Ending.{last_first}
-use Rattle.call_laws.proofs.Whole.{never_shrink}
-use Rattle.call_laws.proofs.Worlds.{same_place, config_at, changed}
+use Rattle.call_moments.specs.CodeLaws.{nested, HasPaused, AwaitsSince}
+use Rattle.call_moments.specs.Configs.{world_of}
+use Rattle.call_moments.specs.Held.{AllLend, loans_behind}
+use Rattle.call_moments.specs.MemoryLaws.{NoShorter}
+use Rattle.call_moments.specs.Shown.{purpose_of}
+use Rattle.call_moments.specs.Standing.{Calls, with_calls, Stands, AllStand}
+use Rattle.call_moments.proofs.Coding.{code_goes}
+use Rattle.call_moments.proofs.LawsEnding.{last_first}
+use Rattle.call_moments.proofs.Whole.{never_shrink}
+use Rattle.call_moments.proofs.Worlds.{same_place, config_at, changed}
 use Rattle.call_moments.specs.Fits.{scenes_of, core_type_of, answers_in, answers_of, Fits, IsProvided}
 use Rattle.call_moments.specs.Waiting.{due_behind, instance_of, PurposeFits, WillAnswer, FrameFits, AllAwait, AllRoomy}
 use Rattle.call_moments.specs.Leads.{Moment, stores_of, calls_of, maps_of, sizes_of, so_far, Same, AreStill, OneGoes, Waits, GoesOn, Ends, Leads}

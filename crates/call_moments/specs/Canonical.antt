@@ -15,22 +15,22 @@ use Rattle.comp_worlds.specs.Groups.{Nesting, deeper, Lifting, Func, Group, Worl
 use Rattle.comp_worlds.specs.Locals.{Args, gives_in, lifts, has_no_borrow}
 use Rattle.comp_worlds.specs.Calls.{on, below, begins_call, performs}
 use Rattle.comp_worlds.specs.Hosts.{passed_by, hosted}
-use Rattle.comp_runs.specs.Running.{running}
+use Rattle.comp_frames.specs.Running.{running}
 use Rattle.comp_frames.specs.Frames.{Awaiting, instance_in}
 use Rattle.comp_frames.specs.Laws.{drops_own}
 use Rattle.instance_state.specs.declared.instance.Instance.{Instance}
 use Rattle.instance_state.specs.Shown.{config_of}
-use Rattle.instance_handles.specs.declared.owners.Owner.{Owner}
-use Rattle.instance_handles.specs.Owning.{owner_of}
+use Rattle.instance_state.specs.declared.owners.Owner.{Owner}
+use Rattle.instance_state.specs.Owning.{owner_of}
 use Rattle.instance_values.specs.Passed.{needs_memory}
 use Rattle.call_frames.specs.Grouped.{canon_in}
 use Rattle.call_frames.specs.declared.depth.Depth.{Depth}
 use Rattle.call_frames.specs.declared.end.Stop.{Stop}
 use Rattle.call_frames.specs.declared.frames.Flow.{Flow}
 use Rattle.call_frames.specs.declared.frames.Frame.{Frame}
-use Rattle.call_laws.specs.CodeLaws.{nested}
-use Rattle.call_laws.specs.Held.{loans_behind}
-use Rattle.call_laws.specs.Shown.{depth_of, purpose_of}
+use Rattle.call_moments.specs.CodeLaws.{nested}
+use Rattle.call_moments.specs.Held.{loans_behind}
+use Rattle.call_moments.specs.Shown.{depth_of, purpose_of}
 use Rattle.call_moments.specs.Fits.{scenes_of, core_type_of, HasMemory, Takes, OwnerFits, FuncFits}
 use Rattle.call_moments.specs.Waiting.{due_behind, instance_of, PurposeFits, WillAnswer, RoomOf}
 use Rattle.call_moments.specs.Leads.{Moment, sizes_of, so_far, Same, Waits, GoesOn, IsDone, Ends, Leads}

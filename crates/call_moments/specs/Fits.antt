@@ -15,8 +15,8 @@ use Rattle.comp_worlds.specs.Passing.{Passed, params_tuple, answer_tuple, handle
 use Rattle.comp_worlds.specs.Groups.{Options, Lifting, Target, Mine, Theirs, type_of, Func, LoweredFunc, ResourceNew, ResourceDrop, ResourceRep, Owner, Config, Group}
 use Rattle.comp_worlds.specs.Locals.{adds_handles}
 use Rattle.comp_worlds.specs.Calls.{owned_by, owns, borrowed, plainly}
-use Rattle.instance_handles.specs.declared.owners.Owners.{Owners}
-use Rattle.instance_handles.specs.Owning.{owner_in, plain_for}
+use Rattle.instance_state.specs.declared.owners.Owners.{Owners}
+use Rattle.instance_state.specs.Owning.{owner_in, plain_for}
 use Rattle.instance_values.specs.Passed.{needs_memory}
 use Rattle.instance_state.specs.declared.instance.Instance.{Instance}
 use Rattle.call_frames.specs.declared.group.Group.{Group as CodeGroup}

@@ -17,8 +17,8 @@ use Rattle.comp_worlds.specs.Groups.{Nesting, deeper, Options, Lifting, type_of,
 use Rattle.comp_worlds.specs.Locals.{Local, done, close}
 use Rattle.comp_worlds.specs.Calls.{on, begins_call, asks_for}
 use Rattle.comp_worlds.specs.Hosts.{passed_by, hosted}
-use Rattle.comp_runs.specs.Running.{running}
-use Rattle.comp_stores.specs.Left.{does_due, goes_granted}
+use Rattle.comp_frames.specs.Running.{running}
+use Rattle.comp_frames.specs.Left.{does_due, goes_granted}
 use Rattle.comp_frames.specs.Frames.{Awaiting, FromCode, Serves, Returns, Destroys, Rest, instance_in, is_left, goes_back, is_answered, goes_next, is_storing, resumes, ends_in}
 use Rattle.comp_frames.specs.Laws.{is_called, calls_lifted}
 use Rattle.comp_frames.specs.Frames as defined
@@ -43,9 +43,9 @@ use Rattle.call_frames.specs.declared.frames.Stored.{Stored}
 use Rattle.call_frames.specs.declared.frames.Back.{Back}
 use Rattle.call_frames.specs.declared.frames.Due.{Due}
 use Rattle.call_frames.specs.declared.frames.Visit.{Visit}
-use Rattle.call_laws.specs.CodeLaws.{nested}
-use Rattle.call_laws.specs.Held.{loans_by, loans_next, loans_behind}
-use Rattle.call_laws.specs.Shown.{depth_of, asker_of, caller_of, service_of, due_of, next_of, storing_of, back_of, visits_of, purpose_of}
+use Rattle.call_moments.specs.CodeLaws.{nested}
+use Rattle.call_moments.specs.Held.{loans_by, loans_next, loans_behind}
+use Rattle.call_moments.specs.Shown.{depth_of, asker_of, caller_of, service_of, due_of, next_of, storing_of, back_of, visits_of, purpose_of}
 use Rattle.call_moments.specs.Fits.{scenes_of, Takes, answers_of, HasMemory, OptionsFit, LiftingFits, PassesAlike}
 use Rattle.call_moments.specs.Waiting.{due_to, due_back, due_next, due_behind, instance_of, IsDueAt, CallerFits, ServiceFits, DueFits, NextFits, StoringFits, GrantFits, PurposeFits, WillAnswer, IsRoomyFor, RoomOf}
 use Rattle.call_moments.specs.Leads.{Moment, sizes_of, so_far, Same, Waits, GoesOn, Ends, Leads}

@@ -9,19 +9,19 @@ use Rattle.comp_worlds.specs.Groups.{Group, World}
 use Rattle.comp_worlds.specs.Hosts.{hosted}
 use Rattle.comp_frames.specs.Frames.{Awaiting, ends_in}
 use Rattle.instance_state.specs.declared.instance.Instance.{Instance}
-use Rattle.instance_handles.specs.declared.loan.Loan.{Loan}
-use Rattle.core_runs.specs.declared.calls.CoreCall.{CoreCall}
+use Rattle.instance_state.specs.declared.loan.Loan.{Loan}
+use Rattle.instance_state.specs.declared.calls.CoreCall.{CoreCall}
 use Rattle.call_frames.specs.declared.end.Stop.{Stop}
 use Rattle.call_frames.specs.declared.end.Stop.TheVariants as stops
 use Rattle.call_frames.specs.declared.frames.Flow.{Flow}
 use Rattle.call_frames.specs.declared.frames.Flow.TheVariants as flows
 use Rattle.call_frames.specs.declared.frames.Frame.{Frame}
 use Rattle.call_frames.specs.declared.group.Group.{Group as CodeGroup}
-use Rattle.call_laws.specs.Configs.{configs_of, world_of}
-use Rattle.call_laws.specs.CodeLaws.{nested}
-use Rattle.call_laws.specs.Held.{Maps, AllLend}
-use Rattle.call_laws.specs.Shown.{purpose_of}
-use Rattle.call_laws.specs.Standing.{Calls, with_calls, AllStand, Goes}
+use Rattle.call_moments.specs.Configs.{configs_of, world_of}
+use Rattle.call_moments.specs.CodeLaws.{nested}
+use Rattle.call_moments.specs.Held.{Maps, AllLend}
+use Rattle.call_moments.specs.Shown.{purpose_of}
+use Rattle.call_moments.specs.Standing.{Calls, with_calls, AllStand, Goes}
 use Rattle.call_moments.specs.Fits.{scenes_of, Fits}
 use Rattle.call_moments.specs.Waiting.{due_behind, FrameFits, AllAwait, AllRoomy}
 

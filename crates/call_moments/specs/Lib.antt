@@ -1,3 +1,16 @@
+pub mod Laws
+pub mod Configs
+pub mod Shown
+pub mod Standing
+pub mod FrameLaws
+pub mod CodeLaws
+pub mod Kept
+pub mod Lending
+pub mod KeptLaws
+pub mod LoanLaws
+pub mod Held
+pub mod EndingLaws
+pub mod MemoryLaws
 pub mod Fits
 pub mod Waiting
 pub mod Leads

@@ -10,10 +10,10 @@ use Rattle.comp_worlds.specs.Passing.{params_tuple, answer_tuple, out_of_tuple}
 use Rattle.comp_worlds.specs.Groups.{Target, type_of, Group, World, Outside}
 use Rattle.comp_worlds.specs.Calls.{answers, leaves, starts}
 use Rattle.comp_worlds.specs.Hosts.{hosted}
-use Rattle.comp_runs.specs.Running.{running}
+use Rattle.comp_frames.specs.Running.{running}
 use Rattle.call_frames.specs.declared.end.Stop.{Stop}
-use Rattle.call_laws.specs.CodeLaws.{nested}
-use Rattle.call_laws.specs.Configs.{world_of}
+use Rattle.call_moments.specs.CodeLaws.{nested}
+use Rattle.call_moments.specs.Configs.{world_of}
 use Rattle.call_moments.specs.Fits.{scenes_of, Takes, TargetFits}
 use Rattle.call_moments.specs.Waiting.{HoldsNone}
 use Rattle.call_moments.specs.Leads.{Moment, so_far, Same, IsAtRest, Ends}

@@ -6,7 +6,7 @@ use Rattle.virt_base.specs.declared.core_type.CoreType.TheVariants.{I32}
 use Rattle.core_store.specs.Scene.{Scene}
 use Rattle.core_store.specs.Words.{values_in}
 use Rattle.core_interp.specs.Session.{awaited}
-use Rattle.core_runs.specs.declared.calls.CoreCall.{CoreCall}
+use Rattle.instance_state.specs.declared.calls.CoreCall.{CoreCall}
 use Rattle.wit_types.specs.Plain.{Plain}
 use Rattle.wit_types.specs.PlainValue.{PlainValue}
 use Rattle.abi_layout.specs.Functions.{lowered, core_params}
@@ -15,7 +15,7 @@ use Rattle.abi_layout.specs.Storing.{Step, Ask, Write, Place, Refuse, FlatItem}
 use Rattle.abi_store.specs.Plan.{Due as PlanDue, Nothing as NothingDue, Given, Asked, number_in, core_values}
 use Rattle.comp_worlds.specs.Passing.{answer_tuple}
 use Rattle.comp_worlds.specs.Groups.{Nesting, type_of, Lifting, Due as GroupDue, Nothing, Served, Below}
-use Rattle.comp_stores.specs.Within.{IsRoomy}
+use Rattle.comp_frames.specs.Within.{IsRoomy}
 use Rattle.comp_frames.specs.Frames.{Asker, Caller, FromOutside, FromCode, Service, Back, ToOutside, ToCode}
 use Rattle.instance_values.specs.Passed.{options_of}
 use Rattle.call_frames.specs.declared.frames.Frame.{Frame}
@@ -26,8 +26,8 @@ use Rattle.call_frames.specs.declared.frames.Stored.{Stored}
 use Rattle.call_frames.specs.declared.frames.Stored.TheVariants as stored
 use Rattle.call_frames.specs.declared.frames.Due.{Due}
 use Rattle.call_frames.specs.declared.frames.Due.TheVariants as dues
-use Rattle.call_laws.specs.Shown.{depth_of, caller_of, service_of, due_of, storing_of, back_of}
-use Rattle.call_laws.specs.Standing.{Calls, with_calls}
+use Rattle.call_moments.specs.Shown.{depth_of, caller_of, service_of, due_of, storing_of, back_of}
+use Rattle.call_moments.specs.Standing.{Calls, with_calls}
 use Rattle.call_moments.specs.Fits.{answers_of, OptionsFit, LiftingFits, Takes, HasMemory}
 
 -- ---- how many results go to the code outside, where there is some

@@ -8,8 +8,8 @@ use Rattle.std.proofs.lemmas.List.Elements.{All-nil}
 use Rattle.std.specs.declared.rc.Rc.{Rc}
 use Rattle.core_memory.specs.declared.fault.StoreFault.{StoreFault}
 use Rattle.core_memory.specs.declared.fault.StoreFault.TheVariants as faults
-use Rattle.core_runs.specs.Ready.{Runs}
-use Rattle.core_runs.specs.Done.{Stores as RunsStore}
+use Rattle.instance_state.specs.Ready.{Runs}
+use Rattle.instance_state.specs.Done.{Stores as RunsStore}
 use Rattle.core_store.specs.Words.{words, HaveTypes}
 use Rattle.core_store.specs.declared.value.CoreValue.{CoreValue}
 use Rattle.wit_types.specs.Plain.{Plain, PlainFunc, RecordType, AsRecord, plain}
@@ -26,9 +26,9 @@ use Rattle.comp_worlds.specs.Locals.{done, is_open, lifts, adds_handles}
 use Rattle.comp_worlds.specs.Hosts.{passed_by}
 use Rattle.instance_state.specs.declared.instance.Instance.{Instance}
 use Rattle.instance_state.specs.Shown.{config_of}
-use Rattle.instance_handles.specs.declared.loan.Loan.{Loan}
-use Rattle.instance_handles.specs.Loans.{indexes_of, IsLentAs, AreLent}
-use Rattle.instance_handles.specs.Owning.{plain_for}
+use Rattle.instance_state.specs.declared.loan.Loan.{Loan}
+use Rattle.instance_state.specs.Loans.{indexes_of, IsLentAs, AreLent}
+use Rattle.instance_state.specs.Owning.{plain_for}
 use Rattle.instance_values.specs.Functions.{IsPassedAs}
 use Rattle.instance_values.specs.Passed.{options_of, needs_memory, IsInStore, params_plan, result_plan}
 use Rattle.instance_values.specs.Targets.{target_of, lifting_of}
@@ -52,7 +52,7 @@ use Rattle.call_frames.specs.declared.frames.Due.TheVariants as dues
 use Rattle.call_frames.specs.declared.frames.Service.{Service}
 use Rattle.call_frames.specs.declared.frames.Storing.{Storing}
 use Rattle.call_frames.specs.declared.frames.Stored.TheVariants as stored
-use Rattle.call_laws.specs.Shown.{depth_of}
+use Rattle.call_moments.specs.Shown.{depth_of}
 use Rattle.call_moments.specs.Leads.{Moment}
 use Rattle.call_moments.specs.Functions.{Stores, ParamsLead, ResultLeads, CallsLifted}
 use Rattle.call_moments.specs.Canonical.{LiftsResult, AsksHost, Performs}

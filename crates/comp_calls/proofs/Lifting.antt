@@ -16,11 +16,11 @@ use Rattle.comp_worlds.specs.Calls.{plainly, owned_by}
 use Rattle.core_store.specs.declared.value.CoreValue.{CoreValue}
 use Rattle.instance_state.specs.declared.instance.Instance.{Instance}
 use Rattle.instance_state.specs.Shown.{config_of, AnswersInMemory}
-use Rattle.instance_handles.specs.declared.fault.HandleFault.{HandleFault}
-use Rattle.instance_handles.specs.declared.fault.HandleFault.TheVariants.{Trap, NoMemory}
-use Rattle.instance_handles.specs.declared.loan.Loan.{Loan}
-use Rattle.instance_handles.specs.Loans.{indexes_of}
-use Rattle.instance_handles.specs.Owning.{owner_in}
+use Rattle.instance_state.specs.declared.fault.HandleFault.{HandleFault}
+use Rattle.instance_state.specs.declared.fault.HandleFault.TheVariants.{Trap, NoMemory}
+use Rattle.instance_state.specs.declared.loan.Loan.{Loan}
+use Rattle.instance_state.specs.Loans.{indexes_of}
+use Rattle.instance_state.specs.Owning.{owner_in}
 use Rattle.instance_values.specs.Passed.{needs_memory}
 use Rattle.instance_values.proofs.Words.{words_same}
 use Rattle.call_frames.specs.Stops.{stop_of_handles}

@@ -5,8 +5,8 @@ use Rattle.std.proofs.lemmas.List.{set-get_or}
 use Rattle.core_memory.specs.Linear.{fresh}
 use Rattle.core_store.specs.State.{State, memory_at}
 use Rattle.core_store.specs.declared.value.CoreValue.{CoreValue}
-use Rattle.core_runs.specs.Ready.{Runs}
-use Rattle.core_runs.specs.Done.{Stores as RunsStore}
+use Rattle.instance_state.specs.Ready.{Runs}
+use Rattle.instance_state.specs.Done.{Stores as RunsStore}
 use Rattle.wit_types.specs.Plain.{Plain, AsTuple, RecordType, End}
 use Rattle.wit_types.specs.PlainValue.{PlainValue, BoolValue, IntValue, CharValue, StringValue, ListValue, RecordValue, VariantValue, FlagsValue, HandleValue}
 use Rattle.abi_layout.specs.Storing.{nothing, on_record}
@@ -21,8 +21,8 @@ use Rattle.comp_worlds.specs.Locals.{done, reopen, adds_handles}
 use Rattle.comp_worlds.specs.Hosts.{passed_by}
 use Rattle.instance_state.specs.declared.instance.Instance.{Instance}
 use Rattle.instance_state.specs.Shown.{config_of}
-use Rattle.instance_handles.specs.Loans.{indexes_of, AreLent}
-use Rattle.instance_handles.specs.Owning.{plain_for}
+use Rattle.instance_state.specs.Loans.{indexes_of, AreLent}
+use Rattle.instance_state.specs.Owning.{plain_for}
 use Rattle.instance_values.specs.Passed.{IsInStore, result_plan}
 use Rattle.instance_values.specs.Targets.{target_of}
 use Rattle.call_frames.specs.Stores.{BeginsToStore, without_loans}
@@ -35,7 +35,7 @@ use Rattle.call_frames.specs.declared.frames.Call.{Call}
 use Rattle.call_frames.specs.declared.frames.Due.{Due}
 use Rattle.call_frames.specs.declared.frames.Storing.{Storing}
 use Rattle.call_frames.specs.declared.frames.Stored.TheVariants as stored
-use Rattle.call_laws.proofs.Worlds.{same_place}
+use Rattle.call_moments.proofs.Worlds.{same_place}
 use Rattle.call_moments.specs.Leads.{Moment}
 use Rattle.call_moments.specs.Functions.{IsLeft, IsStored, Stores, ResultLeads}
 use Rattle.call_moments.proofs.Following.{with_instance}

@@ -4,7 +4,7 @@ use Rattle.std.specs.Prelude.{Result}
 use Rattle.std.proofs.lemmas.Bool.Decides.{nat_tests}
 use Rattle.host_port.specs.Hosts.{HostStep}
 use Rattle.comp_worlds.specs.Locals.{enter}
-use Rattle.instance_handles.specs.declared.owners.Owner.{Owner}
+use Rattle.instance_state.specs.declared.owners.Owner.{Owner}
 use Rattle.call_frames.specs.declared.depth.Depth.{Depth}
 use Rattle.call_frames.specs.declared.end.Stop.{Stop}
 use Rattle.call_frames.specs.declared.frames.Flow.{Flow}

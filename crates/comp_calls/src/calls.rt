@@ -10,7 +10,7 @@ ghost use Rattle.comp_worlds.specs.Groups.{LoweredFunc};
 ghost use Rattle.comp_worlds.specs.Passing.{out_of_tuple as value_of};
 ghost use Rattle.instance_values.specs.Passed.{options_of};
 ghost use Rattle.instance_values.specs.Targets.{target_of};
-ghost use Rattle.call_laws.specs.Shown.{depth_of};
+ghost use Rattle.call_moments.specs.Shown.{depth_of};
 ghost use Rattle.comp_calls.specs.Work.{work};
 ghost use Rattle.comp_calls.specs.Moments.{at};
 ghost use Rattle.call_moments.specs.Canonical.{AsksHost, Performs, AnswersCode};

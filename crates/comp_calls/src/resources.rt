@@ -3,7 +3,7 @@
 ghost use Rattle.std.specs.Prelude.{◌≡◌, ◌≤◌, ◌<◌, ◌+◌, nat_eq, OnOk};
 ghost use Rattle.indexmap.specs.IndexMap.{get};
 ghost use Rattle.comp_worlds.specs.Groups.{Nesting, ResourceNew, ResourceRep, ResourceDrop};
-ghost use Rattle.call_laws.specs.Shown.{depth_of};
+ghost use Rattle.call_moments.specs.Shown.{depth_of};
 ghost use Rattle.comp_calls.specs.Work.{work};
 ghost use Rattle.comp_calls.specs.Moments.{at};
 ghost use Rattle.call_moments.specs.Functions.{HasDestroyed};
@@ -14,7 +14,7 @@ use crate::world::World;
 use call_frames::{Depth, Flow, Purpose, Stop, Visit, one_word, only_word};
 use core_slots::CoreValues;
 use host_port::Host;
-use instance_handles::Owner;
+use instance_state::Owner;
 use std::alloc::Global;
 use virt_base::Items;
 

@@ -12,10 +12,9 @@ ghost use Rattle.comp_scopes.specs.Stands.{Stands};
 ghost use Rattle.comp_types.specs.Measures.{kind_depth, kind_parts};
 ghost use Rattle.comp_types.specs.Views.{kind_of};
 
-use comp_canons::is_destructor;
-use comp_due::{def_has_values, resources_are_due};
+use crate::{def_has_values, resources_are_due, value_at};
 use comp_indexes::{def_is_filled, def_labels_are_legal, def_stands, names_differ};
-use comp_kinds::value_at;
+use comp_lifting::is_destructor;
 use comp_scopes::Scope;
 use comp_types::TypeItem;
 use std::alloc::Global;

@@ -13,7 +13,7 @@ ghost use Rattle.type_table.specs.Covers.{Covers};
 ghost use Rattle.type_table.specs.Tables.{Grew, Has, HasKind, HasOwnParts};
 
 use crate::faults::type_fault;
-use comp_kinds::kind_of;
+use crate::kind_of;
 use comp_scopes::{KnownEntry, Scope};
 use comp_types::{KnownValue, TypeItem};
 use std::alloc::Global;

@@ -12,9 +12,9 @@ use Rattle.wasm_ast.specs.declared.component.Instance.TheVariants as instances
 use Rattle.comp_types.specs.Spaces.{Space, NestedComponent}
 use Rattle.comp_types.specs.GivenResources.{numbered}
 use Rattle.comp_link.specs.Plans.{NamedArg, Plan, Planned, OfModule, OfComponent, Scope, if_some, named_by, named_args, own_numbers, of_core_instance, of_instance}
-use Rattle.comp_plans.specs.declared.items.PlanArg.{PlanArg}
-use Rattle.comp_plans.specs.declared.items.PlanItem.TheVariants as items
-use Rattle.comp_plans.specs.Planned.{PlannedComponent, item_named, args_named}
+use Rattle.comp_link.specs.declared.items.PlanArg.{PlanArg}
+use Rattle.comp_link.specs.declared.items.PlanItem.TheVariants as items
+use Rattle.comp_link.specs.Planned.{PlannedComponent, item_named, args_named}
 use Rattle.comp_drafts.specs.Drafts.{some_item, module_at, plan_at, own_at, NamesModules, NamesComponents}
 
 -- ---- numbers

@@ -5,8 +5,8 @@ use Rattle.wasm_ast.specs.Boxed.{Held}
 use Rattle.wasm_ast.specs.declared.module.Module.{Module}
 use Rattle.comp_types.specs.Spaces.{NestedComponent}
 use Rattle.comp_link.specs.Plans.{Plan, End, Scope}
-use Rattle.comp_plans.specs.declared.items.PlanItem.{PlanItem}
-use Rattle.comp_plans.specs.Planned.{PlannedComponent, plan_item, plan_items}
+use Rattle.comp_link.specs.declared.items.PlanItem.{PlanItem}
+use Rattle.comp_link.specs.Planned.{PlannedComponent, plan_item, plan_items}
 use Rattle.comp_drafts.specs.declared.draft.Draft.{Draft}
 
 abbrev pub some_item : List (Held Module) → List PlannedComponent → Option PlanItem → Plan

@@ -2,12 +2,12 @@
 
 ghost use Rattle.std.specs.Prelude.{◌≡◌, IfOk};
 ghost use Rattle.comp_link.specs.Plans.{named_args, named_by};
-ghost use Rattle.comp_plans.specs.Planned.{args_named, item_named};
+ghost use Rattle.comp_link.specs.Planned.{args_named, item_named};
 ghost use Rattle.comp_types.specs.Spaces.{Space};
 ghost use Rattle.comp_scopes.specs.Stands.{Stands};
 
 use crate::resources::resource_at;
-use comp_plans::{ItemAt, PlanArg};
+use comp_link::{ItemAt, PlanArg};
 use comp_scopes::Scope;
 use std::alloc::Global;
 use virt_base::{Items, NoMemory};

@@ -3,12 +3,12 @@ ghost use Rattle.wasm_ast.specs.Boxed.{Held};
 ghost use Rattle.wasm_ast.specs.declared.component.CoreInstance.TheVariants.{Instantiate};
 ghost use Rattle.wasm_ast.specs.declared.module.Module.{Module};
 ghost use Rattle.comp_link.specs.Plans.{Scope as Named, of_core_instance};
-ghost use Rattle.comp_plans.specs.Planned.{PlannedComponent};
+ghost use Rattle.comp_link.specs.Planned.{PlannedComponent};
 ghost use Rattle.comp_drafts.specs.Drafts.{NamesModules, some_item};
 
 use crate::arguments::{copy_core_args, copy_core_exports};
 use crate::draft::Draft;
-use comp_plans::PlanItem;
+use comp_link::PlanItem;
 use std::alloc::Global;
 use virt_base::NoMemory;
 use wasm_ast::{CoreArg, CoreInstance};

@@ -1,13 +1,13 @@
-#![tactic(auto, using(comp_plans::proofs::Earlier::planned))]
+#![tactic(auto, using(comp_link::proofs::Earlier::planned))]
 
 ghost use Rattle.std.specs.Prelude.{◌≡◌, [], List, OnOk, option_map, slice_get};
 ghost use Rattle.wasm_ast.specs.Boxed.{Held};
 ghost use Rattle.wasm_ast.specs.declared.module.Module.{Module};
 ghost use Rattle.comp_link.specs.Plans.{followed};
-ghost use Rattle.comp_plans.specs.Planned.{PlannedComponent, plan_items};
+ghost use Rattle.comp_link.specs.Planned.{PlannedComponent, plan_items};
 ghost use Rattle.comp_drafts.specs.Drafts.{some_item};
 
-use comp_plans::PlanItem;
+use comp_link::PlanItem;
 use std::alloc::Global;
 use virt_base::NoMemory;
 

@@ -3,14 +3,14 @@ ghost use Rattle.wasm_ast.specs.Boxed.{Held};
 ghost use Rattle.wasm_ast.specs.declared.component.Instance.TheVariants.{Instantiate};
 ghost use Rattle.wasm_ast.specs.declared.module.Module.{Module};
 ghost use Rattle.comp_link.specs.Plans.{Scope as Named, of_instance};
-ghost use Rattle.comp_plans.specs.Planned.{PlannedComponent};
+ghost use Rattle.comp_link.specs.Planned.{PlannedComponent};
 ghost use Rattle.comp_types.specs.Spaces.{Space};
 ghost use Rattle.comp_scopes.specs.Stands.{Stands};
 ghost use Rattle.comp_drafts.specs.Drafts.{NamesComponents, some_item};
 
 use crate::arguments::named_args;
 use crate::draft::Draft;
-use comp_plans::PlanItem;
+use comp_link::PlanItem;
 use comp_scopes::Scope;
 use std::alloc::Global;
 use virt_base::NoMemory;

@@ -4,7 +4,7 @@ ghost use Rattle.comp_types.specs.Added.{and_again, and_some_type};
 ghost use Rattle.comp_types.specs.Spaces.{Space, TypeEntry, item_at};
 ghost use Rattle.comp_scopes.specs.Stands.{IsEntry, Stands};
 
-use comp_describes::add_type_again;
+use comp_instances::add_type_again;
 use comp_scopes::Scope;
 use comp_types::ItemType;
 use virt_base::NoMemory;

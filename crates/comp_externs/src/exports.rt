@@ -8,14 +8,14 @@ ghost use Rattle.comp_scopes.specs.Judged.{Judged};
 ghost use Rattle.comp_scopes.specs.Stands.{Stands};
 ghost use Rattle.type_table.specs.Anew.{Makes};
 ghost use Rattle.type_table.specs.Covers.{Covers};
-ghost use Rattle.comp_describes.specs.Describes.{IsDescribed};
+ghost use Rattle.comp_instances.specs.Describes.{IsDescribed};
 ghost use Rattle.comp_externs.specs.Early.{early_fault};
 
 use crate::again::add_again;
 use crate::kinds::desc_has_kind;
 use crate::stated::is_stated;
-use comp_describes::{Described, add_described, describe, name_fits};
 use comp_indexes::export_stands;
+use comp_instances::{Described, add_described, describe, name_fits};
 use comp_names::is_legal;
 use comp_scopes::Scope;
 use comp_types::ItemType;

@@ -11,12 +11,12 @@ ghost use Rattle.comp_scopes.specs.Judged.{Judged};
 ghost use Rattle.comp_scopes.specs.Stands.{Stands};
 ghost use Rattle.type_table.specs.Anew.{Makes};
 ghost use Rattle.type_table.specs.Covers.{Covers};
-ghost use Rattle.comp_describes.specs.Describes.{IsDescribed};
+ghost use Rattle.comp_instances.specs.Describes.{IsDescribed};
 
 use crate::kinds::{desc_has_kind, resources_of_desc};
 use crate::numbering::{are_among, push_all};
-use comp_describes::{Described, add_described, describe, name_fits};
 use comp_indexes::desc_stands;
+use comp_instances::{Described, add_described, describe, name_fits};
 use comp_names::is_legal;
 use comp_scopes::Scope;
 use comp_types::ItemType;

@@ -8,9 +8,8 @@ ghost use Rattle.comp_scopes.specs.Stands.{Stands};
 ghost use Rattle.type_table.specs.Tables.{HasKind};
 ghost use Rattle.type_table.specs.Covers.{Covers};
 
-use comp_functions::{is_func_at, is_instance_at};
 use comp_resources::{Resources, resources_of_kind};
-use comp_scopes::Scope;
+use comp_scopes::{Scope, is_func_at, is_instance_at};
 use comp_types::TypeItem;
 use std::alloc::Global;
 use type_table::TypeTable;

@@ -13,9 +13,8 @@ ghost use Rattle.type_table.specs.Tables.{HasEntries, HasItem, HasKind};
 ghost use Rattle.type_table.specs.Covers.{Covers, HasSome};
 ghost use Rattle.comp_externs.specs.Takes.{TakesAlike};
 
-use comp_functions::func_at;
 use comp_resources::resources_of_kind;
-use comp_scopes::Scope;
+use comp_scopes::{Scope, func_at};
 use comp_types::{DeclaredInstance, InstanceType, ItemType, Substitution, TypeItem};
 use std::alloc::Global;
 use type_relations::{equal, subtype};

@@ -15,9 +15,9 @@ use Rattle.comp_worlds.specs.Groups.{Nesting, Options, Lifting, type_of, Group, 
 use Rattle.comp_worlds.specs.Locals.{close, ends_loans, adds_handles}
 use Rattle.comp_worlds.specs.Calls.{on, borrowed, unborrowed, plainly, lowers_closed, finds_place}
 use Rattle.comp_worlds.specs.Hosts.{hosted}
-use Rattle.comp_runs.specs.Running.{running}
-use Rattle.comp_runs.proofs.Heads.{then_then, gives_then, then_alike}
-use Rattle.comp_stores.proofs.Closed.{in_closed, flat_lowers, spill_lowers, place_lowers}
+use Rattle.comp_frames.specs.Running.{running}
+use Rattle.comp_frames.proofs.Heads.{then_then, gives_then, then_alike}
+use Rattle.comp_frames.proofs.Closed.{in_closed, flat_lowers, spill_lowers, place_lowers}
 use Rattle.comp_frames.specs.Frames.{Asker, Caller, Params, Result, Storing, Rest, is_stored, is_storing}
 use Rattle.comp_frames.specs.Laws.{does_plan, LowersByPlans}
 use Rattle.comp_frames.proofs.Steps.{storing_goes_on}

@@ -13,10 +13,10 @@ use Rattle.comp_worlds.specs.Groups.{Nesting, deeper, at_depth, Options, Import,
 use Rattle.comp_worlds.specs.Locals.{is_open, enter, exit, close, reopen, lifts, ends_loans, has_no_borrow, adds_handles, makes, reads, removes}
 use Rattle.comp_worlds.specs.Calls.{on, below, below_end, begins_call, owned_by, owns, borrowed, plainly, during, place_in, as_words, asks_for, lowers_params, lowers_result, post_returns, answers, leaves, calls, destructs, visits, drops, destructs_own, drops_by, drops_if, performs}
 use Rattle.comp_worlds.specs.Hosts.{passed_by, call_of, answered_by, reacts, hosted}
-use Rattle.comp_runs.specs.Running.{running}
-use Rattle.comp_runs.proofs.Heads.{then_then, gives_then, then_alike}
-use Rattle.comp_runs.proofs.Hosting.{host_left}
-use Rattle.comp_stores.specs.Left.{goes_granted}
+use Rattle.comp_frames.specs.Running.{running}
+use Rattle.comp_frames.proofs.Heads.{then_then, gives_then, then_alike}
+use Rattle.comp_frames.proofs.Hosting.{host_left}
+use Rattle.comp_frames.specs.Left.{goes_granted}
 use Rattle.comp_frames.specs.Frames.{Asker, Caller, FromOutside, FromCode, Rest, is_left, goes_back, is_answered, has_served, is_stored, ends_in}
 use Rattle.comp_frames.specs.Laws.{is_called, calls_lifted, asks_target, destroys, drops_own, drops_taken, CallsGoBack, CallsFromOutside, StoringGoesOn, LeavesCalls}
 

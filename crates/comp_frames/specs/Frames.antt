@@ -14,8 +14,8 @@ use Rattle.comp_worlds.specs.Passing.{answer_tuple, most_results}
 use Rattle.comp_worlds.specs.Groups.{Nesting, store_at, Options, Lifting, Target, type_of, Group, World, Due, Nothing, Served, Below, Answer, Ports}
 use Rattle.comp_worlds.specs.Locals.{exit, reopen, lifts, ends_loans, has_no_borrow}
 use Rattle.comp_worlds.specs.Calls.{on, below, store_of, lowers_result, post_returns}
-use Rattle.comp_runs.specs.Running.{running}
-use Rattle.comp_stores.specs.Left.{goes_granted}
+use Rattle.comp_frames.specs.Running.{running}
+use Rattle.comp_frames.specs.Left.{goes_granted}
 
 -- ---- why core code runs
 

@@ -17,9 +17,9 @@ use Rattle.comp_worlds.specs.Groups.{Nesting, deeper, at_depth, Options, Import,
 use Rattle.comp_worlds.specs.Locals.{is_open, enter, exit, close, reopen, lifts, ends_loans, adds_handles, makes, reads, removes}
 use Rattle.comp_worlds.specs.Calls.{on, below, begins_call, owns, borrowed, unborrowed, plainly, place_in, as_words, asks_for, lowers_closed, answers, leaves, performs}
 use Rattle.comp_worlds.specs.Hosts.{hosted}
-use Rattle.comp_runs.specs.Running.{running}
-use Rattle.comp_runs.specs.Pausing.{asks}
-use Rattle.comp_stores.specs.Left.{goes_granted, does_due}
+use Rattle.comp_frames.specs.Running.{running}
+use Rattle.comp_frames.specs.Pausing.{asks}
+use Rattle.comp_frames.specs.Left.{goes_granted, does_due}
 use Rattle.comp_frames.specs.Frames.{Asker, Caller, FromOutside, FromCode, Params, Result, Storing, Back, Purpose, Grants, Returns, Destroys, Awaiting, Rest, is_left, goes_back, is_answered, has_served, is_stored, is_storing, comes_back, resumes, ends_in}
 
 module _ {S : Type 0} (G : Group) (h : HostStep S) (d : Nesting) where

@@ -1,3 +1,13 @@
+pub mod Surrounded
+pub mod Inside
+pub mod Apart
+pub mod Handing
+pub mod Wrapped
+pub mod Seen
+pub mod Types
+pub mod Tables
+pub mod Locals
+pub mod Renamed
 pub mod Made
 pub mod Numbers
 pub mod Items

@@ -26,10 +26,10 @@ use Rattle.comp_types.specs.Substitution.{partner_in, func_with, item_with, entr
 use Rattle.comp_types.specs.GivenResources.{named_in_func}
 use Rattle.comp_types.specs.Added.{takes_and_gives, takes_one}
 use Rattle.comp_worlds.specs.Groups.{Target, Mine, Func as Canon, LoweredFunc, ResourceNew, ResourceDrop, ResourceRep, Stage, Provides, Makes, Begins}
-use Rattle.comp_parts.specs.Parts.{stage_to, stages_to}
+use Rattle.comp_worlds.specs.Parts.{stage_to, stages_to}
 use Rattle.comp_link.specs.Plans.{Named, AFunc, AnInstanceAt, AResource, AValueType, NamedArg, Plan, Planned, End, Then, OfModule, OfCoreItems, CoreItemOf, OfComponent, OfItems, ItemOf, NewResource, Lifts, Lowers, MakesResource, DropsResource, ReadsResource, Imports, Exports}
 use Rattle.comp_link.specs.Linking.{Given, Givens, GivenFunc, GivenInstance, GivenResource, GivenType, Nothing, Giving, find, and_given, bound, all_bound, Placed, Owned, Whole, Making, begun, and_stage, place_at, core_item, and_core_item, and_core_instance, core_find, arg_instance, extern_for, externs_for, with_module, named_core, given_at, and_some_given, givens_of, and_item, item_in, and_bound, bound_if, and_export, memory_in, realloc_in, post_in, options_in, with_canon, with_lowered, lifting_of, with_resource, own_bound, with_component, link_item, link}
-use Rattle.comp_renames.specs.Renaming.{lifting_with}
+use Rattle.comp_inside.specs.Renaming.{lifting_with}
 use Rattle.comp_inside.specs.Later.{later, pair_later, named_later, arg_later, planned_later, plan_later}
 use Rattle.comp_inside.specs.Linked.{Standing, InOrder, target_in, canon_in as canon_at, given_in, givens_in, placed_in, owned_in, pair_in, whole_in, making_in, IsBrought, AreBrought, NamesBrought, ArgsBrought, OwnBrought, ItemKnows, PlanKnows, LinkedInside}
 use Rattle.comp_inside.proofs.Made.{more_made}

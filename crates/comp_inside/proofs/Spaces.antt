@@ -49,7 +49,7 @@ use Rattle.comp_types.specs.Flat.{core_type}
 use Rattle.comp_types.specs.GivenResources.{without, named_in, distinct, numbered, renamed, given_by}
 use Rattle.comp_types.specs.CoreMatching.{core_look_up}
 use Rattle.comp_types.specs.Added.{and_core_named, core_named, core_exports, and_named, named_items, and_instantiated, and_instance, and_some_item, and_some_core_item, and_some_type, and_some_module, and_component, and_some_component, and_outer, and_alias, brought, kind_item, described, depth_in, described_depth, and_index, and_described, new_numbers, and_resource, and_type_def, and_depth, opened, instance_type, and_instance_type, and_type_alias, and_type_export, after_declaration, after_declarations, lowered_at, and_canon, and_import, and_again, and_some_entry, and_export, after, after_all, entered, nested_of, and_nested, after_part, after_tree}
-use Rattle.comp_renames.proofs.Types.{lowered_with}
+use Rattle.comp_inside.proofs.Types.{lowered_with}
 use Rattle.comp_inside.specs.Later.{later, pair_later, entry_later, nested_later, space_later, Declares, DeclareAll, Defines, DefineAll, Stays, StaysWhole}
 use Rattle.comp_inside.proofs.Numbers.{got_within, without_later, distinct_later, next_later, numbered_later, lengths_later}
 use Rattle.comp_inside.proofs.Items.{renamed_later, primitive_later, kind_depth_later, entries_named, look_up_later, and_entry_later, given_later}

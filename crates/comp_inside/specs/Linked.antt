@@ -2,14 +2,14 @@
 use Rattle.std.specs.Prelude.{◌≡◌, ◌⊎◌, ℕ, ◌+◌, ◌<◌, List, [], ◌∷◌, ◌++◌, map, true}
 use Rattle.std.specs.Option.{option_map}
 use Rattle.comp_worlds.specs.Groups.{Import, Target, Mine, Theirs, Func, LoweredFunc, ResourceNew, ResourceDrop, ResourceRep, Begins}
-use Rattle.comp_parts.specs.Parts.{owner_to, stages_to}
+use Rattle.comp_worlds.specs.Parts.{owner_to, stages_to}
 use Rattle.comp_grammar.specs.Trees.{Tree}
 use Rattle.comp_types.specs.GivenResources.{named_in_func}
 use Rattle.comp_types.specs.Spaces.{Space, empty_space}
 use Rattle.comp_types.specs.Added.{after_tree, root}
 use Rattle.comp_link.specs.Plans.{Named, AFunc, AnInstanceAt, AResource, AValueType, NamedArg, Plan, Planned, End, Then, OfComponent, OfItems, NewResource, Lifts, MakesResource, DropsResource, ReadsResource, Exports, Scope, no_scope, plan_tree, plan_of}
 use Rattle.comp_link.specs.Linking.{Given, Givens, GivenFunc, GivenInstance, GivenResource, GivenType, Nothing, Giving, Placed, Owned, Whole, Making, begun, and_stage, givens_of, link_item, link, all_outside, all_known, behind_known, linked}
-use Rattle.comp_renames.specs.Renaming.{lifting_with}
+use Rattle.comp_inside.specs.Renaming.{lifting_with}
 use Rattle.comp_inside.specs.Later.{plan_later, StaysWhole}
 
 -- Where a plan is carried out: behind so many instances, and at which number each of its own stands; what was made before; where its

@@ -3,8 +3,8 @@ use Rattle.std.proofs.Common.{◌≡◌, ◌∙◌, ◌+◌, ap, refl, sym, ℕ,
 use Rattle.std.proofs.lemmas.List.{append-nil}
 use Rattle.comp_types.specs.Substitution.{and_pair}
 use Rattle.comp_types.specs.GivenResources.{numbered}
-use Rattle.comp_describes.specs.Pairs.{FindAlike}
-use Rattle.comp_describes.proofs.AlikeLemmas.{alike-append, alike-pair, alike-same, alike-then}
+use Rattle.comp_instances.specs.Pairs.{FindAlike}
+use Rattle.comp_instances.proofs.AlikeLemmas.{alike-append, alike-pair, alike-same, alike-then}
 use Rattle.comp_instances.specs.Given.{and_pairs}
 
 abbrev Pairs : Type 0

@@ -22,7 +22,7 @@ use Rattle.comp_scopes.specs.Judged.{Judged}
 use Rattle.comp_scopes.specs.Stands.{Stands}
 use Rattle.type_table.specs.Tables.{Types, HasEntries}
 use Rattle.type_table.specs.Anew.{HasInstantiated}
-use Rattle.comp_describes.proofs.StandLemmas.{stands-next}
+use Rattle.comp_instances.proofs.StandLemmas.{stands-next}
 use Rattle.comp_instances.specs.Instances.{IsMadeAt}
 use Rattle.comp_instances.specs.declared.made.Made.{Made}
 

@@ -1,3 +1,9 @@
+pub mod SameLemmas
+pub mod AlikeLemmas
+pub mod IndexLemmas
+pub mod StandLemmas
+pub mod Only
+pub mod MakesLemmas
 pub mod NamedLemmas
 pub mod GivenLemmas
 pub mod InstanceLemmas

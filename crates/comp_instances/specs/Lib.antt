@@ -1,2 +1,4 @@
+pub mod Pairs
+pub mod Describes
 pub mod Given
 pub mod Instances

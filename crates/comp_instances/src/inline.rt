@@ -5,7 +5,7 @@ ghost use Rattle.comp_types.specs.Rules.{if_there, name_fits, names_fit_in};
 ghost use Rattle.comp_types.specs.Spaces.{Space};
 ghost use Rattle.comp_scopes.specs.Stands.{Stands};
 
-use comp_describes::name_fits;
+use crate::name_fits;
 use comp_scopes::Scope;
 use comp_types::{InstanceEntries, ItemType};
 use std::alloc::Global;

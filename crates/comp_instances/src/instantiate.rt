@@ -13,10 +13,10 @@ ghost use Rattle.type_table.specs.Anew.{HasInstantiated, Makes};
 ghost use Rattle.type_table.specs.Covers.{Covers, HasNested};
 ghost use Rattle.type_table.specs.Tables.{Grew, HasEntries};
 
+use crate::give_numbers;
 use crate::given::add_given;
 use crate::inline::named_items;
 use crate::made::Made;
-use comp_describes::give_numbers;
 use comp_indexes::names_differ;
 use comp_scopes::{KnownComponent, Scope};
 use comp_types::{InstanceEntries, InstanceType, Substitution};

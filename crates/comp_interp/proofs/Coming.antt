@@ -5,11 +5,11 @@ use Rattle.wasm_ast.specs.Boxed.{Held as HeldValue}
 use Rattle.wasm_ast.specs.declared.module.Module.{Module}
 use Rattle.wasm_ast.specs.declared.component.CoreArg.{CoreArg}
 use Rattle.host_port.specs.Hosts.{HostStep}
-use Rattle.comp_plans.specs.declared.items.PlanArg.{PlanArg}
-use Rattle.comp_plans.specs.declared.items.PlanItem.{PlanItem}
-use Rattle.comp_plans.specs.declared.items.PlanItem.TheVariants as items
-use Rattle.comp_plans.specs.declared.linked.Linked.{Linked}
-use Rattle.comp_plans.specs.Planned.{args_named}
+use Rattle.comp_link.specs.declared.items.PlanArg.{PlanArg}
+use Rattle.comp_link.specs.declared.items.PlanItem.{PlanItem}
+use Rattle.comp_link.specs.declared.items.PlanItem.TheVariants as items
+use Rattle.comp_link.specs.declared.linked.Linked.{Linked}
+use Rattle.comp_link.specs.Planned.{args_named}
 use Rattle.call_frames.specs.declared.end.Stop.{Stop}
 use Rattle.call_moments.specs.Leads.{Moment}
 use Rattle.instance_making.specs.declared.named.Named.{Named}

@@ -4,11 +4,11 @@ use Rattle.wasm_ast.specs.Boxed.{Held as HeldValue}
 use Rattle.wasm_ast.specs.declared.module.Module.{Module}
 use Rattle.comp_link.specs.Plans.{Plan, End, Then, followed}
 use Rattle.comp_link.specs.Linking.{Making, with_component, link, link_item}
-use Rattle.comp_plans.specs.declared.items.PlanItem.{PlanItem}
-use Rattle.comp_plans.specs.declared.linked.Linked.{Linked}
-use Rattle.comp_plans.specs.Planned.{PlannedComponent, plan_item, plan_items}
-use Rattle.comp_settled.specs.Growing.{Grows}
-use Rattle.comp_settled.proofs.Growing.{grows_same, grows_then, plan_grows}
+use Rattle.comp_link.specs.declared.items.PlanItem.{PlanItem}
+use Rattle.comp_link.specs.declared.linked.Linked.{Linked}
+use Rattle.comp_link.specs.Planned.{PlannedComponent, plan_item, plan_items}
+use Rattle.comp_joins.specs.Growing.{Grows}
+use Rattle.comp_joins.proofs.Growing.{grows_same, grows_then, plan_grows}
 use Rattle.comp_interp.specs.declared.part.Part.{Part}
 use Rattle.comp_interp.specs.declared.level.Level.{Level}
 use Rattle.comp_interp.specs.Parts.{part_items, part_limit, named_below}

@@ -11,18 +11,18 @@ use Rattle.host_port.specs.Hosts.{HostStep}
 use Rattle.comp_worlds.specs.Acts.{Next, Spent, seen_before, gives}
 use Rattle.comp_worlds.specs.Groups.{Stage, Begins as BeginsStage, Group, World, Config}
 use Rattle.comp_worlds.specs.Calls.{at_rest}
-use Rattle.comp_runs.proofs.Heads.{before_next, before_spent, step_spent, step_then}
+use Rattle.comp_frames.proofs.Heads.{before_next, before_spent, step_spent, step_then}
 use Rattle.comp_link.specs.Linking.{Givens, Owned, Whole, Making, begun, with_resource, place_at, canon_in, owner_in}
-use Rattle.instance_handles.specs.declared.owners.Owner.{Owner as CodeOwner}
-use Rattle.instance_handles.specs.Owning.{owner_in as owner_known}
+use Rattle.instance_state.specs.declared.owners.Owner.{Owner as CodeOwner}
+use Rattle.instance_state.specs.Owning.{owner_in as owner_known}
 use Rattle.instance_state.specs.declared.instance.Instance.{Instance}
 use Rattle.instance_state.specs.Shown.{config_of}
 use Rattle.instance_values.specs.declared.canon.Canon.{Canon}
 use Rattle.instance_values.specs.Targets.{func_of}
 use Rattle.call_frames.specs.declared.end.Stop.TheVariants as stops
 use Rattle.call_frames.specs.Grouped.{canon_in as canon_known}
-use Rattle.call_laws.specs.Configs.{config_or_rest, world_of}
-use Rattle.call_laws.specs.Held.{AllLend}
+use Rattle.call_moments.specs.Configs.{config_or_rest, world_of}
+use Rattle.call_moments.specs.Held.{AllLend}
 use Rattle.call_moments.specs.Leads.{Moment, calls_in, calls_of, so_far, Ends}
 use Rattle.instance_making.specs.declared.named.Named.{Named}
 use Rattle.instance_making.specs.declared.given.Given.{Given}

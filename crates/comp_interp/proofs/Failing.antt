@@ -8,8 +8,8 @@ use Rattle.wasm_ast.specs.declared.module.CoreFunc.{CoreFunc}
 use Rattle.core_memory.specs.declared.fault.StoreFault.{StoreFault}
 use Rattle.core_memory.specs.declared.fault.StoreFault.TheVariants.{Trap, NoMemory}
 use Rattle.core_store.specs.Scene.{scene_of}
-use Rattle.core_runs.specs.Ready.{Runs}
-use Rattle.core_runs.specs.Done.{Provides}
+use Rattle.instance_state.specs.Ready.{Runs}
+use Rattle.instance_state.specs.Done.{Provides}
 use Rattle.host_port.specs.Hosts.{HostStep}
 use Rattle.comp_worlds.specs.Groups.{Stage, Group}
 use Rattle.comp_link.specs.Linking.{Givens, Making}

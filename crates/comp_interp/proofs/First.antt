@@ -6,13 +6,13 @@ use Rattle.std.proofs.lemmas.Option.{none-some}
 use Rattle.host_port.specs.Hosts.{HostStep}
 use Rattle.comp_worlds.specs.Acts.{Next}
 use Rattle.comp_link.specs.Linking.{Whole, begun, link, all_outside, all_known, behind_known, canon_in, owner_in}
-use Rattle.comp_plans.specs.declared.linked.Linked.{Linked}
-use Rattle.comp_plans.specs.Planned.{and_components, plan_items, plan_in}
+use Rattle.comp_link.specs.declared.linked.Linked.{Linked}
+use Rattle.comp_link.specs.Planned.{and_components, plan_items, plan_in}
 use Rattle.comp_joins.proofs.Held.{all_outside_held, each_known}
-use Rattle.comp_settled.proofs.Below.{stay_below}
+use Rattle.comp_joins.proofs.Below.{stay_below}
 use Rattle.comp_sound.specs.Sound.{at_first}
-use Rattle.call_laws.specs.Configs.{world_of}
-use Rattle.call_laws.specs.Held.{AllLend}
+use Rattle.call_moments.specs.Configs.{world_of}
+use Rattle.call_moments.specs.Held.{AllLend}
 use Rattle.call_moments.specs.Fits.{scenes_of}
 use Rattle.call_moments.specs.Leads.{Moment, calls_of, maps_of, AreStill}
 use Rattle.instance_making.specs.declared.named.Named.{Named}
@@ -24,7 +24,7 @@ use Rattle.comp_interp.specs.Sound.{CanBeMade}
 use Rattle.comp_interp.specs.Parts.{part_items, part_limit, named_below}
 use Rattle.comp_interp.specs.Completing.{plan_left}
 use Rattle.comp_interp.specs.Gathered.{IsIdle, Made, AreDone, Enters, Imported}
-use Rattle.comp_plans.specs.Groups.{linked_group}
+use Rattle.comp_link.specs.Groups.{linked_group}
 use Rattle.comp_interp.specs.Standing.{TargetStands, Stands}
 use Rattle.comp_interp.specs.Between.{PlanGoes}
 use Rattle.comp_interp.specs.Going.{LevelsStand}

@@ -9,20 +9,20 @@ use Rattle.comp_types.specs.GivenResources.{named_in_func}
 use Rattle.comp_worlds.specs.Groups.{Target, Mine, Theirs, Func, LoweredFunc, ResourceNew, ResourceDrop, ResourceRep, Owner}
 use Rattle.comp_worlds.specs.Calls.{owned_by, number_if, borrowed, plainly}
 use Rattle.comp_link.specs.Linking.{Known, Owned, Whole, Making, all_known, behind_known, known_in, canon_in, owner_in}
-use Rattle.comp_plans.specs.declared.linked.Linked.{Linked}
-use Rattle.comp_plans.specs.Planned.{plan_in}
+use Rattle.comp_link.specs.declared.linked.Linked.{Linked}
+use Rattle.comp_link.specs.Planned.{plan_in}
 use Rattle.comp_inside.specs.Linked.{Each}
 use Rattle.comp_joins.specs.Holding.{Holds}
 use Rattle.comp_joins.specs.Joining.{IsKnown}
 use Rattle.comp_joins.proofs.Held.{plan_held, all_outside_held, each_known, canon_held}
-use Rattle.comp_knows.proofs.Names.{each_then}
-use Rattle.comp_settled.specs.Growing.{AreFrom, Grows}
-use Rattle.comp_settled.specs.Settled.{TargetNames, FuncNames, IsOwnedAlike}
-use Rattle.comp_settled.proofs.Growing.{plan_grows}
-use Rattle.comp_settled.proofs.Passing.{pass_alike}
-use Rattle.comp_settled.proofs.Standing.{settled}
+use Rattle.comp_joins.proofs.Names.{each_then}
+use Rattle.comp_joins.specs.Growing.{AreFrom, Grows}
+use Rattle.comp_joins.specs.Settled.{TargetNames, FuncNames, IsOwnedAlike}
+use Rattle.comp_joins.proofs.Growing.{plan_grows}
+use Rattle.comp_joins.proofs.Passing.{pass_alike}
+use Rattle.comp_joins.proofs.Standing.{settled}
 use Rattle.comp_sound.specs.Sound.{at_first}
-use Rattle.instance_handles.specs.Owning.{owner_in as owner_known, plain_for}
+use Rattle.instance_state.specs.Owning.{owner_in as owner_known, plain_for}
 use Rattle.call_moments.specs.Fits.{scenes_of, PassesAlike, TargetFits, OwnerFits, FuncFits, Fits}
 use Rattle.call_moments.specs.Leads.{Moment, IsAtRest}
 use Rattle.instance_making.specs.declared.named.Named.{Named}
@@ -30,7 +30,7 @@ use Rattle.instance_making.specs.declared.given.Given.{Given}
 use Rattle.instance_making.specs.Outside.{first_known}
 use Rattle.comp_interp.specs.declared.level.Level.{Level}
 use Rattle.comp_interp.specs.Sound.{CanBeMade}
-use Rattle.comp_plans.specs.Groups.{making_of, linked_group}
+use Rattle.comp_link.specs.Groups.{making_of, linked_group}
 use Rattle.comp_interp.specs.Standing.{TargetStands, FuncStands, OwnerStands}
 use Rattle.comp_interp.specs.Between.{Between}
 use Rattle.comp_interp.proofs.Completing.{left_grows}

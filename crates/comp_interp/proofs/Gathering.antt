@@ -7,26 +7,26 @@ use Rattle.std.proofs.lemmas.Option.{slice_get-map}
 use Rattle.wasm_ast.specs.declared.module.CoreFunc.{CoreFunc}
 use Rattle.core_store.specs.declared.value.StoreFunc.TheVariants.{Outside}
 use Rattle.core_store.specs.Scene.{Scene, scene_of}
-use Rattle.core_runs.specs.Ready.{Runs}
-use Rattle.core_runs.specs.Done.{Provides}
+use Rattle.instance_state.specs.Ready.{Runs}
+use Rattle.instance_state.specs.Done.{Provides}
 use Rattle.host_port.specs.Hosts.{HostStep}
 use Rattle.comp_worlds.specs.Acts.{Next, seen_before, gives}
 use Rattle.comp_worlds.specs.Groups.{Stage, Group, Provides as ProvidesStage}
 use Rattle.comp_worlds.specs.Locals.{gives_in, provides}
 use Rattle.comp_worlds.specs.Calls.{pick, does_all}
 use Rattle.comp_worlds.specs.Hosts.{hosted}
-use Rattle.comp_runs.specs.Running.{running}
-use Rattle.comp_runs.proofs.Heads.{before_next, on_some}
+use Rattle.comp_frames.specs.Running.{running}
+use Rattle.comp_frames.proofs.Heads.{before_next, on_some}
 use Rattle.comp_link.specs.Linking.{Givens, Placed, Whole, Making, with_canon, canon_in}
 use Rattle.instance_state.specs.declared.instance.Instance.{Instance}
 use Rattle.instance_state.specs.Shown.{config_of}
 use Rattle.instance_values.specs.declared.canon.Canon.{Canon}
 use Rattle.instance_values.specs.Targets.{func_of}
 use Rattle.call_frames.specs.Grouped.{canon_in as canon_known}
-use Rattle.call_laws.specs.CodeLaws.{nested}
-use Rattle.call_laws.specs.Configs.{world_of}
-use Rattle.call_laws.specs.Held.{AllLend}
-use Rattle.call_laws.proofs.Worlds.{config_at, changed}
+use Rattle.call_moments.specs.CodeLaws.{nested}
+use Rattle.call_moments.specs.Configs.{world_of}
+use Rattle.call_moments.specs.Held.{AllLend}
+use Rattle.call_moments.proofs.Worlds.{config_at, changed}
 use Rattle.call_moments.specs.Leads.{Moment, calls_of}
 use Rattle.call_moments.proofs.Instances.{calls_here, calls_set, still_set, maps_same}
 use Rattle.instance_making.specs.declared.named.Named.{Named}

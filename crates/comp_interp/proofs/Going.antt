@@ -10,12 +10,12 @@ use Rattle.comp_worlds.specs.Groups.{Stage, Begins as BeginsStage}
 use Rattle.comp_link.specs.Plans.{NamedArg, Plan, Planned, End, Then, followed, if_some, just}
 use Rattle.comp_link.specs.Plans as plans
 use Rattle.comp_link.specs.Linking.{Whole, Making, begun, and_stage, givens_of, link, link_item}
-use Rattle.comp_plans.specs.declared.items.PlanItem.{PlanItem}
-use Rattle.comp_plans.specs.declared.items.PlanItem.TheVariants as items
-use Rattle.comp_plans.specs.declared.linked.Linked.{Linked}
-use Rattle.comp_plans.specs.Planned.{PlannedComponent, item_named, args_named, plan_item}
-use Rattle.comp_settled.specs.Growing.{Grows}
-use Rattle.comp_settled.proofs.Growing.{grows_then, item_grows, plan_grows}
+use Rattle.comp_link.specs.declared.items.PlanItem.{PlanItem}
+use Rattle.comp_link.specs.declared.items.PlanItem.TheVariants as items
+use Rattle.comp_link.specs.declared.linked.Linked.{Linked}
+use Rattle.comp_link.specs.Planned.{PlannedComponent, item_named, args_named, plan_item}
+use Rattle.comp_joins.specs.Growing.{Grows}
+use Rattle.comp_joins.proofs.Growing.{grows_then, item_grows, plan_grows}
 use Rattle.call_frames.specs.declared.end.Stop.{Stop}
 use Rattle.call_moments.specs.Leads.{Moment, so_far, Ends}
 use Rattle.instance_making.specs.declared.named.Named.{Named}
@@ -24,7 +24,7 @@ use Rattle.instance_making.specs.declared.making.Making.{Making as CodeMaking}
 use Rattle.comp_interp.specs.declared.level.Level.{Level}
 use Rattle.comp_interp.specs.Completing.{plan_left, own_held, completed}
 use Rattle.comp_interp.specs.Gathered.{stage_of, stages_act, AreDone, Came, Begins, ModuleComes, Makes}
-use Rattle.comp_plans.specs.Groups.{making_of, linked_group}
+use Rattle.comp_link.specs.Groups.{making_of, linked_group}
 use Rattle.comp_interp.specs.Others.{other_item}
 use Rattle.comp_interp.specs.Between.{IsThere, BetweenWith, Stood}
 use Rattle.comp_interp.specs.Going.{whole_run, LevelsStand, GoesOn}

@@ -9,10 +9,10 @@ use Rattle.comp_worlds.specs.Groups.{Begins as BeginsStage}
 use Rattle.comp_inside.specs.Linked.{OwnBrought}
 use Rattle.comp_link.specs.Plans.{NamedArg, Plan, Then, OfComponent}
 use Rattle.comp_link.specs.Linking.{Givens, Whole, Making, begun, and_stage, givens_of, with_component, link, link_item, canon_in, owner_in}
-use Rattle.comp_plans.specs.declared.linked.Linked.{Linked}
-use Rattle.comp_settled.specs.Growing.{Grows}
-use Rattle.comp_settled.specs.Settled.{AreBelow}
-use Rattle.comp_settled.proofs.Below.{stay_below}
+use Rattle.comp_link.specs.declared.linked.Linked.{Linked}
+use Rattle.comp_joins.specs.Growing.{Grows}
+use Rattle.comp_joins.specs.Settled.{AreBelow}
+use Rattle.comp_joins.proofs.Below.{stay_below}
 use Rattle.call_moments.specs.Fits.{scenes_of}
 use Rattle.call_moments.specs.Leads.{Moment}
 use Rattle.instance_making.specs.declared.named.Named.{Named}
@@ -22,7 +22,7 @@ use Rattle.instance_making.specs.Made.{AreMade}
 use Rattle.instance_making.specs.Shown.{Stands as StandsFor}
 use Rattle.comp_interp.specs.declared.level.Level.{Level}
 use Rattle.comp_interp.specs.Completing.{plan_left, own_held, completed, OuterGo}
-use Rattle.comp_plans.specs.Groups.{making_of}
+use Rattle.comp_link.specs.Groups.{making_of}
 use Rattle.comp_interp.specs.Parts.{part_items, part_own, part_limit}
 use Rattle.comp_interp.specs.Gathered.{scene_at, Made}
 use Rattle.comp_interp.specs.Outer.{AreOutside, AreApart}

@@ -6,8 +6,8 @@ use Rattle.indexmap.specs.IndexMap.{get}
 use Rattle.comp_types.specs.Items.{Entries}
 use Rattle.comp_worlds.specs.Groups.{Owner}
 use Rattle.comp_link.specs.Linking.{Givens, all_outside, all_known}
-use Rattle.instance_handles.specs.declared.owners.Owners.{Owners}
-use Rattle.instance_handles.specs.Owning.{owner_of}
+use Rattle.instance_state.specs.declared.owners.Owners.{Owners}
+use Rattle.instance_state.specs.Owning.{owner_of}
 use Rattle.instance_values.specs.declared.canon.Canon.{Canon}
 use Rattle.call_frames.specs.Grouped.{canon_in as canon_known}
 use Rattle.call_moments.specs.Leads.{Moment}

@@ -7,21 +7,21 @@ use Rattle.core_memory.specs.declared.fault.StoreFault.TheVariants.{Trap, NoMemo
 use Rattle.core_instance.specs.declared.external.Extern.{Extern}
 use Rattle.core_instance.specs.declared.external.CoreInstance.{CoreInstance}
 use Rattle.core_instance.specs.Instantiation.{allocated, instance_of}
-use Rattle.core_runs.specs.Ready.{Runs}
-use Rattle.core_runs.specs.Done.{Instantiates}
+use Rattle.instance_state.specs.Ready.{Runs}
+use Rattle.instance_state.specs.Done.{Instantiates}
 use Rattle.host_port.specs.Hosts.{HostStep}
 use Rattle.comp_worlds.specs.Groups.{Begins as BeginsStage}
 use Rattle.comp_worlds.specs.Calls.{starts}
 use Rattle.comp_worlds.specs.Hosts.{hosted}
-use Rattle.comp_runs.specs.Running.{running}
+use Rattle.comp_frames.specs.Running.{running}
 use Rattle.comp_link.specs.Plans.{NamedArg}
 use Rattle.comp_link.specs.Linking.{Givens, Whole, Making, begun, and_stage, givens_of, externs_for, and_core_instance, with_module}
 use Rattle.instance_state.specs.declared.instance.Instance.{Instance}
 use Rattle.call_frames.specs.declared.end.Stop.{Stop}
 use Rattle.call_frames.specs.Stops.{stop_of_store}
 use Rattle.call_frames.specs.Steps.{TakesStep}
-use Rattle.call_laws.specs.CodeLaws.{nested}
-use Rattle.call_laws.specs.Configs.{world_of}
+use Rattle.call_moments.specs.CodeLaws.{nested}
+use Rattle.call_moments.specs.Configs.{world_of}
 use Rattle.call_moments.specs.Leads.{Moment, so_far, Ends}
 use Rattle.instance_making.specs.declared.named.Named.{Named}
 use Rattle.instance_making.specs.declared.given.Given.{Given}

@@ -7,24 +7,24 @@ use Rattle.core_memory.specs.declared.fault.StoreFault.TheVariants.{Trap}
 use Rattle.core_instance.specs.declared.external.Extern.{Extern}
 use Rattle.core_instance.specs.declared.external.CoreInstance.{CoreInstance}
 use Rattle.core_instance.specs.Instantiation.{allocated, instantiated, instance_of}
-use Rattle.core_runs.specs.Ready.{Runs}
-use Rattle.core_runs.specs.Done.{Instantiates}
+use Rattle.instance_state.specs.Ready.{Runs}
+use Rattle.instance_state.specs.Done.{Instantiates}
 use Rattle.host_port.specs.Hosts.{HostStep}
 use Rattle.comp_worlds.specs.Acts.{Over, Spent, Trapped, seen_before, Act, ◌>>◌, takes_step}
 use Rattle.comp_worlds.specs.Groups.{Stage, Group, World, Makes as MakesStage}
 use Rattle.comp_worlds.specs.Locals.{Local, gives_in, makes_module, with_store}
 use Rattle.comp_worlds.specs.Calls.{with_config, on, starts}
 use Rattle.comp_worlds.specs.Hosts.{hosted}
-use Rattle.comp_runs.specs.Running.{running}
-use Rattle.comp_runs.proofs.Heads.{before_spent, before_over, step_spent, step_then, on_some, on_none, then_gives}
+use Rattle.comp_frames.specs.Running.{running}
+use Rattle.comp_frames.proofs.Heads.{before_spent, before_over, step_spent, step_then, on_some, on_none, then_gives}
 use Rattle.comp_link.specs.Linking.{Givens, Making, with_module}
 use Rattle.comp_sound.specs.Fits.{ModuleFits}
 use Rattle.instance_state.specs.declared.instance.Instance.{Instance}
 use Rattle.instance_state.specs.Shown.{config_of}
 use Rattle.call_frames.specs.declared.end.Stop.TheVariants as stops
-use Rattle.call_laws.specs.CodeLaws.{nested}
-use Rattle.call_laws.specs.Configs.{world_of}
-use Rattle.call_laws.proofs.Worlds.{config_at, changed}
+use Rattle.call_moments.specs.CodeLaws.{nested}
+use Rattle.call_moments.specs.Configs.{world_of}
+use Rattle.call_moments.proofs.Worlds.{config_at, changed}
 use Rattle.call_moments.specs.Leads.{Moment, so_far, Ends}
 use Rattle.call_moments.proofs.Instances.{calls_here}
 use Rattle.instance_making.specs.declared.named.Named.{Named}

@@ -1,8 +1,8 @@
 -- The loop over the levels: the innermost one is the last.
 use Rattle.std.proofs.Common.{◌≡◌, ◌∙◌, ap, sym, refl, subst, List, [], ◌∷◌, ◌++◌, Option, Result, Ok, Err, IsErrAnd}
 use Rattle.host_port.specs.Hosts.{HostStep}
-use Rattle.comp_plans.specs.declared.linked.Linked.{Linked}
-use Rattle.comp_plans.specs.Groups.{linked_group}
+use Rattle.comp_link.specs.declared.linked.Linked.{Linked}
+use Rattle.comp_link.specs.Groups.{linked_group}
 use Rattle.call_frames.specs.declared.end.Stop.{Stop}
 use Rattle.call_moments.specs.Leads.{Moment, Ends}
 use Rattle.instance_making.specs.declared.named.Named.{Named}

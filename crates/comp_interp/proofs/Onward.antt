@@ -6,13 +6,13 @@ use Rattle.wasm_ast.specs.declared.component.CoreArg.{CoreArg}
 use Rattle.host_port.specs.Hosts.{HostStep}
 use Rattle.comp_types.specs.GivenResources.{numbered}
 use Rattle.comp_link.specs.Plans.{Plan, Planned, Then, OfModule, OfComponent, followed, if_some}
-use Rattle.comp_plans.specs.declared.items.PlanArg.{PlanArg}
-use Rattle.comp_plans.specs.declared.items.PlanItem.{PlanItem}
-use Rattle.comp_plans.specs.declared.items.PlanItem.TheVariants as items
-use Rattle.comp_plans.specs.declared.linked.Linked.{Linked}
-use Rattle.comp_plans.specs.Groups.{linked_group}
-use Rattle.comp_plans.specs.Planned.{PlannedComponent, args_named, plan_item}
-use Rattle.comp_plans.proofs.Earlier.{none_behind}
+use Rattle.comp_link.specs.declared.items.PlanArg.{PlanArg}
+use Rattle.comp_link.specs.declared.items.PlanItem.{PlanItem}
+use Rattle.comp_link.specs.declared.items.PlanItem.TheVariants as items
+use Rattle.comp_link.specs.declared.linked.Linked.{Linked}
+use Rattle.comp_link.specs.Groups.{linked_group}
+use Rattle.comp_link.specs.Planned.{PlannedComponent, args_named, plan_item}
+use Rattle.comp_link.proofs.Earlier.{none_behind}
 use Rattle.call_frames.specs.declared.end.Stop.{Stop}
 use Rattle.call_moments.specs.Leads.{Moment, Ends}
 use Rattle.instance_making.specs.declared.named.Named.{Named}

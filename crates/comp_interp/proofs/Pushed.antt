@@ -8,8 +8,8 @@ use Rattle.comp_worlds.specs.Groups.{Func, Owner}
 use Rattle.comp_link.specs.Linking.{Placed, Owned, canon_in, owner_in}
 use Rattle.comp_joins.specs.Joining.{or_else}
 use Rattle.comp_joins.proofs.Lists.{or_none, canon_append, owner_append, unlike}
-use Rattle.instance_handles.specs.declared.owners.Owner.{Owner as CodeOwner}
-use Rattle.instance_handles.specs.Owning.{owner_of}
+use Rattle.instance_state.specs.declared.owners.Owner.{Owner as CodeOwner}
+use Rattle.instance_state.specs.Owning.{owner_of}
 use Rattle.instance_values.specs.declared.canon.Canon.{Canon}
 use Rattle.instance_values.specs.Targets.{func_of}
 use Rattle.call_frames.specs.Grouped.{canon_in as canon_known}

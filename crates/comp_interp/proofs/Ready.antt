@@ -8,9 +8,9 @@ use Rattle.comp_types.specs.Items.{same_name}
 use Rattle.comp_worlds.specs.Groups.{Target, Mine, Theirs}
 use Rattle.comp_link.specs.Linking.{Given as GroupGiven, Givens, GivenFunc, GivenInstance, GivenResource, GivenType, Nothing, Giving, find, target_in, instance_in, exported, Making, owner_in}
 use Rattle.comp_joins.specs.Holding.{AllHold, SomeHolds}
-use Rattle.comp_knows.proofs.Names.{each_then}
-use Rattle.comp_plans.specs.declared.linked.Linked.{Linked}
-use Rattle.comp_settled.specs.Settled.{TargetNames, IsOwnedAlike}
+use Rattle.comp_joins.proofs.Names.{each_then}
+use Rattle.comp_link.specs.declared.linked.Linked.{Linked}
+use Rattle.comp_joins.specs.Settled.{TargetNames, IsOwnedAlike}
 use Rattle.call_moments.specs.Fits.{scenes_of}
 use Rattle.call_moments.specs.Leads.{Moment}
 use Rattle.instance_making.specs.declared.named.Named.{Named}
@@ -19,7 +19,7 @@ use Rattle.instance_making.specs.Made.{Holds}
 use Rattle.comp_interp.specs.declared.level.Level.{Level}
 use Rattle.comp_interp.specs.Parts.{part_items}
 use Rattle.comp_interp.specs.Gathered.{AreDone}
-use Rattle.comp_plans.specs.Groups.{making_of, linked_group}
+use Rattle.comp_link.specs.Groups.{making_of, linked_group}
 use Rattle.comp_interp.specs.Standing.{TargetStands}
 use Rattle.comp_interp.specs.Between.{Stood}
 use Rattle.comp_interp.specs.Going.{IsAllMade}

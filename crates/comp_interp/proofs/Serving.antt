@@ -6,14 +6,14 @@ use Rattle.host_port.specs.Calls.{plain_option}
 use Rattle.host_port.specs.Hosts.{HostStep, Kept}
 use Rattle.comp_worlds.specs.Acts.{Trapped, Out, Next, Over, traps}
 use Rattle.comp_worlds.specs.Groups.{Target, World}
-use Rattle.comp_runs.proofs.Heads.{before_over}
-use Rattle.comp_plans.specs.declared.linked.Linked.{Linked}
-use Rattle.comp_plans.specs.Groups.{linked_group}
+use Rattle.comp_frames.proofs.Heads.{before_over}
+use Rattle.comp_link.specs.declared.linked.Linked.{Linked}
+use Rattle.comp_link.specs.Groups.{linked_group}
 use Rattle.call_frames.specs.declared.end.RunEnd.{RunEnd}
 use Rattle.call_frames.specs.declared.end.RunEnd.TheVariants as ends
 use Rattle.call_frames.specs.declared.end.Stop.{Stop}
 use Rattle.call_frames.specs.declared.end.Stop.TheVariants as stops
-use Rattle.call_laws.specs.Configs.{world_of}
+use Rattle.call_moments.specs.Configs.{world_of}
 use Rattle.call_moments.specs.Fits.{scenes_of, TargetFits}
 use Rattle.call_moments.specs.Leads.{Moment, so_far, Same, IsAtRest, Ends}
 use Rattle.call_moments.specs.Outside.{ComesOut, calls_from_outside, RunsCall}

@@ -13,7 +13,7 @@ use Rattle.comp_worlds.specs.Groups.{Target, Mine, type_of, Func, LoweredFunc, R
 use Rattle.comp_link.specs.Plans.{Planned, Then, OfModule, OfCoreItems, CoreItemOf, OfComponent, OfItems, ItemOf, NewResource, Lifts, Lowers, MakesResource, DropsResource, ReadsResource, Imports, Exports}
 use Rattle.comp_link.specs.Linking.{Whole, Making, with_canon, with_lowered, place_at, options_in, lifting_of, link_item, canon_in, owner_in}
 use Rattle.comp_types.specs.Substitution.{partner_in}
-use Rattle.comp_plans.specs.declared.linked.Linked.{Linked}
+use Rattle.comp_link.specs.declared.linked.Linked.{Linked}
 use Rattle.comp_sound.specs.Fits.{HasCodeIfAny}
 use Rattle.comp_sound.specs.Sound.{IsSoundItem}
 use Rattle.call_moments.specs.Fits.{scenes_of, core_type_of}

@@ -11,18 +11,18 @@ use Rattle.comp_link.specs.Plans.{NamedArg, Plan, Planned, End, Then, followed, 
 use Rattle.comp_link.specs.Plans.{OfModule, OfCoreItems, CoreItemOf, OfComponent, OfItems, ItemOf, NewResource, Lifts, Lowers, MakesResource, ReadsResource, DropsResource, Imports, Exports, plan_of}
 use Rattle.comp_link.specs.Linking.{Making, begun, and_stage, givens_of}
 use Rattle.comp_worlds.specs.Groups.{Begins}
-use Rattle.comp_plans.specs.declared.items.PlanItem.{PlanItem}
-use Rattle.comp_plans.specs.declared.items.PlanItem.TheVariants as items
-use Rattle.comp_plans.specs.declared.linked.ComponentPlan.{ComponentPlan}
-use Rattle.comp_plans.specs.declared.linked.Linked.{Linked}
-use Rattle.comp_plans.specs.Planned.{PlannedComponent, args_named, plan_item, plan_items, planned_component, and_components, plan_in}
-use Rattle.comp_plans.proofs.Earlier.{component_at, component_before}
+use Rattle.comp_link.specs.declared.items.PlanItem.{PlanItem}
+use Rattle.comp_link.specs.declared.items.PlanItem.TheVariants as items
+use Rattle.comp_link.specs.declared.linked.ComponentPlan.{ComponentPlan}
+use Rattle.comp_link.specs.declared.linked.Linked.{Linked}
+use Rattle.comp_link.specs.Planned.{PlannedComponent, args_named, plan_item, plan_items, planned_component, and_components, plan_in}
+use Rattle.comp_link.proofs.Earlier.{component_at, component_before}
 use Rattle.comp_exports.proofs.Spelled.{spelled_define}
 use Rattle.comp_sound.specs.Sound.{IsSoundItem as FitsItem, IsSoundPlan, at_first}
 use Rattle.comp_sound.proofs.Spelled.{spelled_count}
 use Rattle.comp_sound.proofs.Made.{linked_sound}
-use Rattle.comp_knows.specs.Known.{PlanNamesKnown}
-use Rattle.comp_knows.proofs.Known.{names_known}
+use Rattle.comp_joins.specs.Known.{PlanNamesKnown}
+use Rattle.comp_joins.proofs.Known.{names_known}
 use Rattle.comp_interp.specs.declared.part.Part.{Part}
 use Rattle.comp_interp.specs.declared.part.Part.TheVariants.{Whole, Held}
 use Rattle.comp_interp.specs.declared.level.Level.{Level}

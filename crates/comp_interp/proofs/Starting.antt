@@ -11,17 +11,17 @@ use Rattle.comp_worlds.specs.Acts.{gives}
 use Rattle.comp_worlds.specs.Groups.{Group}
 use Rattle.comp_worlds.specs.Calls.{starts}
 use Rattle.comp_worlds.specs.Hosts.{hosted}
-use Rattle.comp_runs.specs.Running.{running}
-use Rattle.comp_runs.proofs.Heads.{before_next}
+use Rattle.comp_frames.specs.Running.{running}
+use Rattle.comp_frames.proofs.Heads.{before_next}
 use Rattle.comp_link.specs.Plans.{Then, OfModule}
 use Rattle.comp_link.specs.Linking.{Givens, Making, externs_for, with_module, canon_in, owner_in}
-use Rattle.comp_plans.specs.declared.linked.Linked.{Linked}
+use Rattle.comp_link.specs.declared.linked.Linked.{Linked}
 use Rattle.comp_sound.specs.Fits.{HasCodeIfAny, ModuleFits}
-use Rattle.instance_handles.specs.Owning.{owner_in as owner_known}
+use Rattle.instance_state.specs.Owning.{owner_in as owner_known}
 use Rattle.call_frames.specs.declared.end.Stop.{Stop}
 use Rattle.call_frames.specs.Grouped.{canon_in as canon_known}
-use Rattle.call_laws.specs.CodeLaws.{nested}
-use Rattle.call_laws.specs.Configs.{world_of}
+use Rattle.call_moments.specs.CodeLaws.{nested}
+use Rattle.call_moments.specs.Configs.{world_of}
 use Rattle.call_moments.specs.Fits.{scenes_of, Takes}
 use Rattle.call_moments.specs.Leads.{Moment, so_far, Same, IsAtRest, Ends}
 use Rattle.call_moments.specs.Outside.{ComesOut, RunsStart}
@@ -30,7 +30,7 @@ use Rattle.instance_making.specs.declared.given.Given.{Given}
 use Rattle.instance_making.specs.declared.making.Making.{Making as CodeMaking}
 use Rattle.comp_interp.specs.declared.level.Level.{Level}
 use Rattle.comp_interp.specs.Completing.{plan_left}
-use Rattle.comp_plans.specs.Groups.{linked_group}
+use Rattle.comp_link.specs.Groups.{linked_group}
 use Rattle.comp_interp.specs.Gathered.{row_at, scene_at, Gathers, IsIdle, Made, stage_of, stages_act, IsInstantiated, CanStart, ModuleComes}
 use Rattle.comp_interp.specs.Standing.{Stands}
 use Rattle.comp_interp.specs.Between.{PlanGoes, Between, BetweenWith}

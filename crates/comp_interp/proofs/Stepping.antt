@@ -7,10 +7,10 @@ use Rattle.core_store.specs.Scene.{Scene, scene_of}
 use Rattle.comp_types.specs.GivenResources.{numbered}
 use Rattle.comp_link.specs.Plans.{Planned, Then}
 use Rattle.comp_link.specs.Linking.{Givens, Whole, Making, link, link_item, canon_in, owner_in}
-use Rattle.comp_plans.specs.declared.linked.Linked.{Linked}
-use Rattle.comp_settled.specs.Growing.{Grows}
-use Rattle.comp_settled.proofs.Below.{stay_below}
-use Rattle.comp_settled.proofs.Growing.{grows_then, item_grows}
+use Rattle.comp_link.specs.declared.linked.Linked.{Linked}
+use Rattle.comp_joins.specs.Growing.{Grows}
+use Rattle.comp_joins.proofs.Below.{stay_below}
+use Rattle.comp_joins.proofs.Growing.{grows_then, item_grows}
 use Rattle.call_moments.specs.Fits.{scenes_of}
 use Rattle.call_moments.specs.Leads.{Moment}
 use Rattle.instance_making.specs.declared.named.Named.{Named}

@@ -8,12 +8,12 @@ use Rattle.comp_link.specs.Plans.{Plan, End, Then, OfComponent, followed, if_som
 use Rattle.comp_link.specs.Linking.{Making, link, link_item}
 use Rattle.comp_inside.specs.Linked.{PlanKnows}
 use Rattle.comp_sound.specs.Sound.{IsSoundPlan}
-use Rattle.comp_plans.specs.declared.items.PlanItem.{PlanItem}
-use Rattle.comp_plans.specs.declared.items.PlanItem.TheVariants as items
-use Rattle.comp_plans.specs.declared.linked.ComponentPlan.{ComponentPlan}
-use Rattle.comp_plans.specs.declared.linked.Linked.{Linked}
-use Rattle.comp_plans.specs.Planned.{PlannedComponent, args_named, plan_item, plan_items, planned_component}
-use Rattle.comp_plans.proofs.Earlier.{component_at, component_before}
+use Rattle.comp_link.specs.declared.items.PlanItem.{PlanItem}
+use Rattle.comp_link.specs.declared.items.PlanItem.TheVariants as items
+use Rattle.comp_link.specs.declared.linked.ComponentPlan.{ComponentPlan}
+use Rattle.comp_link.specs.declared.linked.Linked.{Linked}
+use Rattle.comp_link.specs.Planned.{PlannedComponent, args_named, plan_item, plan_items, planned_component}
+use Rattle.comp_link.proofs.Earlier.{component_at, component_before}
 use Rattle.comp_interp.specs.declared.part.Part.TheVariants.{Held}
 use Rattle.comp_interp.specs.Parts.{items_if, own_if, part_own, named_below, part_plan}
 use Rattle.comp_interp.specs.Others.{other_item}

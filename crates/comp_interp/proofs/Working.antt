@@ -2,9 +2,9 @@
 use Rattle.std.proofs.Common.{◌≡◌, ◌∙◌, ◌+◌, ◌<◌, ◌≤◌, ap, refl, ℕ, zero, suc, List, [], ◌∷◌, ◌++◌, drop, Option, Some, None, slice_get, arith}
 use Rattle.std.specs.Prelude.{sum_by}
 use Rattle.std.proofs.lemmas.List.Sums.{sum_by_push, sum_by-cons}
-use Rattle.comp_plans.specs.declared.items.PlanItem.{PlanItem}
-use Rattle.comp_plans.specs.declared.items.PlanItem.TheVariants as items
-use Rattle.comp_plans.specs.declared.linked.Linked.{Linked}
+use Rattle.comp_link.specs.declared.items.PlanItem.{PlanItem}
+use Rattle.comp_link.specs.declared.items.PlanItem.TheVariants as items
+use Rattle.comp_link.specs.declared.linked.Linked.{Linked}
 use Rattle.comp_interp.specs.declared.part.Part.{Part}
 use Rattle.comp_interp.specs.declared.part.Part.TheVariants.{Held}
 use Rattle.comp_interp.specs.declared.level.Level.{Level}

@@ -7,10 +7,10 @@ use Rattle.host_port.specs.Hosts.{HostStep}
 use Rattle.comp_inside.specs.Linked.{OwnBrought}
 use Rattle.comp_link.specs.Plans.{Plan}
 use Rattle.comp_link.specs.Linking.{Givens, Whole, Making, with_component, link, all_known, canon_in, owner_in}
-use Rattle.comp_plans.specs.declared.linked.Linked.{Linked}
-use Rattle.comp_knows.specs.Known.{PlanNamesKnown}
-use Rattle.comp_settled.specs.Growing.{Grows}
-use Rattle.comp_settled.specs.Settled.{AreBelow}
+use Rattle.comp_link.specs.declared.linked.Linked.{Linked}
+use Rattle.comp_joins.specs.Known.{PlanNamesKnown}
+use Rattle.comp_joins.specs.Growing.{Grows}
+use Rattle.comp_joins.specs.Settled.{AreBelow}
 use Rattle.comp_sound.specs.Sound.{IsSoundPlan}
 use Rattle.call_moments.specs.Fits.{scenes_of}
 use Rattle.call_moments.specs.Leads.{Moment}
@@ -21,7 +21,7 @@ use Rattle.comp_interp.specs.declared.level.Level.{Level}
 use Rattle.comp_interp.specs.Sound.{CanBeMade}
 use Rattle.comp_interp.specs.Gathered.{Gathers, IsIdle, AreDone}
 use Rattle.comp_interp.specs.Completing.{plan_left, completed, OuterGo}
-use Rattle.comp_plans.specs.Groups.{making_of, linked_group}
+use Rattle.comp_link.specs.Groups.{making_of, linked_group}
 use Rattle.comp_interp.specs.Parts.{part_limit}
 use Rattle.comp_interp.specs.Outer.{AreOutside, AreApart}
 use Rattle.comp_interp.specs.Standing.{AllCalled, TargetStands, Stands}

@@ -15,20 +15,20 @@ use Rattle.comp_worlds.specs.Acts.{Next, Act}
 use Rattle.comp_worlds.specs.Groups.{Stage, Begins as BeginsStage, Makes as MakesStage, Group, World}
 use Rattle.comp_worlds.specs.Calls.{does_all, starts}
 use Rattle.comp_worlds.specs.Hosts.{hosted}
-use Rattle.comp_runs.specs.Running.{running}
+use Rattle.comp_frames.specs.Running.{running}
 use Rattle.comp_link.specs.Plans.{NamedArg}
 use Rattle.comp_link.specs.Linking.{Givens, Whole, Making, begun, and_stage, givens_of, externs_for, with_module, with_component, canon_in, owner_in, all_outside, all_known, behind_known}
-use Rattle.comp_plans.specs.declared.linked.Linked.{Linked}
+use Rattle.comp_link.specs.declared.linked.Linked.{Linked}
 use Rattle.comp_sound.specs.Fits.{ModuleFits}
-use Rattle.instance_handles.specs.Owning.{owner_in as owner_known}
+use Rattle.instance_state.specs.Owning.{owner_in as owner_known}
 use Rattle.instance_values.specs.declared.canon.Canon.{Canon}
 use Rattle.instance_state.specs.declared.instance.Instance.{Instance}
 use Rattle.call_frames.specs.declared.end.Stop.{Stop}
 use Rattle.call_frames.specs.declared.end.Stop.TheVariants as stops
 use Rattle.call_frames.specs.Grouped.{canon_in as canon_known}
-use Rattle.call_laws.specs.CodeLaws.{nested}
-use Rattle.call_laws.specs.Configs.{world_of}
-use Rattle.call_laws.specs.Held.{AllLend}
+use Rattle.call_moments.specs.CodeLaws.{nested}
+use Rattle.call_moments.specs.Configs.{world_of}
+use Rattle.call_moments.specs.Held.{AllLend}
 use Rattle.call_moments.specs.Fits.{scenes_of, Takes}
 use Rattle.call_moments.specs.Leads.{Moment, calls_of, maps_of, so_far, AreStill, IsAtRest, Ends}
 use Rattle.instance_making.specs.declared.named.Named.{Named}

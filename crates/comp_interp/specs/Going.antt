@@ -7,10 +7,10 @@ use Rattle.host_port.specs.Hosts.{HostStep}
 use Rattle.comp_worlds.specs.Acts.{Out}
 use Rattle.comp_worlds.specs.Groups.{Target, World}
 use Rattle.comp_link.specs.Linking.{Givens}
-use Rattle.comp_plans.specs.declared.items.PlanItem.{PlanItem}
-use Rattle.comp_plans.specs.declared.items.PlanItem.TheVariants as items
-use Rattle.comp_plans.specs.declared.linked.Linked.{Linked}
-use Rattle.comp_plans.specs.Planned.{args_named}
+use Rattle.comp_link.specs.declared.items.PlanItem.{PlanItem}
+use Rattle.comp_link.specs.declared.items.PlanItem.TheVariants as items
+use Rattle.comp_link.specs.declared.linked.Linked.{Linked}
+use Rattle.comp_link.specs.Planned.{args_named}
 use Rattle.call_frames.specs.declared.end.Stop.{Stop}
 use Rattle.call_moments.specs.Fits.{scenes_of, TargetFits}
 use Rattle.call_moments.specs.Leads.{Moment, so_far, IsAtRest, Ends}
@@ -21,7 +21,7 @@ use Rattle.instance_making.specs.Made.{AreMade, Holds}
 use Rattle.comp_interp.specs.declared.level.Level.{Level}
 use Rattle.comp_interp.specs.declared.part.Part.TheVariants.{Held}
 use Rattle.comp_interp.specs.Gathered.{stages_act, AreDone, Begins, ModuleComes, Makes}
-use Rattle.comp_plans.specs.Groups.{making_of, linked_group}
+use Rattle.comp_link.specs.Groups.{making_of, linked_group}
 use Rattle.comp_interp.specs.Others.{other_item}
 use Rattle.comp_interp.specs.Between.{Stood}
 

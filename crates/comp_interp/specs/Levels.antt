@@ -1,8 +1,8 @@
 -- Instances that are being made, each by its plan, and the work that is left.
 use Rattle.std.specs.Prelude.{◌≡◌, ℕ, zero, suc, ◌+◌, ◌<◌, List, [], ◌∷◌, drop, sum_by, Option, Some, None}
-use Rattle.comp_plans.specs.declared.items.PlanItem.{PlanItem}
-use Rattle.comp_plans.specs.declared.items.PlanItem.TheVariants.{OfComponent}
-use Rattle.comp_plans.specs.declared.linked.Linked.{Linked}
+use Rattle.comp_link.specs.declared.items.PlanItem.{PlanItem}
+use Rattle.comp_link.specs.declared.items.PlanItem.TheVariants.{OfComponent}
+use Rattle.comp_link.specs.declared.linked.Linked.{Linked}
 use Rattle.comp_interp.specs.declared.part.Part.TheVariants.{Held}
 use Rattle.comp_interp.specs.declared.level.Level.{Level}
 use Rattle.comp_interp.specs.Parts.{part_items, part_limit, IsSoundPart}

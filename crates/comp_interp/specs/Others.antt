@@ -3,9 +3,9 @@ use Rattle.std.specs.Option.{option_map}
 use Rattle.comp_types.specs.Views.{item_of}
 use Rattle.comp_link.specs.Plans as plans
 use Rattle.comp_link.specs.Linking.{Making, link_item}
-use Rattle.comp_plans.specs.declared.items.PlanItem.{PlanItem}
-use Rattle.comp_plans.specs.declared.items.PlanItem.TheVariants as items
-use Rattle.comp_plans.specs.Planned.{item_named, args_named}
+use Rattle.comp_link.specs.declared.items.PlanItem.{PlanItem}
+use Rattle.comp_link.specs.declared.items.PlanItem.TheVariants as items
+use Rattle.comp_link.specs.Planned.{item_named, args_named}
 
 abbrev pub other_item : PlanItem → Making → Making
 other_item (items.OfModule number args) m = m

@@ -8,13 +8,13 @@ use Rattle.host_port.specs.Hosts.{HostStep, Kept}
 use Rattle.comp_worlds.specs.Acts.{Trapped, ScriptEnded, BadAnswer, TooDeep, Out, Next, Over, Spent, Act, traps}
 use Rattle.comp_worlds.specs.Passing.{params_tuple, answer_tuple}
 use Rattle.comp_worlds.specs.Groups.{Target, type_of, Group, World}
-use Rattle.comp_plans.specs.declared.linked.Linked.{Linked}
+use Rattle.comp_link.specs.declared.linked.Linked.{Linked}
 use Rattle.call_frames.specs.declared.end.RunEnd.{RunEnd}
 use Rattle.call_frames.specs.declared.end.RunEnd.TheVariants as ends
 use Rattle.call_frames.specs.declared.end.Stop.{Stop}
 use Rattle.call_frames.specs.declared.end.Stop.TheVariants as stops
 use Rattle.wit_types.specs.declared.value.Value.{Value}
-use Rattle.call_laws.specs.Configs.{world_of}
+use Rattle.call_moments.specs.Configs.{world_of}
 use Rattle.call_moments.specs.Leads.{Moment, so_far}
 use Rattle.call_moments.specs.Outside.{calls_from_outside}
 use Rattle.call_moments.specs.Waiting.{HoldsNone}
@@ -22,7 +22,7 @@ use Rattle.comp_calls.specs.Moments.{at}
 use Rattle.comp_interp.specs.declared.run.Run.{Run}
 use Rattle.comp_interp.specs.Gathered.{stages_act}
 use Rattle.comp_interp.specs.Going.{IsReady}
-use Rattle.comp_plans.specs.Groups.{linked_group}
+use Rattle.comp_link.specs.Groups.{linked_group}
 use Rattle.comp_interp.specs.Names.{cut}
 use Rattle.comp_interp.specs.Runs.{host_in, IsNew}
 

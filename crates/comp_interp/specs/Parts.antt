@@ -5,11 +5,11 @@ use Rattle.wasm_ast.specs.declared.module.Module.{Module}
 use Rattle.core_validate.specs.Validity.{IsValidModule}
 use Rattle.core_instance.specs.Matching.{HasCounts}
 use Rattle.comp_link.specs.Plans.{Plan}
-use Rattle.comp_plans.specs.declared.items.PlanItem.{PlanItem}
-use Rattle.comp_plans.specs.declared.items.PlanItem.TheVariants.{OfModule, OfComponent}
-use Rattle.comp_plans.specs.declared.linked.ComponentPlan.{ComponentPlan}
-use Rattle.comp_plans.specs.declared.linked.Linked.{Linked}
-use Rattle.comp_plans.specs.Planned.{PlannedComponent, plan_items, and_components}
+use Rattle.comp_link.specs.declared.items.PlanItem.{PlanItem}
+use Rattle.comp_link.specs.declared.items.PlanItem.TheVariants.{OfModule, OfComponent}
+use Rattle.comp_link.specs.declared.linked.ComponentPlan.{ComponentPlan}
+use Rattle.comp_link.specs.declared.linked.Linked.{Linked}
+use Rattle.comp_link.specs.Planned.{PlannedComponent, plan_items, and_components}
 use Rattle.comp_interp.specs.declared.part.Part.{Part}
 use Rattle.comp_interp.specs.declared.part.Part.TheVariants.{Whole, Held}
 use Rattle.comp_interp.specs.Sound.{HasSoundModules}

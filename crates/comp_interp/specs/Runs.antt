@@ -1,7 +1,7 @@
 -- A run between two calls.
 use Rattle.std.specs.Prelude.{◌≡◌, ℕ, []}
 use Rattle.host_port.specs.Hosts.{Kept}
-use Rattle.comp_plans.specs.declared.linked.Linked.{Linked}
+use Rattle.comp_link.specs.declared.linked.Linked.{Linked}
 use Rattle.comp_interp.specs.declared.run.Run.{Run}
 
 abbrev pub host_in : {H : Type 0} → Run H → H

@@ -8,10 +8,10 @@ use Rattle.comp_grammar.specs.Components.{SpellsComponent}
 use Rattle.comp_types.specs.Added.{after_tree, root}
 use Rattle.comp_types.specs.Validity.{IsValidComponent}
 use Rattle.comp_link.specs.Plans.{Plan, Planned, End, Then, OfModule, OfComponent, plan_of}
-use Rattle.comp_plans.specs.declared.linked.Linked.{Linked}
-use Rattle.comp_plans.specs.Planned.{plan_in}
+use Rattle.comp_link.specs.declared.linked.Linked.{Linked}
+use Rattle.comp_link.specs.Planned.{plan_in}
 use Rattle.comp_sound.specs.Sound.{at_first, IsSound}
-use Rattle.comp_knows.specs.Known.{PlanNamesKnown}
+use Rattle.comp_joins.specs.Known.{PlanNamesKnown}
 
 -- each module is valid, and has as many bodies and data segments as it counts
 abbrev mutual

@@ -6,7 +6,7 @@ ghost use Rattle.comp_interp.specs.declared.part.Part.TheVariants.{Held};
 ghost use Rattle.comp_interp.specs.Sound.{CanBeMade};
 ghost use Rattle.comp_interp.specs.Parts.{IsSoundPart};
 ghost use Rattle.comp_interp.specs.Levels.{AreSound, level_work, work};
-ghost use Rattle.comp_plans.specs.Planned.{args_named};
+ghost use Rattle.comp_link.specs.Planned.{args_named};
 ghost use Rattle.comp_calls.specs.Moments.{at};
 ghost use Rattle.comp_interp.specs.Gathered.{IsUnmade, Enters, Begins, IsImported, IsHeldIfAny};
 ghost use Rattle.comp_interp.specs.Going.{LevelGoes, MakesAll};
@@ -14,13 +14,10 @@ ghost use Rattle.comp_interp.specs.Going.{LevelGoes, MakesAll};
 use crate::level::Level;
 use crate::part::Part;
 use comp_calls::{Group, Stop, World};
-use comp_plans::{Linked, PlanArg};
-use core_runs::CoreRuns;
-use handle_exchange::Room;
+use comp_link::{Linked, PlanArg};
 use host_port::Host;
-use instance_handles::{Handles, Owners};
 use instance_making::{Givens, HostResources, MadeInstances, Making, outside};
-use instance_state::Instance;
+use instance_state::{CoreRuns, Handles, Instance, Owners, Room};
 use std::alloc::Global;
 
 /// Instances, and what each of them exports.

@@ -12,7 +12,7 @@ use crate::assembly::Assembly;
 use crate::level::Level;
 use crate::part::module_at;
 use comp_calls::Stop;
-use comp_plans::{Linked, PlanItem};
+use comp_link::{Linked, PlanItem};
 use host_port::Host;
 use instance_making::Making;
 use instance_values::Canon;

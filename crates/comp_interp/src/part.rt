@@ -3,7 +3,7 @@ ghost use Rattle.wasm_ast.specs.Boxed.{Held as HeldValue};
 ghost use Rattle.wasm_ast.specs.declared.module.Module.{Module as TheModule};
 ghost use Rattle.comp_interp.specs.Parts.{part_items, part_own, part_limit};
 
-use comp_plans::{Linked, PlanItem};
+use comp_link::{Linked, PlanItem};
 use wasm_ast::Module;
 
 /// Which plan of a linked component is followed.

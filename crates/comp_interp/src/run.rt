@@ -8,7 +8,7 @@ use crate::assembly::Assembly;
 use crate::exports::target_of;
 use crate::runnable::Runnable;
 use comp_calls::{RunEnd, Stop, World};
-use comp_plans::Linked;
+use comp_link::Linked;
 use host_port::Host;
 use instance_making::{Givens, Named};
 use std::alloc::Global;

@@ -1,7 +1,7 @@
 ghost use Rattle.std.specs.Prelude.{◌≡◌};
 ghost use Rattle.comp_interp.specs.Sound.{CanBeMade};
 
-use comp_plans::Linked;
+use comp_link::Linked;
 use std::marker::Model;
 
 /// A linked component that can be made.
@@ -11,11 +11,11 @@ pub struct Runnable {
 }
 
 impl Model for Runnable {
-    ghost use Rattle.comp_plans.specs.declared.linked.Linked as plans;
+    ghost use Rattle.comp_link.specs.declared.linked.Linked as plans;
     ghost use Rattle.comp_interp.specs.Sound.{CanBeMade};
     ghost use Rattle.std.specs.Coded.{codes};
     ghost use Rattle.comp_types.specs.Codes.{value_code, parts_code, func_code, entries_code};
-    ghost use Rattle.comp_plans.specs.contracts.linked.Linked as contract;
+    ghost use Rattle.comp_link.specs.contracts.linked.Linked as contract;
 
     ghost Value = { plans.Linked };
 

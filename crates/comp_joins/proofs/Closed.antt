@@ -4,9 +4,9 @@ use Rattle.std.specs.Option.{option_map}
 use Rattle.comp_grammar.specs.Trees.{Tree}
 use Rattle.comp_worlds.specs.Groups.{Import, Theirs, Func, LoweredFunc, ResourceNew, ResourceDrop, ResourceRep}
 use Rattle.comp_worlds.specs.Calls.{owned_by}
-use Rattle.comp_parts.specs.Parts.{func_to, owner_to, IsImportOf, Joins}
+use Rattle.comp_worlds.specs.Parts.{func_to, owner_to, IsImportOf, Joins}
 use Rattle.comp_link.specs.Linking.{all_known, known_in, target_in, exported, group_of}
-use Rattle.comp_renames.specs.Renaming.{target_with, canon_with}
+use Rattle.comp_inside.specs.Renaming.{target_with, canon_with}
 use Rattle.comp_joins.specs.Joining.{Joint, joining, or_else, or_nowhere, hosted, Fits, over_host, Agree, itself, Closed}
 use Rattle.comp_joins.specs.Laws.{in_a_step}
 use Rattle.comp_joins.proofs.Renamed.{import_was, owner_of_renamed}

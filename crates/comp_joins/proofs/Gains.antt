@@ -11,8 +11,8 @@ use Rattle.comp_worlds.specs.Observed.{State, stack, first_state, are_made, Call
 use Rattle.comp_worlds.proofs.Growing.{prefix_nil, prefix_trans, extends_before, seen_then}
 use Rattle.comp_worlds.proofs.GroupGrowing.{group_grows, made_longer}
 use Rattle.comp_worlds.proofs.ObservedGrowing.{host_grows, stack_grows, are_made_longer, calls_longer}
-use Rattle.comp_parts.proofs.Whole.{nothing_before}
-use Rattle.comp_parts.proofs.Fair.{Fair, host_fair, group_fair, stack_fair}
+use Rattle.comp_worlds.proofs.Whole.{nothing_before}
+use Rattle.comp_worlds.proofs.Fair.{Fair, host_fair, group_fair, stack_fair}
 use Rattle.comp_joins.specs.Laws.{in_a_step, TwoStepsMore}
 use Rattle.comp_joins.proofs.InStep.{ports_same, made_in_step, calls_same}
 

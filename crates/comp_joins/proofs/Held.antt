@@ -13,7 +13,7 @@ use Rattle.comp_types.specs.Substitution.{partner_in}
 use Rattle.comp_grammar.specs.Trees.{Tree}
 use Rattle.comp_types.specs.GivenResources.{named_in_func}
 use Rattle.comp_worlds.specs.Groups.{Target, Mine, Theirs, Import, Func as Canon, LoweredFunc, ResourceNew, ResourceDrop, ResourceRep, Owner, Begins}
-use Rattle.comp_parts.specs.Parts.{DropsSome}
+use Rattle.comp_worlds.specs.Parts.{DropsSome}
 use Rattle.comp_link.specs.Plans.{Named, AFunc, AnInstanceAt, AResource, AValueType, NamedArg, Plan, Planned, End, Then, OfModule, OfCoreItems, CoreItemOf, OfComponent, OfItems, ItemOf, NewResource, Lifts, Lowers, MakesResource, DropsResource, ReadsResource, Imports, Exports, plan_of}
 use Rattle.comp_link.specs.Linking.{Given, Givens, GivenFunc, GivenInstance, GivenResource, GivenType, Nothing, Giving, find, and_given, bound, all_bound, bound_if, Placed, Owned, Whole, Making, begun, and_stage, core_find, and_core_item, given_at, and_some_given, givens_of, and_item, item_in, and_export, with_lowered, lifting_of, own_bound, link_item, link, outside, all_outside, Known, known, all_known, canon_in, owner_in, linked, group_of}
 use Rattle.comp_inside.specs.Linked.{IsBrought, AreBrought, NamesBrought, ArgsBrought, OwnBrought, ItemKnows, PlanKnows, unmade}

@@ -10,10 +10,10 @@ use Rattle.comp_worlds.specs.Passing.{Passed, out_of_tuple}
 use Rattle.comp_worlds.specs.Groups.{Nesting, Import, Target, Mine, Theirs, Func, LoweredFunc, ResourceNew, ResourceDrop, ResourceRep, Stage, Provides, Makes, Begins, Group, World, Due, Nothing, Served, Below, Answer, Origin, Outside, Ports}
 use Rattle.comp_worlds.specs.Calls.{with_config, below, answers, during, leaves, drops, runs, deep_enough, answers_if, drops_given, group, does_all, is_made}
 use Rattle.comp_worlds.specs.Observed.{Call, without_handles, makes_calls}
-use Rattle.comp_parts.specs.Parts.{target_to, func_to, stages_to, Embeds}
-use Rattle.comp_parts.proofs.Exact.{Equals, Exact, exact_gives_first}
-use Rattle.comp_parts.proofs.Embedding.{Eq, DueTo, Answers_as, LeadsTo, KnownIn, InStep, exact_runs, exact_answers, exact_leaves, exact_drops, exact_all}
-use Rattle.comp_parts.proofs.Fair.{Left, Fair, Under, exact_below, exact_itself}
+use Rattle.comp_worlds.specs.Parts.{target_to, func_to, stages_to, Embeds}
+use Rattle.comp_worlds.proofs.Exact.{Equals, Exact, exact_gives_first}
+use Rattle.comp_worlds.proofs.Embedding.{Eq, DueTo, Answers_as, LeadsTo, KnownIn, InStep, exact_runs, exact_answers, exact_leaves, exact_drops, exact_all}
+use Rattle.comp_worlds.proofs.Fair.{Left, Fair, Under, exact_below, exact_itself}
 use Rattle.comp_joins.specs.Laws.{in_a_step}
 
 -- ---- what comes out alike is the same

@@ -7,9 +7,9 @@ use Rattle.host_port.specs.declared.call.Resource.{Resource}
 use Rattle.comp_grammar.specs.Trees.{Tree}
 use Rattle.comp_worlds.specs.Groups.{Import, Target, Mine, Theirs, type_of, Func, LoweredFunc, ResourceNew, ResourceDrop, ResourceRep, Owner, Begins, Group}
 use Rattle.comp_worlds.specs.Calls.{owned_by, owns}
-use Rattle.comp_parts.specs.Parts.{target_to, func_to, owner_to, stages_to, IsImportOf, DropsSome, Joins}
+use Rattle.comp_worlds.specs.Parts.{target_to, func_to, owner_to, stages_to, IsImportOf, DropsSome, Joins}
 use Rattle.comp_link.specs.Linking.{Placed, Owned, canon_in, owner_in, linked, group_of}
-use Rattle.comp_renames.specs.Renaming.{target_with, canon_with}
+use Rattle.comp_inside.specs.Renaming.{target_with, canon_with}
 use Rattle.comp_inside.specs.Linked.{target_in, canon_in as canon_at, placed_in, owned_in}
 use Rattle.comp_joins.specs.Joining.{Joint, joining, or_else, or_nowhere, Meets, IsKnown, known_by, behind_own, Fits, owned_with, over_host, Agree}
 use Rattle.comp_joins.specs.Laws.{in_a_step}

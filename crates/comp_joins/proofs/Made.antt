@@ -7,10 +7,10 @@ use Rattle.comp_types.specs.Items.{Item, Entries, FuncItem, InstanceItem, KindIt
 use Rattle.comp_types.specs.Substitution.{value_with, parts_with, answer_with, func_with, item_with, entries_with}
 use Rattle.comp_grammar.specs.Trees.{Tree}
 use Rattle.comp_worlds.specs.Groups.{Import, Lifting, Target, Mine, Theirs, Stage, Begins}
-use Rattle.comp_parts.specs.Parts.{target_to}
+use Rattle.comp_worlds.specs.Parts.{target_to}
 use Rattle.comp_link.specs.Plans.{no_scope, plan_of}
 use Rattle.comp_link.specs.Linking.{Given, Givens, GivenFunc, GivenInstance, Nothing, Giving, Placed, Owned, Whole, Making, begun, and_stage, link, all_outside, outside, target_in as target_of, exported, linked, group_of}
-use Rattle.comp_renames.specs.Renaming.{lifting_with, import_with, target_with}
+use Rattle.comp_inside.specs.Renaming.{lifting_with, import_with, target_with}
 use Rattle.comp_inside.specs.Linked.{Standing, target_in, given_in, givens_in, whole_in, making_in, unmade}
 use Rattle.comp_inside.specs.Later.{plan_later}
 use Rattle.comp_inside.proofs.Made.{more_made}

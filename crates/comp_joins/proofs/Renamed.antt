@@ -4,9 +4,9 @@ use Rattle.std.specs.Option.{option_map}
 use Rattle.std.proofs.lemmas.Bool.{eqb-true, eqb-false}
 use Rattle.comp_grammar.specs.Trees.{Tree}
 use Rattle.comp_worlds.specs.Groups.{Import, Target, Mine, Theirs, Func, LoweredFunc, ResourceNew, ResourceDrop, ResourceRep, Owner, Group}
-use Rattle.comp_parts.specs.Parts.{IsImportOf, DropsSome}
+use Rattle.comp_worlds.specs.Parts.{IsImportOf, DropsSome}
 use Rattle.comp_link.specs.Linking.{Owned, Known, all_known, known_in, owner_in, linked, group_of}
-use Rattle.comp_renames.specs.Renaming.{import_with, target_with, canon_with, Renames}
+use Rattle.comp_inside.specs.Renaming.{import_with, target_with, canon_with, Renames}
 use Rattle.comp_joins.specs.Joining.{imports_of, owned_with}
 use Rattle.comp_joins.specs.Laws.{in_a_step}
 use Rattle.comp_joins.proofs.Lists.{alike}

@@ -7,9 +7,9 @@ use Rattle.comp_worlds.specs.Groups.{Nesting, Endless, Group}
 use Rattle.comp_worlds.specs.Observed.{Call, seen, SameObservations}
 use Rattle.comp_worlds.proofs.Growing.{extends_seen}
 use Rattle.comp_link.specs.Linking.{group_of}
-use Rattle.comp_parts.specs.Parts.{Joins, SameAsParts}
-use Rattle.comp_parts.proofs.Whole.{same_as_parts}
-use Rattle.comp_renames.proofs.Renamed.{over_groups}
+use Rattle.comp_worlds.specs.Parts.{Joins, SameAsParts}
+use Rattle.comp_worlds.proofs.Whole.{same_as_parts}
+use Rattle.comp_inside.proofs.Renamed.{over_groups}
 use Rattle.comp_joins.specs.Joining.{Joint, joining, over_host, itself}
 use Rattle.comp_joins.specs.Laws.{in_a_step, TwoStepsMore, SeenJoined, JoinedDoSame, PluggedDoSame}
 use Rattle.comp_joins.proofs.Renamed.{renamed, renames}

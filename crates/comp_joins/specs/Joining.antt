@@ -12,10 +12,10 @@ use Rattle.comp_types.specs.Spaces.{Space}
 use Rattle.comp_types.specs.Added.{entered, after_part, after_tree, root}
 use Rattle.comp_types.specs.Substitution.{func_with, entries_with}
 use Rattle.comp_worlds.specs.Groups.{Import, Target, Theirs, type_of, Begins, Group}
-use Rattle.comp_parts.specs.Parts.{IsImportOf}
+use Rattle.comp_worlds.specs.Parts.{IsImportOf}
 use Rattle.comp_link.specs.Plans.{Plan, Planned, End, Then, OfItems, ItemOf, Imports, Exports, OfModule, OfCoreItems, CoreItemOf, OfComponent, NewResource, Lifts, Lowers, MakesResource, DropsResource, ReadsResource, Scope, no_scope, and_plan, named_args, own_numbers, plan_part, plan_tree, plan_of}
 use Rattle.comp_link.specs.Linking.{Given, Givens, GivenFunc, GivenInstance, GivenResource, GivenType, Nothing, Giving, Known, Making, begun, and_stage, givens_of, with_component, link, all_outside, all_known, behind_known, Owned, owner_in, target_in, resource_of, exported, linked, group_of}
-use Rattle.comp_renames.specs.Renaming.{target_with, canon_with}
+use Rattle.comp_inside.specs.Renaming.{target_with, canon_with}
 use Rattle.comp_inside.specs.Later.{StaysWhole}
 use Rattle.comp_inside.specs.Linked.{PlanKnows, unmade}
 use Rattle.comp_joins.specs.Alike.{Alike, IsAmong, PlanFinds, IsThere}

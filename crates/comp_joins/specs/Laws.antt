@@ -5,7 +5,7 @@ use Rattle.comp_grammar.specs.Trees.{Tree}
 use Rattle.comp_worlds.specs.Acts.{Extends}
 use Rattle.comp_worlds.specs.Groups.{Nesting, Begins, Group}
 use Rattle.comp_worlds.specs.Observed.{Call, runs_calls, seen, SameObservations}
-use Rattle.comp_parts.specs.Parts.{SameAsParts}
+use Rattle.comp_worlds.specs.Parts.{SameAsParts}
 use Rattle.comp_link.specs.Linking.{group_of}
 use Rattle.comp_link.specs.Components.{component_seen}
 use Rattle.comp_joins.specs.Joining.{Joint, joining, Fits, over_host, Agree, itself, Closed}

@@ -1,4 +1,11 @@
+pub mod Made
+pub mod Known
 pub mod Alike
 pub mod Joining
 pub mod Laws
 pub mod Holding
+pub mod Growing
+pub mod Settled
+pub mod SettledLaws
+pub mod Numbers
+pub mod Handing

@@ -1,1 +1,2 @@
+pub mod CanonsCanonLemmas
 pub mod CanonLemmas

@@ -1,6 +1,6 @@
 ghost use Rattle.std.specs.Prelude.{ℕ};
 
-use comp_canons::CoreFuncs;
+use crate::CoreFuncs;
 use comp_scopes::CoreScope;
 use wasm_ast::CoreFunc;
 

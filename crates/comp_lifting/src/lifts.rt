@@ -10,9 +10,8 @@ ghost use Rattle.comp_scopes.specs.Judged.{Judged};
 ghost use Rattle.comp_scopes.specs.Stands.{Stands};
 
 use crate::core_funcs::CoreOf;
-use comp_canons::{is_lifted_from, lift_options};
-use comp_functions::{facts_at, func_at, is_func_at};
-use comp_scopes::Scope;
+use crate::{is_lifted_from, lift_options};
+use comp_scopes::{Scope, facts_at, func_at, is_func_at};
 use comp_types::TypeItem;
 use std::alloc::Global;
 use virt_base::NoMemory;

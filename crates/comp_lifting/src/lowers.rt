@@ -10,9 +10,8 @@ ghost use Rattle.comp_scopes.specs.Stands.{Stands};
 
 use crate::core_funcs::CoreOf;
 use crate::core_types::{add_core_func, lowered_type};
-use comp_canons::lower_options;
-use comp_functions::facts_of_none;
-use comp_scopes::Scope;
+use crate::lower_options;
+use comp_scopes::{Scope, facts_of_none};
 use std::alloc::Global;
 use virt_base::NoMemory;
 use wasm_ast::{CanonOption, CoreFunc};

@@ -2,3 +2,5 @@ pub mod Plans
 pub mod Linking
 pub mod Components
 pub mod Laws
+pub mod Planned
+pub mod Groups

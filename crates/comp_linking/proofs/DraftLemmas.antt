@@ -5,8 +5,8 @@ use Rattle.wasm_ast.specs.Boxed.{Held}
 use Rattle.wasm_ast.specs.declared.module.Module.{Module}
 use Rattle.comp_types.specs.Spaces.{NestedComponent}
 use Rattle.comp_link.specs.Plans.{Plan, Scope, followed}
-use Rattle.comp_plans.specs.declared.items.PlanItem.{PlanItem}
-use Rattle.comp_plans.specs.Planned.{PlannedComponent, plan_items}
+use Rattle.comp_link.specs.declared.items.PlanItem.{PlanItem}
+use Rattle.comp_link.specs.Planned.{PlannedComponent, plan_items}
 use Rattle.comp_drafts.specs.declared.draft.Draft.{Draft}
 use Rattle.comp_drafts.specs.Drafts.{some_item, module_at, NamesComponents, IsDraft}
 use Rattle.comp_linking.specs.Walks.{At, AreDrafts}

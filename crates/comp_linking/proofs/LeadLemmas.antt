@@ -4,7 +4,7 @@ use Rattle.comp_grammar.specs.Trees.{Part, Tree, CoreModule, Nested, CoreInstanc
 use Rattle.comp_types.specs.Definitions.{Definition, definitions}
 use Rattle.comp_types.specs.Added.{after_all, after_part, after_tree, and_nested}
 use Rattle.comp_link.specs.Plans.{and_plan, followed, plan_all, plan_part, plan_tree, plan_of, planned_by}
-use Rattle.comp_plans.proofs.Earlier.{followed-end, followed-assoc}
+use Rattle.comp_link.proofs.Earlier.{followed-end, followed-assoc}
 use Rattle.comp_linking.specs.Walks.{At, spaces, scopes, at_after, at_all, at_entered, at_part, at_tree, at_root}
 
 -- ---- definitions

@@ -10,11 +10,11 @@ use Rattle.comp_types.specs.Validity.{IsValidComponent}
 use Rattle.comp_worlds.specs.Groups.{Group}
 use Rattle.comp_link.specs.Linking.{Making, begun, link, all_known, behind_known, all_outside, known_in, canon_in, owner_in, target_in, resource_of, exported, group_of}
 use Rattle.comp_link.specs.Plans.{Plan, plan_of}
-use Rattle.comp_plans.specs.declared.items.PlanItem.{PlanItem}
-use Rattle.comp_plans.specs.declared.linked.ComponentPlan.{ComponentPlan}
-use Rattle.comp_plans.specs.declared.linked.Linked.{Linked}
-use Rattle.comp_plans.specs.Planned.{plan_in, plan_items}
-use Rattle.comp_plans.specs.Groups.{linked_group}
+use Rattle.comp_link.specs.declared.items.PlanItem.{PlanItem}
+use Rattle.comp_link.specs.declared.linked.ComponentPlan.{ComponentPlan}
+use Rattle.comp_link.specs.declared.linked.Linked.{Linked}
+use Rattle.comp_link.specs.Planned.{plan_in, plan_items}
+use Rattle.comp_link.specs.Groups.{linked_group}
 use Rattle.comp_drafts.specs.Modules.{modules_in}
 use Rattle.comp_linking.specs.declared.planner.Planner.{Planner}
 use Rattle.comp_linking.specs.Walks.{Walks, at_root, at_tree, made}

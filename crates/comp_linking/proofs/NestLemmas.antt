@@ -6,11 +6,11 @@ use Rattle.wasm_ast.specs.Boxed.{Held}
 use Rattle.wasm_ast.specs.declared.module.Module.{Module}
 use Rattle.comp_types.specs.Spaces.{Space, NestedComponent}
 use Rattle.comp_types.specs.Added.{nested_of}
-use Rattle.comp_around.proofs.AroundLemmas.{rev_push}
+use Rattle.comp_outer.proofs.AroundLemmas.{rev_push}
 use Rattle.comp_link.specs.Plans.{Plan, End, no_scope, and_plan}
-use Rattle.comp_plans.specs.declared.linked.ComponentPlan.{ComponentPlan}
-use Rattle.comp_plans.specs.Planned.{PlannedComponent, plan_items, planned_component, and_components}
-use Rattle.comp_plans.proofs.Earlier.{components_more}
+use Rattle.comp_link.specs.declared.linked.ComponentPlan.{ComponentPlan}
+use Rattle.comp_link.specs.Planned.{PlannedComponent, plan_items, planned_component, and_components}
+use Rattle.comp_link.proofs.Earlier.{components_more}
 use Rattle.comp_drafts.specs.declared.draft.Draft.{Draft}
 use Rattle.comp_drafts.specs.Drafts.{module_at, plan_at, own_at, IsDraft}
 use Rattle.comp_linking.specs.Walks.{At, AreDrafts, made}

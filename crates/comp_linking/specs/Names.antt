@@ -5,7 +5,7 @@ use Rattle.wasm_ast.specs.Boxed.{Held}
 use Rattle.wasm_ast.specs.declared.module.Module.{Module}
 use Rattle.comp_types.specs.Spaces.{Space, NestedComponent}
 use Rattle.comp_link.specs.Plans.{Plan, Scope}
-use Rattle.comp_plans.specs.Planned.{PlannedComponent}
+use Rattle.comp_link.specs.Planned.{PlannedComponent}
 use Rattle.comp_drafts.specs.declared.draft.Draft.{Draft}
 use Rattle.comp_drafts.specs.Drafts.{IsDraft, module_at, plan_at, own_at}
 use Rattle.comp_linking.specs.declared.planner.Planner.{Planner}

@@ -10,7 +10,7 @@ use comp_drafts::{core_instance_item, export_item, import_item, instance_item};
 use comp_externs::{define_export, define_import};
 use comp_instances::{define_export_alias, define_instance};
 use comp_lifting::define_canon;
-use comp_plans::PlanItem;
+use comp_link::PlanItem;
 use comp_scopes::{define_core_alias, define_core_instance};
 use std::alloc::Global;
 use virt_base::{NoMemory, Text};

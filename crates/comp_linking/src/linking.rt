@@ -2,15 +2,15 @@ ghost use Rattle.std.specs.Prelude.{◌≡◌, [], IfOk};
 ghost use Rattle.comp_grammar.specs.Trees.{plain};
 ghost use Rattle.comp_link.specs.Linking.{group_of};
 ghost use Rattle.comp_link.specs.Plans.{plan_of};
-ghost use Rattle.comp_plans.specs.Groups.{linked_group};
-ghost use Rattle.comp_plans.specs.Planned.{plan_in};
+ghost use Rattle.comp_link.specs.Groups.{linked_group};
+ghost use Rattle.comp_link.specs.Planned.{plan_in};
 ghost use Rattle.comp_types.specs.Added.{after_tree, root};
 ghost use Rattle.comp_types.specs.Validity.{IsValidComponent};
 
 use crate::planner::Planner;
 use crate::sections::plan_sections;
 use comp_drafts::take_modules;
-use comp_plans::Linked;
+use comp_link::Linked;
 use std::alloc::Global;
 use virt_base::{Items, NoMemory};
 use wasm_ast::Component;

@@ -9,7 +9,7 @@ ghost use Rattle.comp_linking.specs.Walks.{At, Leaves, Walks, at_entered, at_nes
 use crate::planner::Planner;
 use comp_drafts::Draft;
 use comp_externs::own_resources;
-use comp_plans::ComponentPlan;
+use comp_link::ComponentPlan;
 use comp_validate::{close_nested, define_module};
 use std::alloc::Global;
 use std::mem;

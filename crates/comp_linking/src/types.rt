@@ -4,14 +4,14 @@ ghost use Rattle.wasm_ast.specs.declared.module.Module.{Module};
 ghost use Rattle.comp_drafts.specs.Drafts.{some_item};
 ghost use Rattle.comp_linking.specs.Firsts.{PlansFirst, declared_by, destructor_in, of_item, taken};
 ghost use Rattle.comp_linking.specs.Goes.{PlansAll};
-ghost use Rattle.comp_plans.specs.Planned.{PlannedComponent};
+ghost use Rattle.comp_link.specs.Planned.{PlannedComponent};
 ghost use Rattle.comp_types.specs.Declarations.{grouped};
 ghost use Rattle.comp_types.specs.Definitions.{types_in};
 ghost use Rattle.comp_types.specs.Spaces.{Space};
 ghost use Rattle.comp_scopes.specs.Stands.{Stands};
 
 use crate::planner::Planner;
-use comp_plans::PlanItem;
+use comp_link::PlanItem;
 use comp_scopes::Scope;
 use comp_validate::define_types;
 use std::alloc::Global;

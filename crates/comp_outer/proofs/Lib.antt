@@ -1,1 +1,3 @@
+pub mod AroundLemmas
+pub mod Inner
 pub mod OuterLemmas

@@ -17,8 +17,8 @@ use Rattle.comp_types.specs.Rules.{if_there, lengths_of, outer_stands, outer_sta
 use Rattle.comp_types.specs.Faults.{first_failing, fault}
 use Rattle.comp_types.proofs.FaultLaws.{all_hold, least_fails}
 use Rattle.comp_scopes.specs.Found.{EachSome}
-use Rattle.comp_around.specs.declared.scopes.Scopes.{Scopes}
-use Rattle.comp_around.specs.Judged.{JudgedIn}
+use Rattle.comp_outer.specs.declared.scopes.Scopes.{Scopes}
+use Rattle.comp_outer.specs.Judged.{JudgedIn}
 use Rattle.comp_outer.specs.Outer.{IsOuter}
 
 -- ---- rules 3 and 8

@@ -1,1 +1,3 @@
+pub mod Around
+pub mod Judged
 pub mod Outer

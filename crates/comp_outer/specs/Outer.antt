@@ -6,8 +6,8 @@ use Rattle.comp_types.specs.Spaces.{Space}
 use Rattle.comp_types.specs.Definitions.{AnAlias}
 use Rattle.comp_types.specs.Added.{and_outer}
 use Rattle.comp_types.specs.Faults.{fault}
-use Rattle.comp_around.specs.declared.scopes.Scopes.{Scopes}
-use Rattle.comp_around.specs.Around.{StandAll}
+use Rattle.comp_outer.specs.declared.scopes.Scopes.{Scopes}
+use Rattle.comp_outer.specs.Around.{StandAll}
 
 abbrev pub IsOuter : List Space → Space → OuterSort → ℕ → ℕ → Scopes → Option ℕ → Type 0
 IsOuter around s sort count index x None = (fault around s (AnAlias (Outer sort count index)) ≡ None) × StandAll around (and_outer s sort (slice_get (s ∷ around) count) index) x

@@ -4,12 +4,12 @@ ghost use Rattle.wasm_ast.specs.declared.component.TypeAlias.TheVariants.{Outer 
 ghost use Rattle.comp_types.specs.Declarations.{ATypeAlias};
 ghost use Rattle.comp_types.specs.Definitions.{AType, AnAlias};
 ghost use Rattle.comp_types.specs.Spaces.{Space};
-ghost use Rattle.comp_around.specs.Around.{StandAll};
-ghost use Rattle.comp_around.specs.Judged.{JudgedIn};
+ghost use Rattle.comp_outer.specs.Around.{StandAll};
+ghost use Rattle.comp_outer.specs.Judged.{JudgedIn};
 ghost use Rattle.comp_outer.specs.Outer.{IsOuter};
 
+use crate::Scopes;
 use crate::outer::{outer_component, outer_module, outer_type};
-use comp_around::Scopes;
 use std::alloc::Global;
 use virt_base::NoMemory;
 use wasm_ast::OuterSort;

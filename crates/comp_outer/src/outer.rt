@@ -8,10 +8,10 @@ ghost use Rattle.comp_types.specs.Faults.{fault};
 ghost use Rattle.comp_types.specs.Spaces.{Space};
 ghost use Rattle.comp_scopes.specs.Found.{EachSome, IsKnownModule};
 ghost use Rattle.comp_scopes.specs.Stands.{IsEntry, IsNested};
-ghost use Rattle.comp_around.specs.Around.{StandAll};
+ghost use Rattle.comp_outer.specs.Around.{StandAll};
 ghost use Rattle.comp_outer.specs.Outer.{IsOuter};
 
-use comp_around::Scopes;
+use crate::Scopes;
 use comp_resources::names_none;
 use comp_scopes::{KnownComponent, KnownEntry, KnownModule, Shared};
 use std::alloc::Global;

@@ -11,7 +11,7 @@ use Rattle.comp_facts.specs.Needs.{is_pointed, is_pointed_in, is_pointed_answer,
 use Rattle.comp_types.specs.Substitution.{value_with, parts_with, answer_with, func_with}
 use Rattle.comp_types.specs.Flat.{lifted_type, lowered_type}
 use Rattle.comp_types.specs.Rules.{post_return_type}
-use Rattle.comp_renames.proofs.Types.{flat_with}
+use Rattle.comp_inside.proofs.Types.{flat_with}
 use Rattle.comp_exports.specs.Exports.{no_number, nameless, passing}
 
 abbrev params_of : List CoreType → List CoreType

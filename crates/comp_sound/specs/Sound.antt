@@ -9,8 +9,8 @@ use Rattle.comp_types.specs.Validity.{IsValidComponent}
 use Rattle.comp_worlds.specs.Groups.{Target, type_of, Begins}
 use Rattle.comp_link.specs.Plans.{NamedArg, Plan, Planned, End, Then, OfModule, OfCoreItems, CoreItemOf, OfComponent, OfItems, ItemOf, NewResource, Lifts, Lowers, MakesResource, DropsResource, ReadsResource, Imports, Exports, plan_of}
 use Rattle.comp_link.specs.Linking.{find, Making, begun, and_stage, core_find, place_at, externs_for, given_at, givens_of, item_in, options_in, lifting_of, link_item, all_known, behind_known, all_outside}
-use Rattle.comp_plans.specs.declared.linked.Linked.{Linked}
-use Rattle.comp_plans.specs.Planned.{plan_in}
+use Rattle.comp_link.specs.declared.linked.Linked.{Linked}
+use Rattle.comp_link.specs.Planned.{plan_in}
 use Rattle.comp_exports.specs.Sections.{DefinesTypes}
 use Rattle.comp_sound.specs.Counts.{CountsHold}
 use Rattle.comp_sound.specs.Fits.{HasCodeIfAny, LiftingFits, LoweringFits, ModuleFits}

@@ -13,3 +13,7 @@ pub mod Answered
 pub mod Calling
 pub mod Meets
 pub mod Outside
+pub mod Exact
+pub mod Embedding
+pub mod Fair
+pub mod Whole

@@ -7,3 +7,4 @@ pub mod Hosts
 pub mod Observed
 pub mod Laws
 pub mod Related
+pub mod Parts

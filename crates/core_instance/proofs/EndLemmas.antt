@@ -6,8 +6,8 @@ use Rattle.wasm_ast.specs.declared.instr.Instr.TheVariants as code
 use Rattle.core_body.specs.declared.operand.Operand.{Operand}
 use Rattle.core_body.specs.Context.{Context}
 use Rattle.core_body.specs.Typing.{Trees, Leaf, Block, Loop, If, IfElse, Nil, Cons, spell, Labels, Types, Typed, IsValidBody}
-use Rattle.core_code.specs.declared.brackets.Shape.TheVariants.{Opener, Middle, Closer, Inner}
-use Rattle.core_code.specs.Brackets.{opened, ends_of}
+use Rattle.core_store.specs.declared.brackets.Shape.TheVariants.{Opener, Middle, Closer, Inner}
+use Rattle.core_store.specs.Brackets.{opened, ends_of}
 
 -- an instruction that has a type is no bracket
 leaf_ends : (c : Context) (labels : Labels) (i : Instr) (ps rs : List Operand) (rest : List Instr) (ends : List Bool) → Types c labels i ps rs → ends_of rest ≡ Some ends → ends_of (i ∷ rest) ≡ Some ends

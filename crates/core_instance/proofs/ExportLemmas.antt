@@ -34,7 +34,7 @@ use Rattle.core_store.specs.Eval.{type_of as type_of_function}
 use Rattle.core_store.specs.Fine.{Place}
 use Rattle.core_store.specs.Scene.{Scene, Grows, CameBack, scene_of}
 use Rattle.core_store.proofs.Growing.{get_within}
-use Rattle.core_sound.specs.Sound.{Callee, Suits}
+use Rattle.core_instance.specs.Sound.{Callee, Suits}
 use Rattle.core_instance.specs.declared.constants.Names.{Names}
 use Rattle.core_instance.specs.declared.external.CoreInstance.{CoreInstance}
 use Rattle.core_instance.specs.declared.external.Extern.{Extern}

@@ -10,7 +10,7 @@ use Rattle.wasm_ast.specs.declared.module.Module.{Module}
 use Rattle.wasm_ast.specs.declared.module.TableType.{TableType}
 use Rattle.core_body.specs.Locals.{spread}
 use Rattle.core_body.specs.Views.{in_body}
-use Rattle.core_code.specs.Tree.{tree}
+use Rattle.core_store.specs.Tree.{tree}
 use Rattle.core_memory.specs.Linear.{fresh}
 use Rattle.core_memory.specs.declared.fault.StoreFault.{StoreFault}
 use Rattle.core_memory.specs.declared.fault.StoreFault.TheVariants as faults
@@ -26,7 +26,7 @@ use Rattle.core_store.specs.Eval.{function_type}
 use Rattle.core_store.specs.Scene.{Scene, Grows, scene_of, instance_of}
 use Rattle.core_store.specs.Fine.{Frame, frame_at, Fine, FineFunction, IsFine}
 use Rattle.core_store.proofs.Growing.{get_within, fine_store}
-use Rattle.core_sound.proofs.FineLemmas.{body_fine}
+use Rattle.core_instance.proofs.SoundFineLemmas.{body_fine}
 use Rattle.core_instance.specs.declared.external.CoreInstance.{CoreInstance}
 use Rattle.core_instance.specs.declared.external.Extern.{Extern}
 use Rattle.core_instance.specs.Spaces.{IsThere}

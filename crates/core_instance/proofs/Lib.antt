@@ -1,3 +1,7 @@
+mod TreeLemmas
+mod NeedLemmas
+mod ShapeLemmas
+pub mod SoundFineLemmas
 pub mod EndLemmas
 pub mod RangeLemmas
 pub mod ValidLemmas

@@ -22,7 +22,7 @@ use Rattle.core_store.specs.Eval.{type_of}
 use Rattle.core_store.specs.Scene.{Scene, scene_of}
 use Rattle.core_store.specs.Fine.{Place}
 use Rattle.core_store.proofs.Growing.{get_more, get_within}
-use Rattle.core_sound.specs.Sound.{Callee, Suits}
+use Rattle.core_instance.specs.Sound.{Callee, Suits}
 use Rattle.core_instance.specs.declared.external.Extern.{Extern}
 use Rattle.core_instance.specs.Spaces.{functions_of, tables_of, memories_of, globals_of, places_of, IsThere}
 use Rattle.core_instance.specs.Constants.{constant, refs_of}

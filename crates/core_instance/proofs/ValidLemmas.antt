@@ -17,7 +17,7 @@ use Rattle.core_validate.specs.Gather.{with_earlier}
 use Rattle.core_validate.specs.Items.{Item, ABody, AFunction, ATable, AGlobal, DataSegment, AStart, Segment, body_type, first_items, later_items, import_items, memory_items, export_items, body_items, plain_items}
 use Rattle.core_validate.specs.Spaces.{context}
 use Rattle.core_validate.specs.Validity.{AreMet, Holds, AllHold, IsValidModule}
-use Rattle.core_sound.specs.Sound.{AllMet}
+use Rattle.core_instance.specs.Sound.{AllMet}
 use Rattle.core_instance.specs.Instantiation.{IsClosed}
 use Rattle.core_instance.proofs.EndLemmas.{valid_ends}
 

@@ -9,7 +9,7 @@ use Rattle.wasm_ast.specs.declared.module.Data.TheVariants as data_of
 use Rattle.wasm_ast.specs.declared.module.Elements.{Elements}
 use Rattle.wasm_ast.specs.declared.module.Elements.TheVariants as elements
 use Rattle.core_body.specs.Locals.{spread}
-use Rattle.core_code.specs.Brackets.{ends_of}
+use Rattle.core_store.specs.Brackets.{ends_of}
 use Rattle.core_memory.specs.Linear.{fresh, written}
 use Rattle.core_memory.specs.Replaced.{replaced}
 use Rattle.virt_base.specs.declared.fault.Trap.{Trap as TrapType}

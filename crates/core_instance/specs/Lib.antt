@@ -1,3 +1,4 @@
+pub mod Sound
 pub mod Spaces
 pub mod Constants
 pub mod Instantiation

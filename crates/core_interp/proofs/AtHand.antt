@@ -6,8 +6,8 @@ use Rattle.wasm_ast.specs.declared.instr.BranchTable.{BranchTable}
 use Rattle.wasm_ast.specs.declared.instr.Op.{Op}
 use Rattle.wasm_ast.specs.declared.instr.Instr.{Instr}
 use Rattle.wasm_ast.specs.declared.instr.Instr.TheVariants.{BrTable}
-use Rattle.core_code.specs.declared.brackets.Jump.{Jump}
-use Rattle.core_code.specs.Jumps.{JumpsFrom}
+use Rattle.core_store.specs.declared.brackets.Jump.{Jump}
+use Rattle.core_store.specs.Jumps.{JumpsFrom}
 use Rattle.core_store.specs.declared.value.CoreSpaces.{CoreSpaces}
 use Rattle.core_store.specs.State.{State}
 use Rattle.core_store.specs.Scene.{scene_of}

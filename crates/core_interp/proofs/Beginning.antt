@@ -5,7 +5,7 @@ use Rattle.std.proofs.lemmas.List.{drop_all, length-drop, length-reverse, length
 use Rattle.virt_base.specs.declared.core_type.CoreType.{CoreType}
 use Rattle.wasm_ast.specs.declared.module.CoreFunc.{CoreFunc}
 use Rattle.wasm_ast.specs.declared.instr.Instr.{Instr}
-use Rattle.core_code.specs.Tree.{tree, parts}
+use Rattle.core_store.specs.Tree.{tree, parts}
 use Rattle.core_store.specs.declared.value.CoreValue.{CoreValue}
 use Rattle.core_store.specs.declared.value.StoreFunc.{StoreFunc}
 use Rattle.core_store.specs.declared.value.StoreFunc.TheVariants.{Inside, Outside}

@@ -8,7 +8,7 @@ use Rattle.virt_base.specs.declared.core_type.CoreType.{CoreType}
 use Rattle.wasm_ast.specs.declared.module.CoreFunc.{CoreFunc}
 use Rattle.wasm_ast.specs.declared.instr.Instr.{Instr}
 use Rattle.wasm_ast.specs.declared.instr.Instr.TheVariants.{Call, CallIndirect}
-use Rattle.core_code.specs.Tree.{Part, first, placed, parts, tree}
+use Rattle.core_store.specs.Tree.{Part, first, placed, parts, tree}
 use Rattle.core_store.specs.declared.value.CoreRef.{CoreRef}
 use Rattle.core_store.specs.declared.value.CoreRef.TheVariants.{Func}
 use Rattle.core_store.specs.declared.value.CoreSpaces.{CoreSpaces}

@@ -6,9 +6,9 @@ use Rattle.std.proofs.lemmas.List.{reverse-append, take-append-drop, drop_at, le
 use Rattle.wasm_ast.specs.declared.instr.BlockType.{BlockType}
 use Rattle.wasm_ast.specs.declared.instr.Instr.{Instr}
 use Rattle.wasm_ast.specs.declared.instr.Instr.TheVariants.{Block, Loop, If}
-use Rattle.core_code.specs.declared.brackets.Jump.{Jump}
-use Rattle.core_code.specs.Jumps.{JumpsFrom}
-use Rattle.core_code.specs.Tree.{Stop, Part, first, later, placed, parts}
+use Rattle.core_store.specs.declared.brackets.Jump.{Jump}
+use Rattle.core_store.specs.Jumps.{JumpsFrom}
+use Rattle.core_store.specs.Tree.{Stop, Part, first, later, placed, parts}
 use Rattle.core_store.specs.declared.value.CoreSpaces.{CoreSpaces}
 use Rattle.core_store.specs.State.{State}
 use Rattle.core_store.specs.Words.{i32_in}

@@ -3,7 +3,7 @@ use Rattle.std.proofs.Common.{◌≡◌, ℕ, zero, suc, ◌+◌, ◌-◌, ◌<�
 use Rattle.std.specs.Prelude.{slice_get}
 use Rattle.std.proofs.lemmas.List.{length-take-le}
 use Rattle.wasm_ast.specs.declared.instr.Instr.{Instr}
-use Rattle.core_code.specs.Tree.{Seq, Stop, Part, first, later, parts}
+use Rattle.core_store.specs.Tree.{Seq, Stop, Part, first, later, parts}
 use Rattle.core_store.specs.declared.value.CoreSpaces.{CoreSpaces}
 use Rattle.core_store.specs.State.{State}
 use Rattle.core_store.specs.Config.{Reply, Next, Break, Back, kept}

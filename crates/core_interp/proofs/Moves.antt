@@ -5,7 +5,7 @@ use Rattle.std.proofs.lemmas.List.{drop_more}
 use Rattle.std.proofs.lemmas.Option.{slice_get_within, get_or_from_slice_get}
 use Rattle.wasm_ast.specs.declared.instr.BlockType.{BlockType}
 use Rattle.wasm_ast.specs.declared.instr.Instr.{Instr}
-use Rattle.core_code.specs.Tree.{Seq, Then, InLoop, Part, first, later, onto, placed, parts}
+use Rattle.core_store.specs.Tree.{Seq, Then, InLoop, Part, first, later, onto, placed, parts}
 use Rattle.core_store.specs.declared.value.CoreSpaces.{CoreSpaces}
 use Rattle.core_store.specs.State.{State}
 use Rattle.core_store.specs.Config.{Reply, Config, Outcome, Trapped, Out, Next, Break, Back, Over, then_do, with_stack, kept}

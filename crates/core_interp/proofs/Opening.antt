@@ -3,7 +3,7 @@ use Rattle.std.proofs.Common.{◌≡◌, ℕ, zero, suc, ◌+◌, ◌-◌, ◌�
 use Rattle.wasm_ast.specs.declared.instr.BlockType.{BlockType}
 use Rattle.wasm_ast.specs.declared.instr.Instr.{Instr}
 use Rattle.wasm_ast.specs.declared.instr.Instr.TheVariants.{Block, Loop, If}
-use Rattle.core_code.specs.Tree.{Seq, Stop, Part, first, later, placed, parts}
+use Rattle.core_store.specs.Tree.{Seq, Stop, Part, first, later, placed, parts}
 use Rattle.core_store.specs.declared.value.CoreSpaces.{CoreSpaces}
 use Rattle.core_store.specs.State.{State}
 use Rattle.core_store.specs.Words.{i32_in}

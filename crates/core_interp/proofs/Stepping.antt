@@ -10,9 +10,9 @@ use Rattle.wasm_ast.specs.Boxed.{Held}
 use Rattle.wasm_ast.specs.declared.instr.Op.{Op}
 use Rattle.wasm_ast.specs.declared.instr.Instr.{Instr}
 use Rattle.wasm_ast.specs.declared.instr.Instr.TheVariants.{Plain, I64Const, SelectTyped, Unreachable, Block, Loop, If, Else, End, Br, BrIf, BrTable, Return, Call, CallIndirect}
-use Rattle.core_code.specs.declared.brackets.Jump.{Jump}
-use Rattle.core_code.specs.Jumps.{JumpsFrom}
-use Rattle.core_code.specs.Tree.{Stop, Then, Part, first, later, onto, placed, parts}
+use Rattle.core_store.specs.declared.brackets.Jump.{Jump}
+use Rattle.core_store.specs.Jumps.{JumpsFrom}
+use Rattle.core_store.specs.Tree.{Stop, Then, Part, first, later, onto, placed, parts}
 use Rattle.core_store.specs.State.{State}
 use Rattle.core_store.specs.Words.{i32_in}
 use Rattle.core_store.specs.Config.{Reply, Config, Out, Next, Break, Back, Over, Trapped, Spent, then_do}

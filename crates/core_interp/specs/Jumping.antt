@@ -1,7 +1,7 @@
 -- A branch, and a return.
 use Rattle.std.specs.Prelude.{ℕ, ◌≡◌, ◌+◌, ◌-◌, ◌≤◌, List, [], ◌∷◌, Some, length, slice_get}
 use Rattle.wasm_ast.specs.declared.instr.Instr.{Instr}
-use Rattle.core_code.specs.Tree.{Part, first}
+use Rattle.core_store.specs.Tree.{Part, first}
 use Rattle.core_store.specs.declared.value.CoreSpaces.{CoreSpaces}
 use Rattle.core_store.specs.State.{State}
 use Rattle.core_store.specs.Config.{Reply, Out, Break, Back, then_do}

@@ -1,7 +1,7 @@
 -- What is left of a run, from a place in the flat code.
 use Rattle.std.specs.Prelude.{ℕ, zero, suc, List, [], ◌∷◌, drop}
 use Rattle.wasm_ast.specs.declared.instr.Instr.{Instr}
-use Rattle.core_code.specs.Tree.{Seq, Part, first, later, parts}
+use Rattle.core_store.specs.Tree.{Seq, Part, first, later, parts}
 use Rattle.core_store.specs.declared.value.CoreSpaces.{CoreSpaces}
 use Rattle.core_store.specs.State.{State}
 use Rattle.core_store.specs.Config.{Reply, Config, Trapped, Out, Next, Break, Back, Over, then_do, with_stack, kept, bare}

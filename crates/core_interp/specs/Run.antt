@@ -7,7 +7,7 @@ use Rattle.wasm_ast.specs.declared.instr.Op.{Op}
 use Rattle.wasm_ast.specs.declared.instr.Op.TheVariants.{Select}
 use Rattle.wasm_ast.specs.declared.instr.BranchTable.{BranchTable}
 use Rattle.wasm_ast.specs.Boxed.{Held}
-use Rattle.core_code.specs.Tree.{Part, parts}
+use Rattle.core_store.specs.Tree.{Part, parts}
 use Rattle.core_store.specs.declared.value.CoreValue.{CoreValue}
 use Rattle.core_store.specs.declared.value.StoreFunc.TheVariants.{Outside}
 use Rattle.core_store.specs.State.{State}

@@ -1,7 +1,7 @@
 -- What is in progress: what is left behind each block, loop and call has its operands too.
 use Rattle.std.specs.Prelude.{ℕ, ◌≡◌, ◌+◌, ◌-◌, ◌≤◌, List, [], ◌∷◌, drop, length, slice_get}
 use Rattle.wasm_ast.specs.declared.instr.Instr.{Instr}
-use Rattle.core_code.specs.Tree.{Part, first, later, parts}
+use Rattle.core_store.specs.Tree.{Part, first, later, parts}
 use Rattle.core_store.specs.Scene.{Scene, code_at, IsInside}
 use Rattle.core_store.specs.Fine.{Frame, Fine, frame_at}
 use Rattle.core_slots.specs.Stacked.{Held, Stacked}

@@ -8,8 +8,7 @@ use crate::control::{Control, Flow};
 use crate::fetch::{block_params, block_results, jump_at};
 use crate::operands::low;
 use crate::running::Running;
-use core_code::Code;
-use core_store::{CoreSpaces, Store};
+use core_store::{Code, CoreSpaces, Store};
 use virt_base::NoMemory;
 use wasm_ast::{BlockType, Instr};
 

@@ -1,14 +1,13 @@
 //! What the code of a function names.
 
 ghost use Rattle.std.specs.Prelude.{◌≡◌, ◌<◌, ◌+◌, ◌^◌, Some, IfOk, length, slice_get};
-ghost use Rattle.core_code.specs.Jumps.{JumpsFrom};
+ghost use Rattle.core_store.specs.Jumps.{JumpsFrom};
 ghost use Rattle.wasm_ast.specs.declared.instr.Instr.{Instr};
 ghost use Rattle.core_store.specs.Config.{block_params as params_of_block, block_results as results_of_block, type_at as type_in};
 ghost use Rattle.core_store.specs.Scene.{scene_of, code_at, spaces_at, IsInside};
 ghost use Rattle.core_store.specs.Fine.{Place, IsBlock};
 
-use core_code::{Code, Jump};
-use core_store::{CoreSpaces, Shared, Store, StoreFunc, function, spaces};
+use core_store::{Code, CoreSpaces, Jump, Shared, Store, StoreFunc, function, spaces};
 use virt_base::NoMemory;
 use wasm_ast::{BlockType, CoreFunc, Instr};
 

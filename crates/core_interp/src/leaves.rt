@@ -1,7 +1,7 @@
 //! Ends of blocks and functions, branches and returns.
 
 ghost use Rattle.std.specs.Prelude.{◌≡◌, ◌+◌, ◌≤◌, ◌<◌, ◌∷◌, length, drop, reverse};
-ghost use Rattle.core_code.specs.Tree.{first, later, parts, Stop};
+ghost use Rattle.core_store.specs.Tree.{first, later, parts, Stop};
 ghost use Rattle.core_store.specs.Scene.{scene_of, code_at};
 ghost use Rattle.core_interp.specs.Jumping.{beyond};
 ghost use Rattle.core_interp.specs.Run.{Ready, Leads, Remains, IsNoTrap, Branches, branches, Returns, backs, goes, own_parts};

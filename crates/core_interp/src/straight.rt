@@ -10,8 +10,7 @@ use crate::fetch::instr_at;
 use crate::operands::put_constant;
 use crate::running::Running;
 use crate::variables::{get_local, set_local, tee_local};
-use core_code::Code;
-use core_store::{CoreSpaces, Store};
+use core_store::{Code, CoreSpaces, Store};
 use virt_base::NoMemory;
 use wasm_ast::{Instr, Op};
 

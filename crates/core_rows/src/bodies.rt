@@ -4,7 +4,7 @@ use crate::rows::{hold, same, shown};
 use core_body::{
     Spaces, TypeLists, check_body, check_expression, lesser, operands_are_found, same_ref, value_of,
 };
-use core_code::Code;
+use core_store::Code;
 use std::alloc::Global;
 use std::test::Fail;
 use virt_base::{CoreType, Items};

@@ -12,7 +12,7 @@ use Rattle.wasm_ast.specs.declared.instr.Op.TheVariants as op
 use Rattle.wasm_ast.specs.declared.instr.Instr.{Instr}
 use Rattle.wasm_ast.specs.declared.instr.Instr.TheVariants.{Plain, I64Const, SelectTyped, Unreachable, Block, Loop, If, Else, End, Br, BrIf, BrTable, Return, Call, CallIndirect}
 use Rattle.wasm_ast.specs.declared.instr.BlockType.{BlockType}
-use Rattle.core_code.specs.Tree.{Seq, Stop, Then, InBlock, InLoop, InIf, tree}
+use Rattle.core_store.specs.Tree.{Seq, Stop, Then, InBlock, InLoop, InIf, tree}
 use Rattle.virt_base.specs.declared.core_type.CoreType.{CoreType}
 use Rattle.core_integer.specs.Integer.{integer}
 use Rattle.core_store.specs.declared.value.CoreRef.{CoreRef}

@@ -13,7 +13,7 @@ use Rattle.wasm_ast.specs.declared.instr.Op.TheVariants as op
 use Rattle.wasm_ast.specs.declared.instr.Instr.{Instr}
 use Rattle.wasm_ast.specs.declared.instr.Instr.TheVariants.{Plain, I64Const, SelectTyped, Unreachable, Block, Loop, If, Else, End, Br, BrIf, BrTable, Return, Call, CallIndirect}
 use Rattle.wasm_ast.specs.declared.instr.BlockType.{BlockType}
-use Rattle.core_code.specs.Tree.{Seq, Stop, Then, InBlock, InLoop, InIf, tree}
+use Rattle.core_store.specs.Tree.{Seq, Stop, Then, InBlock, InLoop, InIf, tree}
 use Rattle.core_memory.specs.Replaced.{replaced, repeated}
 use Rattle.core_memory.specs.Number.{bytes_of}
 use Rattle.core_memory.specs.Linear.{Linear, written, grown, can_grow, loaded, size}

@@ -3,7 +3,7 @@
 use Rattle.std.specs.Prelude.{ℕ, ◌≡◌, ◌+◌, ◌-◌, ◌≤◌, List, [], ◌∷◌, ◌++◌, Option, Some, Result, length, slice_get, slice_set}
 use Rattle.wasm_ast.specs.declared.module.CoreFunc.{CoreFunc}
 use Rattle.wasm_ast.specs.declared.instr.BlockType.{BlockType}
-use Rattle.core_code.specs.Tree.{Seq}
+use Rattle.core_store.specs.Tree.{Seq}
 use Rattle.virt_base.specs.declared.fault.NoMemory.{NoMemory}
 use Rattle.core_memory.specs.Linear.{Linear}
 use Rattle.core_store.specs.declared.value.CoreRef.{CoreRef}

@@ -1,3 +1,6 @@
+pub mod Tree
+pub mod Jumps
+pub mod Brackets
 pub mod Table
 pub mod State
 pub mod View

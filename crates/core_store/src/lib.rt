@@ -1,6 +1,9 @@
-//! The store of core modules: functions, tables, memories, globals, segments and instances, each named by its place.
+//! The store of core modules: functions, with their code and the places to which its branches lead, tables, memories, globals, segments
+//! and instances, each named by its place.
 #![tactic(auto)]
 
+mod brackets;
+mod code;
 mod globals;
 mod laws;
 mod locals;
@@ -11,7 +14,8 @@ mod table;
 mod tables;
 mod value;
 
-pub use core_code::{Code, Jump};
+pub use brackets::Jump;
+pub use code::Code;
 pub use core_integer::integer;
 pub use core_memory::StoreFault;
 pub use globals::{global_get, global_set};

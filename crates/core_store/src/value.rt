@@ -1,5 +1,5 @@
+use crate::Code;
 use crate::locals::Locals;
-use core_code::Code;
 use virt_base::Items;
 use wasm_ast::{CoreFunc, Indexes, Shared};
 

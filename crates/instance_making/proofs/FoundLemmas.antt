@@ -7,8 +7,8 @@ use Rattle.std.proofs.lemmas.Option.{none-some, slice_get_past, slice_get_read}
 use Rattle.wit_types.specs.Plain.{Name}
 use Rattle.comp_types.specs.Items.{same_name}
 use Rattle.comp_link.specs.Linking.{Given as GroupGiven, Givens as GroupGivens, GivenInstance, Nothing, Giving, find, and_given, and_some_given, Making as GroupMaking, given_at, givens_of}
-use Rattle.comp_plans.specs.declared.items.PlanArg.{PlanArg}
-use Rattle.comp_plans.specs.Planned.{item_named, args_named}
+use Rattle.comp_link.specs.declared.items.PlanArg.{PlanArg}
+use Rattle.comp_link.specs.Planned.{item_named, args_named}
 use Rattle.instance_making.specs.declared.named.Named.{Named}
 use Rattle.instance_making.specs.declared.given.Given.{Given}
 use Rattle.instance_making.specs.declared.given.Given.TheVariants.{Instance}

@@ -2,7 +2,7 @@ ghost use Rattle.std.specs.Prelude.{◌≡◌, ◌++◌, List, [], ◌∷◌, So
 ghost use Rattle.comp_types.specs.Views.{item_of};
 ghost use Rattle.comp_link.specs.Plans.{AFunc, AnInstanceAt, ItemOf, OfItems, Imports, Exports};
 ghost use Rattle.comp_link.specs.Linking.{Givens as GroupGivens, Making as GroupMaking, find, given_at as item_at, givens_of as items_of, link_item, with_component};
-ghost use Rattle.comp_plans.specs.Planned.{item_named, args_named};
+ghost use Rattle.comp_link.specs.Planned.{item_named, args_named};
 ghost use Rattle.comp_types.specs.GivenResources.{numbered};
 ghost use Rattle.instance_making.specs.Named.{named_item};
 ghost use Rattle.instance_making.specs.Made.{IsSame, Holds, AreMade, IsInstance};
@@ -12,7 +12,7 @@ use crate::bound::{bind, bind_own, bind_stated};
 use crate::given::{Given, Givens, MadeInstances};
 use crate::making::Making;
 use crate::named::Named;
-use comp_plans::{ItemAt, PlanArg};
+use comp_link::{ItemAt, PlanArg};
 use comp_types::ItemType;
 use std::alloc::Global;
 use virt_base::{NoMemory, Text};

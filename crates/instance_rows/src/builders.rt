@@ -1,6 +1,6 @@
 //! Types, values and handles for the rows.
 
-use instance_handles::{Handles, Owner, Owners};
+use instance_state::{Handles, Owner, Owners};
 use std::alloc::Global;
 use std::process::Abort;
 use std::rc::Rc;

@@ -1,6 +1,5 @@
 use crate::builders::{expect_value, handles_type, handles_value, owners, table};
-use handle_exchange::{Room, exchange_in, exchange_out};
-use instance_handles::{HandleFault, Loan};
+use instance_state::{HandleFault, Loan, Room, exchange_in, exchange_out};
 use std::test::Fail;
 use value_handles::has_handles;
 

@@ -1,5 +1,4 @@
-use instance_handles::HandleFault;
-use instance_state::Instance;
+use instance_state::{HandleFault, Instance};
 use std::test::Fail;
 
 /// The two flags, and what they keep back.

@@ -1,5 +1,5 @@
 use crate::builders::{owners, table};
-use instance_handles::{HandleFault, Handles, Loan};
+use instance_state::{HandleFault, Handles, Loan};
 use std::alloc::Global;
 use std::process::Abort;
 use std::test::Fail;

@@ -1,1 +1,9 @@
+pub mod Ready
+pub mod Counting
+pub mod Done
+pub mod Owning
+pub mod Exchanged
+pub mod Counted
+pub mod Loans
 pub mod Shown
+pub mod Exchanges

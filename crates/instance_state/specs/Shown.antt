@@ -3,8 +3,8 @@ use Rattle.std.specs.Prelude.{◌≡◌, ℕ, Option, Some, None, Result, Ok, Er
 use Rattle.virt_base.specs.declared.fault.Trap.{Trap as TrapType}
 use Rattle.comp_worlds.specs.Groups.{Config}
 use Rattle.comp_worlds.specs.Locals.{Local}
-use Rattle.instance_handles.specs.declared.fault.HandleFault.{HandleFault}
-use Rattle.instance_handles.specs.declared.fault.HandleFault.TheVariants.{Trap, NoMemory}
+use Rattle.instance_state.specs.declared.fault.HandleFault.{HandleFault}
+use Rattle.instance_state.specs.declared.fault.HandleFault.TheVariants.{Trap, NoMemory}
 use Rattle.instance_state.specs.declared.instance.Instance.{Instance}
 
 abbrev pub config_of : Instance → Config ℕ

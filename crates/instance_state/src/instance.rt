@@ -4,8 +4,7 @@ ghost use Rattle.comp_worlds.specs.Locals.{is_open as opens, enter as enters, ex
 ghost use Rattle.comp_worlds.specs.Calls.{at_rest, plainly};
 ghost use Rattle.instance_state.specs.Shown.{config_of, Goes, Answers, AnswersInMemory};
 
-use core_runs::CoreRuns;
-use instance_handles::{HandleFault, Handles};
+use crate::{CoreRuns, HandleFault, Handles};
 use std::alloc::Global;
 use virt_base::Trap;
 

@@ -14,11 +14,11 @@ use Rattle.comp_worlds.specs.Passing.{Handle, Lifted, named_in, lift_handles, li
 use Rattle.comp_worlds.specs.Hosts.{passed_by}
 use Rattle.comp_worlds.specs.Groups.{Options, Config}
 use Rattle.comp_worlds.specs.Locals.{Local, args_of, lifts, adds_handles, with_map, bytes_in}
-use Rattle.instance_handles.specs.declared.fault.HandleFault.{HandleFault}
-use Rattle.instance_handles.specs.declared.fault.HandleFault.TheVariants.{Trap, NoMemory}
+use Rattle.instance_state.specs.declared.fault.HandleFault.{HandleFault}
+use Rattle.instance_state.specs.declared.fault.HandleFault.TheVariants.{Trap, NoMemory}
 use Rattle.abi_load.specs.declared.fault.LoadFault.{LoadFault}
 use Rattle.abi_load.specs.declared.fault.LoadFault.TheVariants as loads
-use Rattle.handle_exchange.specs.Exchanges.{IsOut, GoesOut, IsIn}
+use Rattle.instance_state.specs.Exchanges.{IsOut, GoesOut, IsIn}
 use Rattle.instance_values.specs.Passed.{fault_of, LiftsAs, IsLoweredAs, LowersAs, params_plan, result_plan}
 
 -- ---- lifting

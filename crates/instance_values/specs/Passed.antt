@@ -13,8 +13,8 @@ use Rattle.comp_worlds.specs.Passing.{most_params, most_results, spills_over}
 use Rattle.comp_worlds.specs.Hosts.{passed_by}
 use Rattle.comp_worlds.specs.Groups.{Options, Config}
 use Rattle.comp_worlds.specs.Locals.{Local, Args}
-use Rattle.instance_handles.specs.declared.fault.HandleFault.{HandleFault}
-use Rattle.instance_handles.specs.declared.fault.HandleFault.TheVariants.{Trap, NoMemory}
+use Rattle.instance_state.specs.declared.fault.HandleFault.{HandleFault}
+use Rattle.instance_state.specs.declared.fault.HandleFault.TheVariants.{Trap, NoMemory}
 use Rattle.instance_values.specs.declared.options.CallOptions.{CallOptions}
 
 abbrev pub options_of : CallOptions → Options

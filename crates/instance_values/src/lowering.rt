@@ -9,15 +9,13 @@ ghost use Rattle.abi_store.specs.declared.target.Target.TheVariants.{Flat as ToF
 ghost use Rattle.comp_worlds.specs.Hosts.{passed_by};
 ghost use Rattle.comp_worlds.specs.Passing.{blank, handles_of, most_params, most_results};
 ghost use Rattle.comp_worlds.specs.Locals.{adds_handles};
-ghost use Rattle.instance_handles.specs.Owning.{plain_for};
+ghost use Rattle.instance_state.specs.Owning.{plain_for};
 ghost use Rattle.instance_state.specs.Shown.{config_of};
 ghost use Rattle.instance_values.specs.Passed.{LowersAs, params_plan, result_plan};
 
 use crate::passed_type::PassedType;
 use abi_store::{StorePlan, Target};
-use handle_exchange::{Room, exchange_in};
-use instance_handles::{HandleFault, Owners};
-use instance_state::Instance;
+use instance_state::{HandleFault, Instance, Owners, Room, exchange_in};
 use std::alloc::Global;
 use wit_types::Value;
 

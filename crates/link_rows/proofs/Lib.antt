@@ -1,3 +1,11 @@
+pub mod WorldsCompute
+pub mod Counted
+pub mod Joining
+pub mod Renumbering
+pub mod WrapsCompute
+pub mod Exported
+pub mod Outputs
+pub mod Premises
 pub mod Compute
 pub mod Plugged
 pub mod Taking

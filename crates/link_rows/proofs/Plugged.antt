@@ -5,7 +5,7 @@ use Rattle.comp_worlds.specs.Calls.{on, below, core, store_of, finds_room, deep_
 use Rattle.comp_worlds.specs.Groups.{Import, Target, Theirs, Func, LoweredFunc}
 use Rattle.comp_worlds.specs.Hosts.{reacts, loses, stays}
 use Rattle.comp_worlds.specs.Observed.{runs_calls}
-use Rattle.comp_parts.specs.Parts.{IsImportOf}
+use Rattle.comp_worlds.specs.Parts.{IsImportOf}
 use Rattle.comp_link.specs.Linking.{all_outside, group_of}
 use Rattle.comp_joins.specs.Alike.{IsNothing}
 use Rattle.comp_joins.specs.Joining.{imports_of, asked, over_host, Meets, Fits, Agree, itself}

@@ -6,17 +6,17 @@ use Rattle.comp_worlds.specs.Calls.{on, below, core, store_of, finds_room, deep_
 use Rattle.comp_worlds.specs.Groups.{Import, Theirs, Func, LoweredFunc}
 use Rattle.comp_worlds.specs.Hosts.{reacts, loses, stays}
 use Rattle.comp_worlds.specs.Observed.{runs_calls}
-use Rattle.comp_parts.specs.Parts.{IsImportOf}
+use Rattle.comp_worlds.specs.Parts.{IsImportOf}
 use Rattle.wit_types.specs.Plain.{Name}
 use Rattle.comp_types.specs.Items.{same_name}
 use Rattle.comp_types.specs.Substitution.{partner_of}
 use Rattle.comp_types.proofs.ValueLaws.{name-sound}
 use Rattle.comp_link.specs.Linking.{Given, Nothing, find, group_of}
-use Rattle.comp_wraps.specs.Wrapping.{IsNamed}
+use Rattle.comp_inside.specs.Wrapping.{IsNamed}
 use Rattle.comp_joins.specs.Alike.{IsNothing}
 use Rattle.comp_joins.specs.Joining.{asked, made_second, over_host, Meets, Fits, Agree, itself}
-use Rattle.comp_agrees.specs.Numbers.{from, to, Partners}
-use Rattle.comp_agrees.specs.Handing.{HandsOn}
+use Rattle.comp_joins.specs.Numbers.{from, to, Partners}
+use Rattle.comp_joins.specs.Handing.{HandsOn}
 use Rattle.comp_joins.proofs.Finding.{alike_itself}
 use Rattle.link_rows.specs.Sharing.{still, teller, sharing, shared, SharingExamples, SharingPremises, handed, SharingHands}
 use Rattle.link_rows.proofs.Taking.{not_theirs}

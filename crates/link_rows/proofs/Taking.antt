@@ -8,7 +8,7 @@ use Rattle.comp_worlds.specs.Calls.{on, below, core, store_of, finds_room, deep_
 use Rattle.comp_worlds.specs.Groups.{Import, Lifting, Target, Mine, Theirs, Func, LoweredFunc, Group}
 use Rattle.comp_worlds.specs.Hosts.{reacts, loses, stays}
 use Rattle.comp_worlds.specs.Observed.{runs_calls}
-use Rattle.comp_parts.specs.Parts.{IsImportOf}
+use Rattle.comp_worlds.specs.Parts.{IsImportOf}
 use Rattle.comp_link.specs.Linking.{GivenFunc, Nothing, Giving, target_in, instance_in, find, exported, group_of}
 use Rattle.comp_joins.specs.Alike.{IsNothing}
 use Rattle.comp_joins.specs.Joining.{joining, asked, over_host, IsKnown, known_by, Meets, Fits, Agree, itself}

@@ -1,3 +1,11 @@
+pub mod Samples
+pub mod WorldsRows
+pub mod Counters
+pub mod Joined
+pub mod Renumbered
+pub mod WrapsTrees
+pub mod WrapsRows
+pub mod Outputs
 pub mod Trees
 pub mod Guards
 pub mod Rows

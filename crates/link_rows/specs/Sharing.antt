@@ -14,10 +14,10 @@ use Rattle.wasm_ast.specs.declared.component.TypeItem.TheVariants as items
 use Rattle.wasm_ast.specs.declared.component.Canon.TheVariants as canons
 use Rattle.host_port.specs.Calls.{Returned}
 use Rattle.comp_grammar.specs.Trees.{Tree, CoreInstances, Instances, Aliases, Types, Canons, Imports, Exports}
-use Rattle.comp_wraps.specs.Wrapping.{Handed}
+use Rattle.comp_inside.specs.Wrapping.{Handed}
 use Rattle.comp_joins.specs.Joining.{Joint, joining, Fits, Agree, itself}
-use Rattle.comp_agrees.specs.Numbers.{Partners}
-use Rattle.comp_agrees.specs.Handing.{HandsOn}
+use Rattle.comp_joins.specs.Numbers.{Partners}
+use Rattle.comp_joins.specs.Handing.{HandsOn}
 use Rattle.link_rows.specs.Trees.{tree, somewhere, a_number, one_param, core_type, from_h, module_of, instance_type, import_h, func_of, core_func_of, core_named, given_core, with_core, exports_f}
 use Rattle.link_rows.specs.Rows.{told, runs}
 

@@ -1,11 +1,24 @@
-//! What is seen of small components, by examples that compute.
+//! What is seen of small components, alone, in one another and wrapped, by examples that compute.
 #![tactic(auto)]
+
+mod worlds;
+mod wraps;
 
 ghost use Rattle.link_rows.specs.Rows.{ReaderExamples, NestedExamples, ResourceExamples, StartExamples, EnteredExamples, BorrowExamples, InsideExamples};
 ghost use Rattle.link_rows.specs.Plugged.{PluggedExamples, PluggedPremises};
 ghost use Rattle.link_rows.specs.Taking.{TakingExamples, TakingPremises};
 ghost use Rattle.link_rows.specs.Sharing.{SharingExamples, SharingHands, SharingPremises};
 ghost use Rattle.link_rows.specs.GivingMore.{GivingMoreExamples, GivingMorePremises};
+
+pub use worlds::{
+    Counters, Readers, clocks_are_read, counters_are_seen_alike, destructors_run,
+    instances_are_entered, kept_borrows_trap, readers_are_joined, readers_do_what_both_do,
+    resources_are_renumbered, room_is_asked,
+};
+pub use wraps::{
+    components_are_called, exports_are_of_their_types, hosts_are_asked, outputs_are_called,
+    silent_components_are_wrapped, wrapped_components_are_called, wrapping_premises_are_met,
+};
 
 /// A component reads a clock, with its steps counted. It does nothing when it runs.
 #[tactic(auto, using(crate::proofs::Compute::reader_examples))]

@@ -1,3 +1,11 @@
+pub mod Further
+pub mod Bare
+pub mod Exported
+pub mod Renamed
+pub mod Added
+pub mod Imported
+pub mod Numbers
+pub mod Outputs
 pub mod Wrapping
 pub mod Places
 pub mod Strategies

@@ -8,7 +8,7 @@ use Rattle.comp_types.specs.Added.{entered, after_part, root}
 use Rattle.comp_link.specs.Plans.{Plan, End as NoPlan, Scope, no_scope, and_plan, Reached, followed, plan_part, plan_tree}
 use Rattle.comp_worlds.specs.Groups.{Group}
 use Rattle.comp_link.specs.Linking.{Making, begun, link, all_outside, all_known, behind_known, known_in, canon_in, owner_in, target_in, resource_of, exported, group_of}
-use Rattle.output_valid.proofs.Bare.{part_adds, tree_adds}
+use Rattle.output_same.proofs.Bare.{part_adds, tree_adds}
 use Rattle.output_same.specs.Laws.{PlacesMakeNoDifference}
 
 mutual

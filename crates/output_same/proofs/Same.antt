@@ -6,9 +6,9 @@ use Rattle.comp_worlds.specs.Groups.{Nesting, Endless, Group}
 use Rattle.comp_worlds.specs.Observed.{Call, seen, SameObservations}
 use Rattle.comp_link.specs.Linking.{group_of}
 use Rattle.comp_link.specs.Components.{component_seen}
-use Rattle.comp_wraps.specs.Laws.{OneStepLater, SeenWrapped}
-use Rattle.comp_wraps.proofs.Seen.{wrapped_do_same, later_same}
-use Rattle.output_valid.specs.Laws.{output_of}
+use Rattle.comp_inside.specs.Laws.{OneStepLater, SeenWrapped}
+use Rattle.comp_inside.proofs.Seen.{wrapped_do_same, later_same}
+use Rattle.output_same.specs.ValidLaws.{output_of}
 use Rattle.output_same.specs.Strategies.{strategy, DoesTheSame, SameOverHost}
 use Rattle.output_same.specs.Laws.{OutputsDoTheSame}
 use Rattle.output_same.proofs.Places.{same_group}

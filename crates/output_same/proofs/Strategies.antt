@@ -13,11 +13,11 @@ use Rattle.comp_worlds.specs.Calls.{set, below, during, leaves, drops, runs, dee
 use Rattle.comp_worlds.specs.Hosts.{call_of, answered_by, reacts, loses, stays, asks_host, hosted}
 use Rattle.comp_worlds.specs.Observed.{first_state, Call, without_handles, asks_export, leaves_export, makes_calls, runs_calls}
 use Rattle.comp_worlds.proofs.Joint.{set_all, set_here, set_there}
-use Rattle.comp_parts.specs.Parts.{target_to, func_to, stages_to, Embeds}
-use Rattle.comp_parts.proofs.Exact.{Equals, Exact, exact_less, exact_then, exact_gives, exact_gives_first, exact_traps, exact_call}
-use Rattle.comp_parts.proofs.Embedding.{Eq, DueTo, Answers_as, LeadsTo, KnownIn, InStep, exact_runs, exact_answers, exact_leaves, exact_all}
-use Rattle.comp_parts.proofs.Whole.{equals_observed, equals_seen, nothing_before}
-use Rattle.comp_parts.proofs.Fair.{Under, exact_below}
+use Rattle.comp_worlds.specs.Parts.{target_to, func_to, stages_to, Embeds}
+use Rattle.comp_worlds.proofs.Exact.{Equals, Exact, exact_less, exact_then, exact_gives, exact_gives_first, exact_traps, exact_call}
+use Rattle.comp_worlds.proofs.Embedding.{Eq, DueTo, Answers_as, LeadsTo, KnownIn, InStep, exact_runs, exact_answers, exact_leaves, exact_all}
+use Rattle.comp_worlds.proofs.Whole.{equals_observed, equals_seen, nothing_before}
+use Rattle.comp_worlds.proofs.Fair.{Under, exact_below}
 use Rattle.output_same.specs.Strategies.{Asked, state_after, strategy, IsItsStrategy}
 
 -- ---- a group in itself

@@ -3,9 +3,9 @@ use Rattle.std.specs.Prelude.{◌≡◌}
 use Rattle.comp_grammar.specs.Trees.{Tree}
 use Rattle.comp_write.specs.Copying.{bare}
 use Rattle.comp_link.specs.Linking.{group_of}
-use Rattle.comp_wraps.specs.Wrapping.{Wraps}
+use Rattle.comp_inside.specs.Wrapping.{Wraps}
 use Rattle.comp_exports.specs.Sections.{DefinesTypes}
-use Rattle.output_valid.specs.Laws.{StandsAlone, output_of}
+use Rattle.output_same.specs.ValidLaws.{StandsAlone, output_of}
 use Rattle.output_same.specs.Strategies.{DoesTheSame}
 
 -- it wraps the application

@@ -1,2 +1,4 @@
+pub mod Holding
+pub mod ValidLaws
 pub mod Strategies
 pub mod Laws

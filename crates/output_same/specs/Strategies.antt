@@ -8,7 +8,7 @@ use Rattle.comp_grammar.specs.Trees.{Tree}
 use Rattle.comp_worlds.specs.Acts.{observed_of, seen_of}
 use Rattle.comp_worlds.specs.Groups.{Nesting, Group}
 use Rattle.comp_worlds.specs.Observed.{Call, runs_calls}
-use Rattle.comp_wraps.specs.Laws.{SeenWrapped}
+use Rattle.comp_inside.specs.Laws.{SeenWrapped}
 
 pub data Asked : Type 0 where
   Called : (call : PlainCall) → Asked

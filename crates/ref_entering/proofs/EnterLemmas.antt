@@ -14,9 +14,9 @@ use Rattle.reference_step.specs.Handles.{first_free, with_entry}
 use Rattle.reference_step.specs.Rules.{same_kind}
 use Rattle.ref_live.specs.declared.content.Handle.{Handle}
 use Rattle.ref_live.specs.Lives.{LiveTable, of_kind, count_of_kind}
-use Rattle.ref_room.specs.Entering.{are_kinds, count_kind}
-use Rattle.ref_numbers.specs.Numbers.{seen}
-use Rattle.ref_numbers.proofs.HandleLaws.{handles_agree}
+use Rattle.ref_entering.specs.RoomEntering.{are_kinds, count_kind}
+use Rattle.ref_entering.specs.Numbers.{seen}
+use Rattle.ref_entering.proofs.HandleLaws.{handles_agree}
 use Rattle.ref_guards.specs.declared.atoms.Atom.{Atom}
 use Rattle.ref_guards.specs.declared.atoms.Atom.TheVariants.{Handle as AHandle}
 use Rattle.ref_guards.specs.Noted.{shown, shown_all}

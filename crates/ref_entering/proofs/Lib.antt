@@ -1,2 +1,8 @@
+pub mod HandleLaws
+pub mod NumberLaws
+pub mod Bounds
+pub mod KindBounds
+pub mod ListedLaw
 pub mod EnterLemmas
 pub mod SeenEntering
+pub mod KeepLaws

@@ -1,1 +1,4 @@
+pub mod Numbers
+pub mod RoomEntering
 pub mod Entering
+pub mod Contents

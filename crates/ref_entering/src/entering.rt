@@ -3,7 +3,7 @@ ghost use Rattle.wit_types.specs.Plain.{plain_result};
 ghost use Rattle.host_port.specs.Calls.{plain_option};
 ghost use Rattle.reference_step.specs.Atoms.{handle_in, handles, renumbered_result, result_atoms};
 ghost use Rattle.ref_live.specs.Lives.{count_of_kind};
-ghost use Rattle.ref_room.specs.Entering.{are_kinds, count_kind};
+ghost use Rattle.ref_entering.specs.RoomEntering.{are_kinds, count_kind};
 ghost use Rattle.ref_guards.specs.Noted.{shown, shown_all};
 ghost use Rattle.ref_entering.specs.Entering.{with_handles, numbers_for, IsInside};
 

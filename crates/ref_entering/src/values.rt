@@ -5,7 +5,7 @@ ghost use Rattle.wit_types.specs.PlainValue.{plain_value};
 ghost use Rattle.host_port.specs.Calls.{plain_option};
 ghost use Rattle.reference_step.specs.Atoms.{atoms, handles, renumbered, renumbered_result, result_atoms};
 
-use value_numbers::renumber;
+use value_handles::renumber;
 use wit_types::{Value, WitType};
 
 /// The value with these numbers for its handles, in order.

@@ -1,3 +1,5 @@
+mod PickLemmas
+pub mod TreeLaws
 mod NodeLemmas
 mod SeenLemmas
 mod LedLemmas

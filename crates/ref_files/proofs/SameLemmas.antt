@@ -5,7 +5,7 @@ use Rattle.tree_table.specs.Tables.{Forest, count_of, tree_of, path_of}
 use Rattle.tree_table.specs.Trees.{same_path}
 use Rattle.tree_table.proofs.ForestLemmas.{same_path-is, same_path-self}
 use Rattle.reference_step.specs.Descriptors.{are_same}
-use Rattle.ref_trees.proofs.TreeLaws.{tables_agree}
+use Rattle.ref_files.proofs.TreeLaws.{tables_agree}
 use Rattle.reference_step.specs.State.{View}
 use Rattle.ref_files.specs.Views.{HoldsTrees, node_in}
 

@@ -7,8 +7,8 @@ use Rattle.reference_step.specs.Values.{ok}
 use Rattle.reference_step.specs.State.{View, returns}
 use Rattle.reference_step.specs.Descriptors.{hash_of}
 use Rattle.ref_answers.specs.Seen.{entries_of_node}
-use Rattle.ref_trees.specs.Agreeing.{Agrees}
-use Rattle.ref_trees.proofs.TreeLaws.{tables_agree}
+use Rattle.ref_files.specs.Agreeing.{Agrees}
+use Rattle.ref_files.proofs.TreeLaws.{tables_agree}
 use Rattle.ref_files.specs.Views.{HoldsTrees}
 
 module _ (f : Forest) (v : View) (h : HoldsTrees f v) (node : ℕ) (within : node < count_of f) where

@@ -1,3 +1,6 @@
+mod LossLemmas
 pub mod AskLemmas
 mod ArgumentLemmas
 mod GiveLemmas
+pub mod OfferLemmas
+mod OfferedLemmas

@@ -10,7 +10,7 @@ ghost use Rattle.host_port.specs.Calls.{fields_in};
 ghost use Rattle.reference_step.specs.Atoms.{atoms_of, handles, renumbered_of};
 
 use std::mem;
-use value_numbers::renumber;
+use value_handles::renumber;
 use wit_types::{Field, Fields, Value, Values};
 
 /// What stands at a place of a list; a truth stands there meanwhile.

@@ -7,8 +7,8 @@ ghost use Rattle.reference_step.specs.State.{Reference};
 ghost use Rattle.reference_step.specs.Steps.{asks, environment_gave, host_gave, to_host};
 ghost use Rattle.ref_answers.specs.Seen.{live_in};
 ghost use Rattle.ref_live.specs.Lives.{count_of_kind};
-ghost use Rattle.ref_room.specs.Entering.{are_kinds, count_kind};
-ghost use Rattle.ref_contents.specs.Contents.{KeepsContents, Hosts};
+ghost use Rattle.ref_entering.specs.RoomEntering.{are_kinds, count_kind};
+ghost use Rattle.ref_entering.specs.Contents.{KeepsContents, Hosts};
 ghost use Rattle.ref_host_calls.specs.Requests.{IsNoted, listed_of, call_of, handles_in};
 ghost use Rattle.ref_host_calls.specs.Reactions.{HostIsTyped, IsReaction, state_at};
 

@@ -8,9 +8,9 @@ ghost use Rattle.reference_step.specs.Atoms.{weight};
 ghost use Rattle.reference_step.specs.State.{Reference};
 ghost use Rattle.reference_step.specs.Steps.{host_gave, environment_gave, value_of};
 ghost use Rattle.ref_live.specs.Lives.{count_of_kind};
-ghost use Rattle.ref_room.specs.Entering.{are_kinds, count_kind};
+ghost use Rattle.ref_entering.specs.RoomEntering.{are_kinds, count_kind};
 ghost use Rattle.ref_guards.specs.Noted.{shown_all};
-ghost use Rattle.ref_contents.specs.Contents.{KeepsContents, Hosts};
+ghost use Rattle.ref_entering.specs.Contents.{KeepsContents, Hosts};
 ghost use Rattle.ref_host_calls.specs.Requests.{IsNoted, listed_of, call_of, handles_in};
 ghost use Rattle.ref_host_calls.specs.Reactions.{state_at};
 

@@ -19,10 +19,10 @@ use Rattle.ref_live.specs.declared.content.Content.TheVariants.{Node, Entries, S
 use Rattle.ref_live.specs.declared.content.Handle.{Handle}
 use Rattle.ref_answers.specs.Seen.{content_in, entry_of_row, children_of, entries_of_node}
 use Rattle.ref_files.specs.Inside.{node_inside}
-use Rattle.ref_methods.specs.Held.{content_held}
-use Rattle.ref_methods.proofs.HandleLemmas.{content_is}
+use Rattle.ref_virtual.specs.Held.{content_held}
+use Rattle.ref_virtual.proofs.HandleLemmas.{content_is}
 use Rattle.ref_virtual.specs.Known.{file_open}
-use Rattle.ref_typed.specs.Sound.{AreFileBytes, IsSoundNode, IsSoundEntry, IsSoundContent, IsSound}
+use Rattle.ref_sound.specs.Sound.{AreFileBytes, IsSoundNode, IsSoundEntry, IsSoundContent, IsSound}
 use Rattle.ref_sound.specs.Views.{AreParts, seen_view, ViewsAreSound}
 
 -- ---- trees

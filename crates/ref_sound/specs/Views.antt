@@ -9,9 +9,9 @@ use Rattle.reference_step.specs.Handles as reference
 use Rattle.reference_step.specs.State.{View}
 use Rattle.ref_live.specs.declared.content.Handle.{Handle}
 use Rattle.ref_answers.specs.Seen.{live_in}
-use Rattle.ref_methods.specs.Held.{AreInside}
+use Rattle.ref_virtual.specs.Held.{AreInside}
 use Rattle.ref_virtual.specs.Known.{AreOpen}
-use Rattle.ref_typed.specs.Sound.{AreFileBytes, IsSound}
+use Rattle.ref_sound.specs.Sound.{AreFileBytes, IsSound}
 use Rattle.ref_sound.specs.Words.{HasWords}
 
 -- the policy; the trees and their table; the scratch folder; and the live handles

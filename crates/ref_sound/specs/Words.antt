@@ -2,7 +2,7 @@
 use Rattle.std.specs.Prelude.{◌<◌, ◌^◌}
 use Rattle.policy_data.specs.declared.policy.Policy.{Policy}
 use Rattle.reference_step.specs.Clocks.{instant}
-use Rattle.ref_typed.specs.Sound.{IsSoundClock}
+use Rattle.ref_sound.specs.Sound.{IsSoundClock}
 
 pub record HasWords (policy : Policy) : Type 0 where
   pub limit : policy.transfer_limit < 2 ^ 32

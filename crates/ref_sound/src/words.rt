@@ -1,7 +1,7 @@
 // Numbers of a policy, within their words: the numbers do not tell that themselves.
 ghost use Rattle.std.specs.Prelude.{◌<◌, ◌^◌};
 ghost use Rattle.reference_step.specs.Clocks.{instant};
-ghost use Rattle.ref_typed.specs.Sound.{IsSoundClock};
+ghost use Rattle.ref_sound.specs.Sound.{IsSoundClock};
 ghost use Rattle.ref_sound.specs.Words.{HasWords};
 
 use policy_data::{MonotonicClock, Policy, WallClock};

@@ -10,11 +10,11 @@ use Rattle.ref_live.specs.declared.content.Content.{Content}
 use Rattle.ref_live.specs.declared.content.Content.TheVariants.{Always}
 use Rattle.ref_live.specs.declared.content.Handle.{Handle}
 use Rattle.ref_live.specs.Contents.{open_file}
-use Rattle.ref_contents.specs.Contents.{AllHold, KeepsContents}
+use Rattle.ref_entering.specs.Contents.{AllHold, KeepsContents}
 use Rattle.ref_files.specs.Inside.{node_inside}
-use Rattle.ref_methods.specs.Held.{content_held}
+use Rattle.ref_virtual.specs.Held.{content_held}
 use Rattle.ref_virtual.specs.Known.{file_open}
-use Rattle.ref_directories.specs.Offers.{HoldsOfFolders}
+use Rattle.ref_host_calls.specs.Offers.{HoldsOfFolders}
 use Rattle.ref_state.specs.declared.kept.Setting.{Setting}
 use Rattle.ref_state.specs.declared.kept.Holding.{Holding}
 use Rattle.ref_state.specs.Kept.{IsHolding, IsSetting}

@@ -12,8 +12,8 @@ use Rattle.ref_host_calls.specs.declared.request.Request.{Request}
 use Rattle.ref_host_calls.specs.Requests.{call_of, handles_in, listed_of}
 use Rattle.ref_listed.specs.Versions.{version_in}
 use Rattle.ref_live.specs.Lives.{count_of_kind}
-use Rattle.ref_room.specs.Entering.{are_kinds, count_kind}
-use Rattle.ref_room.proofs.ListedLaw.{entering_has_kinds, entering_has_room}
+use Rattle.ref_entering.specs.RoomEntering.{are_kinds, count_kind}
+use Rattle.ref_entering.proofs.ListedLaw.{entering_has_kinds, entering_has_room}
 use Rattle.ref_state.specs.declared.kept.Setting.{Setting}
 use Rattle.ref_state.specs.declared.kept.Holding.{Holding}
 use Rattle.ref_state.specs.Asked.{HasRoom, IsAsked}

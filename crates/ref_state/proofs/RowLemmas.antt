@@ -24,8 +24,8 @@ use Rattle.ref_answers.specs.declared.row.Effect.{Effect}
 use Rattle.ref_answers.specs.declared.row.Row.{Row}
 use Rattle.ref_answers.specs.declared.row.Row.TheVariants.{Traps as Traps', Does as Does'}
 use Rattle.ref_answers.proofs.SeenLaws.{seen_handle_at, seen_is_held, seen_with_content}
-use Rattle.ref_contents.specs.Contents.{AllHold}
-use Rattle.ref_contents.proofs.KeepLaws.{count-standing, hold-handles, hold-standing}
+use Rattle.ref_entering.specs.Contents.{AllHold}
+use Rattle.ref_entering.proofs.KeepLaws.{count-standing, hold-handles, hold-standing}
 use Rattle.ref_entering.specs.declared.standing.Standing.TheVariants.{Made}
 use Rattle.ref_entering.specs.Entering.{numbers_for, stands_for, with_handles}
 use Rattle.ref_entering.proofs.EnterLemmas.{count_entered}
@@ -33,15 +33,15 @@ use Rattle.ref_entering.proofs.SeenEntering.{made_entered}
 use Rattle.ref_files.specs.Inside.{node_inside, row_inside}
 use Rattle.ref_host_calls.specs.declared.request.Request.{Request}
 use Rattle.ref_host_calls.specs.Requests.{call_of, handles_in, listed_of}
-use Rattle.ref_kept.specs.Keeping.{IsThere, KeptBy, OpensThere}
-use Rattle.ref_kept.proofs.RowLaws.{rows_keep}
-use Rattle.ref_kept.proofs.ToldLaws.{told_keeps}
+use Rattle.ref_sound.specs.Keeping.{IsThere, KeptBy, OpensThere}
+use Rattle.ref_sound.proofs.RowLaws.{rows_keep}
+use Rattle.ref_sound.proofs.ToldLaws.{told_keeps}
 use Rattle.ref_live.specs.declared.content.Content.{Content}
 use Rattle.ref_live.specs.declared.content.Content.TheVariants.{Always, ScratchFile, ScratchIn, ScratchOut}
 use Rattle.ref_live.specs.declared.content.Handle.{Handle}
 use Rattle.ref_live.specs.Contents.{open_file}
 use Rattle.ref_live.specs.Lives.{LiveTable, count_of_kind, is_inside, is_open, opens}
-use Rattle.ref_methods.specs.Held.{content_held}
+use Rattle.ref_virtual.specs.Held.{content_held}
 use Rattle.ref_scratch.specs.Told.{settled, told}
 use Rattle.ref_virtual.specs.Acting.{Stays}
 use Rattle.ref_virtual.specs.Known.{file_open}

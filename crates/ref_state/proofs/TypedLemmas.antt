@@ -5,8 +5,8 @@ use Rattle.host_port.specs.Hosts.{HostStep, IsAnswerTo}
 use Rattle.reference_step.specs.Listed.{Listed}
 use Rattle.reference_step.specs.State.{Reference, view_of}
 use Rattle.reference_step.specs.Steps.{calls, reference_step}
-use Rattle.ref_typed.specs.Sound.{IsSound}
-use Rattle.ref_typed.specs.Typed.{AnswersAreTypedWhereAsked, AsksTyped}
+use Rattle.ref_sound.specs.Sound.{IsSound}
+use Rattle.ref_sound.specs.Typed.{AnswersAreTypedWhereAsked, AsksTyped}
 use Rattle.ref_state.proofs.RoomLemmas.{left, right}
 
 -- behind a test that failed nothing is asked

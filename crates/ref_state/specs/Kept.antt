@@ -9,9 +9,9 @@ use Rattle.tree_table.specs.Trees.{AreTrees, entries_of}
 use Rattle.reference_step.specs.State.{Setup, Reference}
 use Rattle.ref_listed.specs.Versions.{version_in}
 use Rattle.ref_answers.specs.Seen.{live_in}
-use Rattle.ref_contents.specs.Contents.{Fits}
+use Rattle.ref_entering.specs.Contents.{Fits}
 use Rattle.ref_files.specs.Views.{AreTexts}
-use Rattle.ref_methods.specs.Held.{AreInside}
+use Rattle.ref_virtual.specs.Held.{AreInside}
 use Rattle.ref_virtual.specs.Known.{AreOpen}
 use Rattle.ref_state.specs.declared.kept.Setting.{Setting}
 use Rattle.ref_state.specs.declared.kept.Holding.{Holding}

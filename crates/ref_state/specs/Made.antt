@@ -13,7 +13,7 @@ use Rattle.ref_host_calls.specs.Requests.{call_of, handles_in}
 use Rattle.ref_live.specs.declared.content.Content.{Content}
 use Rattle.ref_live.specs.declared.content.Handle.{Handle}
 use Rattle.ref_live.specs.Lives.{LiveTable, count_of_kind, is_inside, standing_for}
-use Rattle.ref_room.specs.Entering.{are_kinds, count_kind}
+use Rattle.ref_entering.specs.RoomEntering.{are_kinds, count_kind}
 
 -- the first handle of arguments, if it is live, stands for this
 abbrev pub becomes_in : List (Option Handle) → PlainValues → Option Content → List (Option Handle)

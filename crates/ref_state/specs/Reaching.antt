@@ -8,7 +8,7 @@ use Rattle.reference_step.specs.Rules.{denial, has_places}
 use Rattle.reference_step.specs.State.{Reference}
 use Rattle.reference_step.specs.Steps.{args_weight, asks_host, is_heavy}
 use Rattle.ref_host_calls.specs.Reactions.{HostIsTyped}
-use Rattle.ref_typed.specs.Typed.{is_free, reaches_host}
+use Rattle.ref_sound.specs.Typed.{is_free, reaches_host}
 
 module _ {S : Type 0} (h : HostStep S) (r : Reference S) (f : Listed) (c : PlainCall) where
   abbrev pub TypedIfAsked : Type 0

@@ -13,7 +13,7 @@ ghost use Rattle.ref_host_calls.specs.Reactions.{IsReaction};
 ghost use Rattle.ref_host_calls.specs.Requests.{listed_of, call_of};
 ghost use Rattle.ref_listed.specs.Versions.{IsSmall, plain_found};
 ghost use Rattle.ref_rules.specs.Seen.{denial_of, shown_errors};
-ghost use Rattle.ref_typed.specs.Typed.{AsksTyped};
+ghost use Rattle.ref_sound.specs.Typed.{AsksTyped};
 ghost use Rattle.ref_state.specs.Asked.{HasRoom, IsAsked, IsNamed};
 ghost use Rattle.ref_state.specs.Kept.{IsHolding, IsSetting, reference_at};
 ghost use Rattle.ref_state.specs.Reaching.{TypedIfFree, TypedIfLight, TypedIfPassed, TypedIfRoom};
@@ -30,7 +30,7 @@ use ref_guards::{Atom, are_live, has_places, left_behind, note_arguments, owned_
 use ref_host_calls::Request;
 use ref_listed::Found;
 use ref_rules::{Denial, Errors, call_denial, errors_of, is_answered};
-use ref_typed::answers_are_typed;
+use ref_sound::answers_are_typed;
 use std::alloc::Global;
 use virt_base::NoMemory;
 

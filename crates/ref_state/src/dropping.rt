@@ -1,11 +1,11 @@
 ghost use Rattle.std.specs.Prelude.{OnOk};
 ghost use Rattle.reference_step.specs.Steps.{drops};
-ghost use Rattle.ref_drops.specs.Losses.{IsLoss};
+ghost use Rattle.ref_host_calls.specs.Losses.{IsLoss};
 ghost use Rattle.ref_state.specs.States.{IsState, reference_of};
 
 use crate::state::State;
 use host_port::{Host, Resource};
-use ref_drops::drop_live;
+use ref_host_calls::drop_live;
 use std::alloc::Global;
 use virt_base::NoMemory;
 

@@ -1,6 +1,6 @@
 // What rows read of a state is within its words.
 ghost use Rattle.reference_step.specs.State.{view_of};
-ghost use Rattle.ref_typed.specs.Sound.{IsSound};
+ghost use Rattle.ref_sound.specs.Sound.{IsSound};
 ghost use Rattle.ref_state.specs.States.{IsState, reference_of};
 
 use crate::state::State;

@@ -15,21 +15,21 @@ use Rattle.reference_step.specs.OutputStreams as output
 use Rattle.reference_step.specs.Rows.{handle, flags, text, bytes, number as num}
 use Rattle.reference_step.specs.State.{View, Row, returns, fails, stores}
 use Rattle.reference_step.specs.Values.{done, ok, number as number_value}
-use Rattle.ref_methods.specs.declared.methods.Look.{Look}
-use Rattle.ref_methods.specs.declared.methods.Look.TheVariants.{ReadViaStream, GetFlags, GetType, Read, ReadDirectory, Stat, StatAt, OpenAt, ReadlinkAt, MetadataHash, MetadataHashAt}
-use Rattle.ref_methods.specs.declared.methods.Change.{Change}
-use Rattle.ref_methods.specs.declared.methods.Change.TheVariants.{WriteViaStream, AppendViaStream, SetSize, SetTimes, Write, CreateDirectoryAt, RemoveDirectoryAt, UnlinkFileAt, SymlinkAt, SetTimesAt}
-use Rattle.ref_methods.specs.declared.methods.Pair.{Pair}
-use Rattle.ref_methods.specs.declared.methods.Pair.TheVariants.{LinkAt, RenameAt, IsSameObject}
-use Rattle.ref_methods.specs.declared.methods.Method.{Method}
-use Rattle.ref_methods.specs.declared.methods.Method.TheVariants.{Looks, Changes, Pairs, Syncs, ReadDirectoryEntry}
-use Rattle.ref_methods.specs.declared.streams.InputMethod.{InputMethod}
-use Rattle.ref_methods.specs.declared.streams.InputMethod.TheVariants.{Read as ReadStream, Skip, Subscribe}
-use Rattle.ref_methods.specs.declared.streams.OutputMethod.{OutputMethod}
-use Rattle.ref_methods.specs.declared.streams.OutputMethod.TheVariants.{CheckWrite, Write as WriteStream, Flush, WriteZeroes, Splice, Subscribe as SubscribeOut}
-use Rattle.ref_methods.specs.declared.streams.StreamMethod.{StreamMethod}
-use Rattle.ref_methods.specs.declared.streams.StreamMethod.TheVariants.{Input, Output}
-use Rattle.ref_methods.specs.Methods.{look_row, change_row, pair_row, method_row, input_row, output_row, stream_row}
+use Rattle.ref_virtual.specs.declared.methods.Look.{Look}
+use Rattle.ref_virtual.specs.declared.methods.Look.TheVariants.{ReadViaStream, GetFlags, GetType, Read, ReadDirectory, Stat, StatAt, OpenAt, ReadlinkAt, MetadataHash, MetadataHashAt}
+use Rattle.ref_virtual.specs.declared.methods.Change.{Change}
+use Rattle.ref_virtual.specs.declared.methods.Change.TheVariants.{WriteViaStream, AppendViaStream, SetSize, SetTimes, Write, CreateDirectoryAt, RemoveDirectoryAt, UnlinkFileAt, SymlinkAt, SetTimesAt}
+use Rattle.ref_virtual.specs.declared.methods.Pair.{Pair}
+use Rattle.ref_virtual.specs.declared.methods.Pair.TheVariants.{LinkAt, RenameAt, IsSameObject}
+use Rattle.ref_virtual.specs.declared.methods.Method.{Method}
+use Rattle.ref_virtual.specs.declared.methods.Method.TheVariants.{Looks, Changes, Pairs, Syncs, ReadDirectoryEntry}
+use Rattle.ref_virtual.specs.declared.stream_methods.InputMethod.{InputMethod}
+use Rattle.ref_virtual.specs.declared.stream_methods.InputMethod.TheVariants.{Read as ReadStream, Skip, Subscribe}
+use Rattle.ref_virtual.specs.declared.stream_methods.OutputMethod.{OutputMethod}
+use Rattle.ref_virtual.specs.declared.stream_methods.OutputMethod.TheVariants.{CheckWrite, Write as WriteStream, Flush, WriteZeroes, Splice, Subscribe as SubscribeOut}
+use Rattle.ref_virtual.specs.declared.stream_methods.StreamMethod.{StreamMethod}
+use Rattle.ref_virtual.specs.declared.stream_methods.StreamMethod.TheVariants.{Input, Output}
+use Rattle.ref_virtual.specs.Methods.{look_row, change_row, pair_row, method_row, input_row, output_row, stream_row}
 use Rattle.ref_virtual.specs.Acting.{acts}
 
 abbrev Acts : Row → Type 0

@@ -12,11 +12,11 @@ use Rattle.ref_answers.specs.declared.row.Row.TheVariants.{Traps, Does}
 use Rattle.ref_answers.specs.Shown.{shown}
 use Rattle.ref_files.specs.Inside.{row_inside}
 use Rattle.ref_files.proofs.InsideLemmas.{becomes_in, effect_fixed, makes_in, row_fixed}
-use Rattle.ref_methods.specs.declared.methods.Method.{Method}
-use Rattle.ref_methods.specs.declared.streams.InputMethod.{InputMethod}
-use Rattle.ref_methods.specs.declared.streams.OutputMethod.{OutputMethod}
-use Rattle.ref_methods.specs.Methods.{input_row, output_row, method_row}
-use Rattle.ref_methods.specs.Others.{is_no_source, is_no_sink, is_other}
+use Rattle.ref_virtual.specs.declared.methods.Method.{Method}
+use Rattle.ref_virtual.specs.declared.stream_methods.InputMethod.{InputMethod}
+use Rattle.ref_virtual.specs.declared.stream_methods.OutputMethod.{OutputMethod}
+use Rattle.ref_virtual.specs.Methods.{input_row, output_row, method_row}
+use Rattle.ref_virtual.specs.Others.{is_no_source, is_no_sink, is_other}
 use Rattle.ref_scratch.specs.Told.{told}
 use Rattle.ref_virtual.proofs.OtherLemmas.{other_of}
 

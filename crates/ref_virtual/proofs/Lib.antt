@@ -1,3 +1,10 @@
+pub mod HandleLemmas
+mod NameLemmas
+pub mod MethodsOtherLemmas
+mod NodeLemmas
+mod PollLemmas
+mod InterfaceLemmas
+pub mod WordLaws
 mod ToldLemmas
 mod BesideLemmas
 mod OtherLemmas

@@ -5,9 +5,9 @@ use Rattle.tree_table.specs.Tables.{Forest}
 use Rattle.reference_step.specs.Handles.{Content}
 use Rattle.reference_step.specs.State.{View}
 use Rattle.ref_files.specs.Views.{HoldsTrees}
-use Rattle.ref_methods.specs.declared.methods.Method.{Method}
-use Rattle.ref_methods.specs.declared.methods.Method.TheVariants.{Looks, Changes, Pairs, Syncs, ReadDirectoryEntry}
-use Rattle.ref_methods.specs.Others.{is_no_descriptor, is_no_listing, is_other}
+use Rattle.ref_virtual.specs.declared.methods.Method.{Method}
+use Rattle.ref_virtual.specs.declared.methods.Method.TheVariants.{Looks, Changes, Pairs, Syncs, ReadDirectoryEntry}
+use Rattle.ref_virtual.specs.Others.{is_no_descriptor, is_no_listing, is_other}
 
 pub other_of : (method : Method) (c : Content) → is_no_descriptor c ≡ true → is_no_listing c ≡ true → is_other method c ≡ true
 other_of (Looks look) c descriptor listing = descriptor

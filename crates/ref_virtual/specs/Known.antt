@@ -6,7 +6,7 @@ use Rattle.reference_step.specs.Values.{nth, numbers_in}
 use Rattle.ref_live.specs.Contents.{open_file}
 use Rattle.ref_live.specs.declared.content.Content.{Content}
 use Rattle.ref_live.specs.declared.content.Handle.{Handle}
-use Rattle.ref_methods.specs.Held.{content_held}
+use Rattle.ref_virtual.specs.Held.{content_held}
 
 -- the scratch file that a content holds open, if it holds one, is there
 abbrev pub file_open : ScratchMap → Content → Type 0

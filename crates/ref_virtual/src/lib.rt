@@ -1,15 +1,33 @@
 //! What a function answers that is answered without the host: the row of its WIT name.
 //!
-//! `row_of` finds the interface and the method; what a method answers goes by what its first handle stands for. `ref_methods`
-//! holds the rows of trees and of what has no files, and the modules here those of the scratch folder, which is changed in place.
+//! `row_of` finds the interface and the method; what a method answers goes by what its first handle stands for: a node of a tree, a
+//! listing of its folder, a stream from its file, a stream of nothing, or what is none of these. A name becomes a method once
+//! (`method_named`, `stream_method_named`). The modules of the scratch folder change it in place.
 #![tactic(auto)]
 
+mod args;
 mod beside;
 mod bytes;
 mod files;
 mod filesystem;
+mod interfaces;
+mod methods;
+mod named;
+mod nodes;
+mod others;
+mod polling;
 mod roots;
 mod rows;
+mod stream_methods;
+mod streaming;
 mod streams;
 
+pub use args::{bytes_at, content_at, flags_at, number_at, text_at};
+pub use interfaces::{Handleless, Interface, handleless_row, interface_at};
+pub use methods::{Change, Look, Method, Pair, method_named};
+pub use nodes::node_row;
+pub use others::{is_next, listing_row, other_row};
+pub use polling::poll_row;
 pub use rows::row_of;
+pub use stream_methods::{InputMethod, OutputMethod, StreamMethod, stream_method_named};
+pub use streaming::{discard_row, empty_input_row, file_input_row};

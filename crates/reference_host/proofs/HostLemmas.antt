@@ -7,7 +7,7 @@ use Rattle.host_port.specs.Hosts.{HostStep, Kept, answer_of, reacts, drops}
 use Rattle.reference_step.specs.State.{Reference, Setup, opening}
 use Rattle.reference_step.specs.Steps as reference
 use Rattle.reference_step.specs.Steps.{reference_step}
-use Rattle.ref_drops.specs.Losses.{IsLoss}
+use Rattle.ref_host_calls.specs.Losses.{IsLoss}
 use Rattle.ref_host_calls.specs.Reactions.{IsReaction}
 use Rattle.ref_state.specs.declared.state.State.{State}
 use Rattle.ref_state.specs.States.{reference_of}

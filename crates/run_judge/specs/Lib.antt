@@ -1,6 +1,9 @@
+pub mod Callable
 pub mod Applications
 pub mod Components
 pub mod Ends
 pub mod Limits
 pub mod Scripts
 pub mod Types
+pub mod Fetching
+pub mod Inputs

@@ -4,7 +4,7 @@ use Rattle.comp_types.specs.Items.{Entries}
 use Rattle.host_script.specs.declared.script.Script.{Script}
 use Rattle.host_script.specs.declared.fault.ScriptFault.TheVariants as faults
 use Rattle.host_script.specs.Script.{due_script, json_in, script_seen}
-use Rattle.script_exports.specs.Callable.{callable}
+use Rattle.run_judge.specs.Callable.{callable}
 use Rattle.run_judge.specs.declared.refusal.RunRefusal.{RunRefusal}
 use Rattle.run_judge.specs.declared.refusal.RunRefusal.TheVariants.{OverLimit, BadScript, NoMemory}
 

@@ -1,18 +1,27 @@
-//! What runs: a component and a script are judged, before anything runs; and how a run ended.
+//! What a run begins with: the component and the script of two files, judged before anything runs, with the functions that can be
+//! called; and how a run ended.
 #![tactic(auto)]
 
 mod application;
 mod component;
 mod ends;
+mod fetching;
+mod functions;
+mod inputs;
 mod laws;
 mod limits;
 mod refusal;
 mod script;
 mod types;
+mod unready;
 
 pub use application::{Application, judge_application};
 pub use component::{Judged, judge_component};
 pub use ends::{RunEnd, end_of};
+pub use fetching::fetch;
+pub use functions::callable;
+pub use inputs::{Inputs, ListedInputs, fetch_inputs, fetch_listed};
 pub use laws::has_one_verdict;
 pub use refusal::RunRefusal;
 pub use script::judge_script;
+pub use unready::Unready;

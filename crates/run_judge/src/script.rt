@@ -1,13 +1,13 @@
 ghost use Rattle.std.specs.Prelude.{IfOk};
 ghost use Rattle.host_script.specs.Script.{AreTyped};
-ghost use Rattle.script_exports.specs.Callable.{callable};
+ghost use Rattle.run_judge.specs.Callable.{callable};
 ghost use Rattle.run_judge.specs.Scripts.{JudgesScript};
 
+use crate::callable;
 use crate::limits::within;
 use crate::refusal::RunRefusal;
 use comp_signature::ComponentType;
 use host_script::{Script, ScriptFault, read_script};
-use script_exports::callable;
 use std::alloc::Global;
 
 /// A script has at most so many bytes.

@@ -1,3 +1,4 @@
 pub mod Shown
 pub mod Whether
 pub mod Parts
+pub mod Payloads

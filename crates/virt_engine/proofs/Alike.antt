@@ -14,7 +14,7 @@ use Rattle.comp_types.specs.Added.{type_of}
 use Rattle.host_port.specs.Scripts as port
 use Rattle.host_script.specs.Script.{PlainScript, due_script, json_in}
 use Rattle.host_script.specs.declared.fault.ScriptFault.{ScriptFault}
-use Rattle.script_exports.specs.Callable.{callable}
+use Rattle.run_judge.specs.Callable.{callable}
 use Rattle.reference_step.specs.State.{opening}
 use Rattle.reference_step.specs.Steps.{reference_step}
 use Rattle.reference_host.specs.Hosts.{setup_for}
@@ -24,8 +24,8 @@ use Rattle.wasi_match.specs.Verdicts.{Accepted}
 use Rattle.wasi_match.proofs.VerdictLaws.{one_verdict as one_listing}
 use Rattle.run_judge.specs.Components.{IsRefusal, IsRunnable}
 use Rattle.run_judge.specs.Applications.{IsApplicationRefusal}
-use Rattle.run_inputs.specs.Inputs.{IsListedBy}
-use Rattle.sink_lines.specs.Lines.{text_of}
+use Rattle.run_judge.specs.Inputs.{IsListedBy}
+use Rattle.virt_words.specs.Lines.{text_of}
 use Rattle.virt_engine.specs.declared.runner.Shown.{Shown}
 use Rattle.virt_engine.specs.declared.status.Status.{Status}
 use Rattle.virt_engine.specs.Alike.{CameTo}

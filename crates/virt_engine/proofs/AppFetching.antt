@@ -7,8 +7,8 @@ use Rattle.comp_signature.specs.declared.ComponentType.{ComponentType}
 use Rattle.virt_engine.specs.declared.app.App.{App}
 use Rattle.virt_engine.specs.declared.status.Status.{Status}
 use Rattle.virt_engine.specs.declared.status.Status.TheVariants.{Done, PolicyRefused, AppRefused, FileFault, SinkFault, OverLimit, NoMemory, ScriptRefused, Trapped, ScriptEnded, StepsSpent, BadAnswer, TooDeep, Usage}
-use Rattle.run_inputs.specs.declared.unready.Unready.{Unready}
-use Rattle.run_inputs.specs.Fetching.{Fetches}
+use Rattle.run_judge.specs.declared.unready.Unready.{Unready}
+use Rattle.run_judge.specs.Fetching.{Fetches}
 use Rattle.virt_engine.specs.Fetching.{unready_as, IsFileFault}
 use Rattle.virt_engine.proofs.Fetching.{no_fault, app_not_read}
 use Rattle.virt_engine.specs.Apps.{app_limit, Refuses, IsRefusedBy, Judges, AppCause, FetchesApp}

@@ -9,7 +9,7 @@ use Rattle.call_frames.specs.declared.end.RunEnd.{RunEnd as CallEnd}
 use Rattle.call_frames.specs.declared.end.RunEnd.TheVariants as calls
 use Rattle.run_judge.specs.declared.ends.RunEnd.{RunEnd}
 use Rattle.run_judge.specs.declared.ends.RunEnd.TheVariants as ends
-use Rattle.call_laws.specs.Configs.{world_of}
+use Rattle.call_moments.specs.Configs.{world_of}
 use Rattle.call_moments.specs.Leads.{Moment}
 use Rattle.comp_interp.specs.Outcomes.{ComesTo}
 use Rattle.virt_engine.specs.Lines.{end_by, seen_by}

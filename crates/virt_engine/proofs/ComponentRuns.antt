@@ -20,16 +20,16 @@ use Rattle.comp_worlds.specs.Observed.{Call, obs_deep}
 use Rattle.comp_link.specs.Linking.{group_of, linked}
 use Rattle.comp_exports.proofs.Made.{exports_linked}
 use Rattle.comp_exports.proofs.Spelled.{spelled_define}
-use Rattle.comp_plans.specs.declared.linked.Linked.{Linked}
-use Rattle.comp_plans.specs.Groups.{linked_group}
+use Rattle.comp_link.specs.declared.linked.Linked.{Linked}
+use Rattle.comp_link.specs.Groups.{linked_group}
 use Rattle.host_script.specs.declared.script.Call.{Call as ScriptCall}
 use Rattle.host_script.specs.Script.{PlainCall, Exports, IsTypedCall, AreTyped, call_seen}
-use Rattle.script_exports.specs.Callable.{callable}
+use Rattle.run_judge.specs.Callable.{callable}
 use Rattle.run_judge.specs.declared.component.Judged.{Judged}
 use Rattle.run_judge.specs.declared.ends.RunEnd.{RunEnd}
 use Rattle.run_judge.specs.Types.{first_handle, first_unmet, or_later, type_fault}
 use Rattle.run_judge.specs.Components.{IsRunnable, Judges}
-use Rattle.output_valid.proofs.Exported.{exports_fit}
+use Rattle.output_same.proofs.Exported.{exports_fit}
 use Rattle.comp_interp.specs.Runs.{host_in, IsNew}
 use Rattle.comp_interp.specs.Outcomes.{group_in, MayCall, export_named}
 use Rattle.virt_engine.specs.declared.runner.Runner.{Runner}

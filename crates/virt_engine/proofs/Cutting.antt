@@ -5,7 +5,7 @@ use Rattle.std.proofs.lemmas.List.{length-append, length-drop, take-append-le, t
 use Rattle.wit_types.specs.Plain.{Plain}
 use Rattle.host_port.specs.Calls.{PlainObservation}
 use Rattle.script_lines.specs.Lines.{line_text}
-use Rattle.sink_lines.specs.Lines.{cut, total}
+use Rattle.virt_words.specs.Lines.{cut, total}
 use Rattle.virt_engine.specs.Lines.{AreLines}
 use Rattle.virt_engine.proofs.Ending.{line_more}
 

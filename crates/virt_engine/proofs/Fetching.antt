@@ -9,9 +9,9 @@ use Rattle.policy_data.specs.declared.fault.ReadPolicyFault.{ReadPolicyFault}
 use Rattle.policy_data.specs.declared.fault.ReadPolicyFault.TheVariants as faults
 use Rattle.run_judge.specs.declared.refusal.RunRefusal.{RunRefusal}
 use Rattle.run_judge.specs.declared.refusal.RunRefusal.TheVariants as refusals
-use Rattle.run_inputs.specs.declared.unready.Unready.{Unready}
-use Rattle.run_inputs.specs.declared.unready.Unready.TheVariants.{FileFault as Faulted, Refused}
-use Rattle.run_inputs.specs.Fetching.{IsFileFault as IsFault, IsTooLong, RefusesNone, Cause, Fetches}
+use Rattle.run_judge.specs.declared.unready.Unready.{Unready}
+use Rattle.run_judge.specs.declared.unready.Unready.TheVariants.{FileFault as Faulted, Refused}
+use Rattle.run_judge.specs.Fetching.{IsFileFault as IsFault, IsTooLong, RefusesNone, Cause, Fetches}
 use Rattle.virt_engine.specs.declared.status.Status.{Status}
 use Rattle.virt_engine.specs.declared.status.Status.TheVariants.{OverLimit}
 use Rattle.virt_engine.specs.Fetching.{with_input, unready_as, IsFileFault}

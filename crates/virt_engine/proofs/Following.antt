@@ -14,13 +14,13 @@ use Rattle.comp_worlds.specs.Groups.{Target, Group, Config, World, Outside}
 use Rattle.comp_worlds.specs.Calls.{at_rest, is_made, answers_if, leaves}
 use Rattle.comp_worlds.specs.Hosts.{hosted}
 use Rattle.comp_worlds.specs.Observed.{first_state, Call, without_handles}
-use Rattle.comp_parts.proofs.Fair.{host_fair}
-use Rattle.comp_runs.specs.Running.{running}
-use Rattle.comp_runs.proofs.Unfolding.{meets_without_fuel}
-use Rattle.comp_plans.specs.declared.linked.Linked.{Linked}
+use Rattle.comp_worlds.proofs.Fair.{host_fair}
+use Rattle.comp_frames.specs.Running.{running}
+use Rattle.comp_frames.proofs.Unfolding.{meets_without_fuel}
+use Rattle.comp_link.specs.declared.linked.Linked.{Linked}
 use Rattle.call_frames.specs.declared.end.RunEnd.{RunEnd as CallEnd}
 use Rattle.call_frames.specs.declared.end.RunEnd.TheVariants as calls
-use Rattle.call_laws.specs.Configs.{configs_of, world_of}
+use Rattle.call_moments.specs.Configs.{configs_of, world_of}
 use Rattle.host_script.specs.declared.script.Call.{Call as ScriptCall}
 use Rattle.host_script.specs.Script.{PlainCall, Exports, call_seen}
 use Rattle.run_judge.specs.declared.ends.RunEnd.{RunEnd}

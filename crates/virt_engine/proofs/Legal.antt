@@ -17,7 +17,7 @@ use Rattle.comp_names.specs.Same.{folded, is_same_name}
 use Rattle.comp_types.specs.Items.{Item, Entries, End, More, names, and_entry}
 use Rattle.comp_types.specs.Rules.{is_new_in}
 use Rattle.comp_interp.specs.Names.{is_hash}
-use Rattle.output_valid.proofs.Exported.{Fits, AllFit}
+use Rattle.output_same.proofs.Exported.{Fits, AllFit}
 use Rattle.virt_engine.proofs.Named.{Lacks, StandsAlone, StandAlone, HaveNot, AllDiffer}
 
 -- ---- bytes

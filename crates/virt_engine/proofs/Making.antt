@@ -3,8 +3,8 @@ use Rattle.std.proofs.Common.{◌≡◌, [], Ok}
 use Rattle.comp_grammar.specs.Trees.{plain}
 use Rattle.comp_types.specs.Added.{after_tree, root}
 use Rattle.comp_link.specs.Plans.{plan_of}
-use Rattle.comp_plans.specs.declared.linked.Linked.{Linked}
-use Rattle.comp_plans.specs.Planned.{plan_in}
+use Rattle.comp_link.specs.declared.linked.Linked.{Linked}
+use Rattle.comp_link.specs.Planned.{plan_in}
 use Rattle.comp_interp.specs.Sound.{CanBeMade}
 use Rattle.comp_interp.proofs.Sounding.{linked_can_be_made}
 use Rattle.run_judge.specs.declared.component.Judged.{Judged}

@@ -6,9 +6,9 @@ use Rattle.comp_grammar.specs.Trees.{Part, Tree, CoreModule, Nested, CoreInstanc
 use Rattle.comp_write.specs.Copying.{bare_part, bare, SpellsBare}
 use Rattle.comp_types.specs.Added.{type_of}
 use Rattle.output_form.specs.Output.{exporting, output_tree}
-use Rattle.output_valid.specs.Holding.{and_inner, components_in}
-use Rattle.output_valid.proofs.Bare.{same_valid, same_type}
-use Rattle.output_valid.proofs.Outputs.{output_stands, same_types}
+use Rattle.output_same.specs.Holding.{and_inner, components_in}
+use Rattle.output_same.proofs.Bare.{same_valid, same_type}
+use Rattle.output_same.proofs.Outputs.{output_stands, same_types}
 use Rattle.comp_exports.proofs.Spelled.{spelled_define}
 use Rattle.output_same.proofs.Same.{outputs_same}
 use Rattle.virt_output.specs.Bytes.{back_bytes}

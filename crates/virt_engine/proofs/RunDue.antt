@@ -12,7 +12,7 @@ use Rattle.comp_types.specs.Added.{type_of}
 use Rattle.host_script.specs.Script.{PlainScript, due_script, json_in}
 use Rattle.host_script.specs.declared.fault.ScriptFault.{ScriptFault}
 use Rattle.host_script.specs.declared.fault.ScriptFault.TheVariants as faults
-use Rattle.script_exports.specs.Callable.{callable}
+use Rattle.run_judge.specs.Callable.{callable}
 use Rattle.run_judge.specs.declared.refusal.RunRefusal.{RunRefusal}
 use Rattle.run_judge.specs.declared.refusal.RunRefusal.TheVariants as refusals
 use Rattle.run_judge.specs.Components.{IsRefusal, IsRunnable}
@@ -20,8 +20,8 @@ use Rattle.run_judge.specs.Applications.{IsApplicationRefusal}
 use Rattle.run_judge.specs.Scripts.{script_limit}
 use Rattle.run_judge.proofs.Verdicts.{one_verdict, one_application}
 use Rattle.run_judge.proofs.Refusals.{one_refusal, one_application_refusal}
-use Rattle.run_inputs.specs.declared.unready.Unready.TheVariants as unready
-use Rattle.run_inputs.specs.Inputs.{Fitting, IsListedBy, RefusesScript}
+use Rattle.run_judge.specs.declared.unready.Unready.TheVariants as unready
+use Rattle.run_judge.specs.Inputs.{Fitting, IsListedBy, RefusesScript}
 use Rattle.virt_engine.specs.declared.status.Status.{Status}
 use Rattle.virt_engine.specs.declared.status.Status.TheVariants.{Done, Usage}
 use Rattle.virt_engine.specs.Command.{RunCommand}

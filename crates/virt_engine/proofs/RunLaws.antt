@@ -15,11 +15,11 @@ use Rattle.run_judge.specs.declared.component.Judged.{Judged}
 use Rattle.run_judge.specs.Components.{component_limit, Faulting, IsUnfit, IsRefusal, IsRefusalBy, IsRunnable}
 use Rattle.run_judge.specs.Applications.{IsUnlisted, IsApplicationRefusal}
 use Rattle.run_judge.specs.Scripts.{script_limit}
-use Rattle.run_inputs.specs.declared.unready.Unready.{Unready}
-use Rattle.run_inputs.specs.declared.unready.Unready.TheVariants.{FileFault as Faulted, Refused}
-use Rattle.run_inputs.specs.declared.inputs.Inputs.{Inputs}
-use Rattle.run_inputs.specs.Fetching.{Cause}
-use Rattle.run_inputs.specs.Inputs.{IsListedBy, RefusesScript, HasComponent, HasApplication, AreReady, ScriptCause, InputsCause, ListedCause}
+use Rattle.run_judge.specs.declared.unready.Unready.{Unready}
+use Rattle.run_judge.specs.declared.unready.Unready.TheVariants.{FileFault as Faulted, Refused}
+use Rattle.run_judge.specs.declared.inputs.Inputs.{Inputs}
+use Rattle.run_judge.specs.Fetching.{Cause}
+use Rattle.run_judge.specs.Inputs.{IsListedBy, RefusesScript, HasComponent, HasApplication, AreReady, ScriptCause, InputsCause, ListedCause}
 use Rattle.virt_engine.specs.declared.runner.Shown.{Shown}
 use Rattle.virt_engine.specs.declared.status.Status.{Status}
 use Rattle.virt_engine.specs.declared.status.Status.TheVariants.{Done, PolicyRefused, AppRefused, FileFault, SinkFault, OverLimit, NoMemory, ScriptRefused, Trapped, ScriptEnded, StepsSpent, BadAnswer, TooDeep, Usage}

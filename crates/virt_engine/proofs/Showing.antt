@@ -18,15 +18,15 @@ use Rattle.host_port.specs.Scripts as port
 use Rattle.reference_step.specs.State.{opening}
 use Rattle.reference_step.specs.Steps.{reference_step}
 use Rattle.reference_host.specs.Hosts.{setup_for}
-use Rattle.script_exports.specs.Callable.{callable}
+use Rattle.run_judge.specs.Callable.{callable}
 use Rattle.run_judge.specs.Components.{IsRefusal, IsRunnable}
 use Rattle.run_judge.specs.Applications.{IsApplicationRefusal}
 use Rattle.run_judge.specs.declared.component.Judged.{Judged}
-use Rattle.run_inputs.specs.declared.unready.Unready.{Unready}
-use Rattle.run_inputs.specs.declared.inputs.Inputs.{Inputs}
-use Rattle.run_inputs.specs.declared.inputs.ListedInputs.{ListedInputs}
-use Rattle.run_inputs.specs.Inputs.{Fitting, IsListedBy, HasScript, AreListedReady, AreThere, FetchesInputs, FetchesListed}
-use Rattle.run_inputs.proofs.Both.{listed_earlier, ready_before}
+use Rattle.run_judge.specs.declared.unready.Unready.{Unready}
+use Rattle.run_judge.specs.declared.inputs.Inputs.{Inputs}
+use Rattle.run_judge.specs.declared.inputs.ListedInputs.{ListedInputs}
+use Rattle.run_judge.specs.Inputs.{Fitting, IsListedBy, HasScript, AreListedReady, AreThere, FetchesInputs, FetchesListed}
+use Rattle.run_judge.proofs.Both.{listed_earlier, ready_before}
 use Rattle.virt_engine.specs.declared.runner.Shown.{Shown}
 use Rattle.virt_engine.specs.declared.status.Status.{Status}
 use Rattle.virt_engine.specs.declared.status.Status.TheVariants.{Done, PolicyRefused, AppRefused, FileFault, SinkFault, OverLimit, NoMemory, ScriptRefused, Trapped, ScriptEnded, StepsSpent, BadAnswer, TooDeep, Usage}

@@ -6,7 +6,7 @@ use Rattle.outside.specs.Sink.{SinkState}
 use Rattle.outside.specs.declared.sink.PutFailed.{PutFailed}
 use Rattle.run_judge.specs.declared.ends.RunEnd.{RunEnd}
 use Rattle.run_judge.specs.declared.ends.RunEnd.TheVariants as ends
-use Rattle.sink_lines.specs.Lines.{text_of, PutsAll}
+use Rattle.virt_words.specs.Lines.{text_of, PutsAll}
 use Rattle.virt_engine.specs.declared.runner.Shown.{Shown}
 use Rattle.virt_engine.specs.Lines.{IsLine}
 use Rattle.virt_engine.specs.declared.status.Status.{Status}

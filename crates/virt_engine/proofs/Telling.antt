@@ -9,9 +9,9 @@ use Rattle.comp_worlds.specs.Groups.{Group, World}
 use Rattle.comp_worlds.specs.Calls.{does_all, is_made}
 use Rattle.comp_worlds.specs.Hosts.{hosted}
 use Rattle.comp_worlds.specs.Observed.{first_state, Call, asks_export, leaves_export, makes_calls, runs_calls, obs_deep}
-use Rattle.comp_parts.proofs.Fair.{host_fair}
-use Rattle.comp_runs.specs.Running.{running}
-use Rattle.comp_runs.proofs.Unfolding.{meets_without_fuel, runs_serve}
+use Rattle.comp_worlds.proofs.Fair.{host_fair}
+use Rattle.comp_frames.specs.Running.{running}
+use Rattle.comp_frames.proofs.Unfolding.{meets_without_fuel, runs_serve}
 use Rattle.virt_engine.specs.Told.{Item, Told, TypedCall, untyped, before, told_after, at_most, result_item, nothing_more, calls_export, told_calls, told}
 
 -- ---- one after the other

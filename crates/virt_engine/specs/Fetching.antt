@@ -1,8 +1,8 @@
 -- What reading a file of the command comes to.
 use Rattle.std.specs.Prelude.{ℕ, ◌≡◌, List, Option, Some, None, length, nat_lt, if◌then◌else◌}
 use Rattle.run_judge.specs.declared.refusal.RunRefusal.TheVariants as refusals
-use Rattle.run_inputs.specs.declared.unready.Unready.{Unready}
-use Rattle.run_inputs.specs.declared.unready.Unready.TheVariants as unready
+use Rattle.run_judge.specs.declared.unready.Unready.{Unready}
+use Rattle.run_judge.specs.declared.unready.Unready.TheVariants as unready
 use Rattle.virt_engine.specs.declared.status.Status.{Status}
 use Rattle.virt_engine.specs.declared.status.Status.TheVariants.{AppRefused, FileFault, OverLimit, NoMemory, ScriptRefused}
 

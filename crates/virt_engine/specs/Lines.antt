@@ -8,7 +8,7 @@ use Rattle.call_frames.specs.declared.end.RunEnd.TheVariants as calls
 use Rattle.run_judge.specs.declared.ends.RunEnd.{RunEnd}
 use Rattle.run_judge.specs.declared.ends.RunEnd.TheVariants.{Done, Trapped, ScriptEnded, StepsSpent, BadAnswer, TooDeep}
 use Rattle.script_lines.specs.Lines.{line_text}
-use Rattle.sink_lines.specs.Lines.{cut, total}
+use Rattle.virt_words.specs.Lines.{cut, total}
 
 -- the line of something seen
 abbrev pub IsLine : List ℕ → Type 0

@@ -6,7 +6,7 @@ use Rattle.comp_grammar.specs.Trees.{Tree}
 use Rattle.comp_grammar.specs.Components.{SpellsComponent}
 use Rattle.comp_types.specs.Added.{type_of}
 use Rattle.comp_types.specs.Validity.{IsValidComponent}
-use Rattle.output_valid.specs.Holding.{HoldsOnce}
+use Rattle.output_same.specs.Holding.{HoldsOnce}
 use Rattle.output_same.specs.Strategies.{DoesTheSame}
 use Rattle.virt_app.specs.Apps.{IsApp}
 use Rattle.virt_output.specs.Bytes.{front_bytes, back_bytes}

@@ -8,14 +8,14 @@ use Rattle.comp_types.specs.Items.{Entries}
 use Rattle.comp_grammar.specs.Trees.{Tree}
 use Rattle.comp_types.specs.Added.{type_of}
 use Rattle.host_script.specs.Script.{PlainScript, due_script, json_in}
-use Rattle.script_exports.specs.Callable.{callable}
+use Rattle.run_judge.specs.Callable.{callable}
 use Rattle.run_judge.specs.declared.refusal.RunRefusal.{RunRefusal}
 use Rattle.run_judge.specs.declared.refusal.RunRefusal.TheVariants as refusals
 use Rattle.run_judge.specs.Components.{IsRefusal, IsRunnable}
 use Rattle.run_judge.specs.Applications.{IsApplicationRefusal}
 use Rattle.run_judge.specs.Scripts.{script_limit}
-use Rattle.run_inputs.specs.declared.unready.Unready.TheVariants as unready
-use Rattle.run_inputs.specs.Inputs.{Fitting, IsListedBy, RefusesScript}
+use Rattle.run_judge.specs.declared.unready.Unready.TheVariants as unready
+use Rattle.run_judge.specs.Inputs.{Fitting, IsListedBy, RefusesScript}
 use Rattle.virt_engine.specs.declared.status.Status.{Status}
 use Rattle.virt_engine.specs.declared.status.Status.TheVariants.{FileFault}
 use Rattle.virt_engine.specs.Command.{RunCommand}

@@ -4,9 +4,9 @@ use Rattle.wit_types.specs.Plain.{Plain}
 use Rattle.host_port.specs.Calls.{PlainObservation}
 use Rattle.host_port.specs.Hosts.{HostStep, Kept}
 use Rattle.comp_worlds.specs.Groups.{Target, Group}
-use Rattle.comp_plans.specs.declared.linked.Linked.{Linked}
+use Rattle.comp_link.specs.declared.linked.Linked.{Linked}
 use Rattle.call_frames.specs.declared.end.RunEnd.{RunEnd as CallEnd}
-use Rattle.call_laws.specs.Configs.{world_of}
+use Rattle.call_moments.specs.Configs.{world_of}
 use Rattle.host_script.specs.Script.{PlainCall, Exports}
 use Rattle.run_judge.specs.declared.ends.RunEnd.{RunEnd}
 use Rattle.run_judge.specs.declared.ends.RunEnd.TheVariants as ends

@@ -15,11 +15,11 @@ use Rattle.reference_host.specs.Hosts.{setup_for}
 use Rattle.run_judge.specs.Components.{IsRunnable}
 use Rattle.run_judge.specs.declared.ends.RunEnd.{RunEnd}
 use Rattle.run_judge.specs.declared.ends.RunEnd.TheVariants as ends
-use Rattle.run_inputs.specs.declared.unready.Unready.{Unready}
-use Rattle.run_inputs.specs.declared.inputs.Inputs.{Inputs}
-use Rattle.run_inputs.specs.declared.inputs.ListedInputs.{ListedInputs}
-use Rattle.run_inputs.specs.Inputs.{AreReady, AreListedReady, InputsCause, ListedCause}
-use Rattle.sink_lines.specs.Lines.{text_of}
+use Rattle.run_judge.specs.declared.unready.Unready.{Unready}
+use Rattle.run_judge.specs.declared.inputs.Inputs.{Inputs}
+use Rattle.run_judge.specs.declared.inputs.ListedInputs.{ListedInputs}
+use Rattle.run_judge.specs.Inputs.{AreReady, AreListedReady, InputsCause, ListedCause}
+use Rattle.virt_words.specs.Lines.{text_of}
 use Rattle.virt_engine.specs.declared.runner.Shown.{Shown}
 use Rattle.virt_engine.specs.Lines.{IsLine}
 use Rattle.virt_engine.specs.Shown.{IsShown, told_component, ShowsRun}

@@ -6,7 +6,7 @@ use Rattle.host_port.specs.Hosts.{HostStep}
 use Rattle.comp_link.specs.Linking.{group_of}
 use Rattle.comp_link.specs.Components.{component_obs_deep}
 use Rattle.host_script.specs.Script.{PlainCall, Exports}
-use Rattle.script_exports.specs.Callable.{callable}
+use Rattle.run_judge.specs.Callable.{callable}
 use Rattle.script_lines.specs.Lines.{line_text}
 use Rattle.run_judge.specs.declared.component.Judged.{Judged}
 use Rattle.run_judge.specs.declared.ends.RunEnd.{RunEnd}

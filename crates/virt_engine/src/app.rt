@@ -4,7 +4,7 @@ use crate::fetch::over_limit;
 use crate::status::Status;
 use comp_signature::ComponentType;
 use outside::Files;
-use run_inputs::fetch;
+use run_judge::fetch;
 use std::alloc::Global;
 use virt_app::{AppRefusal, judge_app};
 use virt_base::Text;

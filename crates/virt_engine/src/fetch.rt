@@ -1,8 +1,7 @@
 ghost use Rattle.virt_engine.specs.Fetching.{IsOverLimitOf};
 
 use crate::status::Status;
-use run_inputs::Unready;
-use run_judge::RunRefusal;
+use run_judge::{RunRefusal, Unready};
 use std::alloc::Global;
 use virt_base::Text;
 

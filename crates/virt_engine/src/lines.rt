@@ -1,17 +1,17 @@
 ghost use Rattle.std.specs.Prelude.{◌≡◌, ◌++◌, [], All, None, OnOk, map};
 ghost use Rattle.host_port.specs.Calls.{plain_observation};
 ghost use Rattle.script_lines.specs.Lines.{line_text, type_of};
-ghost use Rattle.sink_lines.specs.Lines.{PutsAll, text_of};
+ghost use Rattle.virt_words.specs.Lines.{PutsAll, text_of};
 ghost use Rattle.virt_engine.specs.Lines.{IsLine, Adds};
 
 use host_port::Observation;
 use outside::{PutFailed, Sink};
 use script_lines::append_line;
-use sink_lines::put_lines;
 use std::alloc::Global;
 use std::marker::Model;
 use std::mem;
 use virt_base::NoMemory;
+use virt_words::put_lines;
 use wit_types::WitType;
 
 /// Lines of what is seen of a run, each with an LF at its end.
@@ -25,7 +25,7 @@ pub struct Lines {
 
 impl Model for Lines {
     ghost use Rattle.std.specs.Prelude.{List, ℕ};
-    ghost use Rattle.sink_lines.specs.Lines.{cut};
+    ghost use Rattle.virt_words.specs.Lines.{cut};
     ghost use Rattle.virt_engine.specs.Lines.{AreLines};
 
     ghost Value = { List (List ℕ) };

@@ -4,7 +4,7 @@ use crate::status::{PolicyFault, Status};
 use outside::Files;
 use policy_data::{Policy, ReadPolicyFault};
 use policy_toml::read_policy;
-use run_inputs::fetch;
+use run_judge::fetch;
 use std::alloc::Global;
 use virt_base::Text;
 

@@ -1,7 +1,7 @@
 ghost use Rattle.std.specs.Prelude.{◌≡◌, [], IfOk, OnOk, drop, map};
 ghost use Rattle.comp_grammar.specs.Trees.{plain as plain_tree};
 ghost use Rattle.host_script.specs.Script.{AreTyped, call_seen, exports_seen};
-ghost use Rattle.script_exports.specs.Callable.{callable};
+ghost use Rattle.run_judge.specs.Callable.{callable};
 ghost use Rattle.script_lines.specs.Lines.{type_of};
 ghost use Rattle.virt_engine.specs.Calling.{result_named};
 ghost use Rattle.virt_engine.specs.Lines.{EndsBy};
@@ -14,8 +14,7 @@ use comp_interp::{Run, RunEnd as CallEnd};
 use comp_linking::link;
 use host_port::{Host, Observation};
 use host_script::{Call, ExportTypes};
-use run_judge::{Judged, RunEnd};
-use script_exports::callable;
+use run_judge::{Judged, RunEnd, callable};
 use std::alloc::Global;
 use virt_base::{NoMemory, Text};
 use wit_types::WitType;

@@ -9,11 +9,11 @@ use Rattle.comp_types.specs.Items.{Entries, End, More}
 use Rattle.comp_grammar.specs.Trees.{Part, Tree, Nested, Instances, Aliases, Exports, End as NoSection, More as Section}
 use Rattle.comp_grammar.specs.Components.{add, no_span, preamble}
 use Rattle.comp_write.specs.Copying.{SpellsBare}
-use Rattle.comp_pieces.specs.declared.piece.Piece.{Piece}
-use Rattle.comp_pieces.specs.declared.piece.Piece.TheVariants as pieces
-use Rattle.comp_pieces.specs.Pieces.{id_of, content_of, ItemsFit, IsPieceOf}
-use Rattle.comp_pieces.proofs.Adding.{begun}
-use Rattle.comp_pieces.proofs.PieceLaws.{piece_added, head_added}
+use Rattle.virt_output.specs.declared.piece.Piece.{Piece}
+use Rattle.virt_output.specs.declared.piece.Piece.TheVariants as pieces
+use Rattle.virt_output.specs.Pieces.{id_of, content_of, ItemsFit, IsPieceOf}
+use Rattle.virt_output.proofs.Adding.{begun}
+use Rattle.virt_output.proofs.PieceLaws.{piece_added, head_added}
 use Rattle.output_form.specs.Output.{one_instance, aliases_of, exports_of, output_tree}
 use Rattle.virt_output.specs.Bytes.{front_bytes, section_bytes, alias_content, export_content, exporting_bytes, back_bytes, CanBeSized}
 use Rattle.virt_output.proofs.FitLemmas.{instance_fits}

@@ -12,9 +12,9 @@ use Rattle.wasm_ast.specs.declared.component.Instance.{Instance}
 use Rattle.comp_types.specs.Items.{Entries, End, names}
 use Rattle.comp_types.specs.Views.{entries_of}
 use Rattle.comp_types.specs.declared.types.InstanceEntry.{InstanceEntry}
-use Rattle.comp_pieces.specs.Pieces.{Adds}
-use Rattle.comp_pieces.specs.declared.fault.PieceFault.{PieceFault}
-use Rattle.comp_pieces.specs.declared.fault.PieceFault.TheVariants.{NoMemory, TooLong}
+use Rattle.virt_output.specs.Pieces.{Adds}
+use Rattle.virt_output.specs.declared.fault.PieceFault.{PieceFault}
+use Rattle.virt_output.specs.declared.fault.PieceFault.TheVariants.{NoMemory, TooLong}
 use Rattle.output_form.specs.Output.{one_instance, aliases_of, exports_of}
 use Rattle.virt_output.specs.Bytes.{section_bytes, alias_content, export_content, exporting_bytes, AreShort, CanBeNamed, CanBeSized, AreWritable, AddsExports, Ends}
 use Rattle.virt_output.proofs.AroundLaws.{instance_content}

@@ -1,3 +1,5 @@
+pub mod Adding
+pub mod PieceLaws
 pub mod FitLemmas
 pub mod AroundLaws
 pub mod EndLaws

@@ -6,9 +6,9 @@ use Rattle.wasm_format.specs.Format.{vec, sized, anything}
 use Rattle.wasm_ast.specs.ComponentItems.{instance, alias, component_export}
 use Rattle.comp_types.specs.Items.{Entries, End, More, names}
 use Rattle.comp_grammar.specs.Components.{preamble}
-use Rattle.comp_pieces.specs.Pieces.{head_of_component}
-use Rattle.comp_pieces.specs.declared.fault.PieceFault.{PieceFault}
-use Rattle.comp_pieces.specs.declared.fault.PieceFault.TheVariants.{NoMemory, TooLong}
+use Rattle.virt_output.specs.Pieces.{head_of_component}
+use Rattle.virt_output.specs.declared.fault.PieceFault.{PieceFault}
+use Rattle.virt_output.specs.declared.fault.PieceFault.TheVariants.{NoMemory, TooLong}
 use Rattle.virt_output.specs.declared.around.Around.{Around}
 use Rattle.output_form.specs.Output.{one_instance, aliases_of, exports_of}
 

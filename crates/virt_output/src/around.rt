@@ -6,7 +6,7 @@ ghost use Rattle.virt_output.specs.Bytes.{front_bytes, Surrounds};
 
 use crate::back::back;
 use crate::items::{MOST, can_be_named};
-use comp_pieces::{PieceFault, put_component_head, start_component};
+use crate::{PieceFault, put_component_head, start_component};
 use comp_types::InstanceEntries;
 use std::alloc::Global;
 use virt_base::NoMemory;

@@ -1,9 +1,9 @@
-ghost use Rattle.comp_pieces.specs.Pieces.{Adds, ItemsFit, content_of, id_of};
+ghost use Rattle.virt_output.specs.Pieces.{Adds, ItemsFit, content_of, id_of};
 ghost use Rattle.comp_types.specs.Views.{entries_of};
 ghost use Rattle.virt_output.specs.Bytes.{AddsExports, CanBeNamed, Ends};
 
 use crate::items::{aliases_of, exports_of, one_instance};
-use comp_pieces::{Piece, PieceFault, put_piece};
+use crate::{Piece, PieceFault, put_piece};
 use comp_types::InstanceEntry;
 use std::alloc::Global;
 

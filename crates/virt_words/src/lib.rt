@@ -1,10 +1,13 @@
-//! What the words of a command line say: `virt`, `run` or `gen`, each a simple command that `clap` reads.
+//! What the words of a command line say: `virt`, `run` or `gen`, each a simple command that `clap` reads; and the lines that a program
+//! puts out.
 #![tactic(auto)]
 
 mod apps;
 mod command;
+mod lines;
 mod numbers;
 mod reading;
 
 pub use command::{Command, GenWords, RunWords, VirtWords, WordsFault};
+pub use lines::put_lines;
 pub use reading::read_words;

@@ -15,7 +15,7 @@ use Rattle.comp_types.specs.Matching.{Pairs, matched_entries}
 use Rattle.comp_types.proofs.MeetLaws.{equal_number, same_number, agrees-before, AllMeet}
 use Rattle.comp_types.proofs.ValueLaws.{Goes}
 use Rattle.comp_types.proofs.ItemLaws.{entries-sound, entries-complete, is_that}
-use Rattle.wasi_versions.specs.Names.{Versioned}
+use Rattle.wasi_match.specs.Names.{Versioned}
 use Rattle.wasi_match.specs.declared.listed.ListedUse.{ListedUse}
 use Rattle.wasi_match.specs.Offered.{offered}
 use Rattle.wasi_match.specs.Listed.{IsNamed, IsUse, AreUses, AreListed, interfaces}

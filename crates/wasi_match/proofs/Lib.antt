@@ -1,3 +1,5 @@
+pub mod CutLaws
+pub mod NumberLaws
 pub mod TableLaws
 pub mod FoundLemmas
 pub mod OfferLaws

@@ -3,7 +3,7 @@ use Rattle.std.proofs.Common.{◌≡◌, ◌∙◌, ap, refl, sym, ℕ, List, []
 use Rattle.wit_types.specs.Plain.{Name}
 use Rattle.comp_types.specs.Items.{Item, Entries, InstanceItem, End, More, and_entry}
 use Rattle.wasi_listed.specs.Listed.{described}
-use Rattle.wasi_versions.specs.Names.{Versioned}
+use Rattle.wasi_match.specs.Names.{Versioned}
 use Rattle.wasi_match.specs.declared.listed.ListedUse.{ListedUse}
 use Rattle.wasi_match.specs.Listed.{IsNamed, IsUse, AreUses, places}
 

@@ -11,7 +11,7 @@ use Rattle.comp_types.specs.Resources.{item_has_resource, entries_have_resource}
 use Rattle.comp_types.specs.Matching.{Pairs, onward, only_if, matched_entries}
 use Rattle.comp_types.proofs.MeetLaws.{came_from, held, equal_number}
 use Rattle.wasi_listed.specs.Listed.{described}
-use Rattle.wasi_versions.specs.Names.{Versioned, listed_as}
+use Rattle.wasi_match.specs.Names.{Versioned, listed_as}
 use Rattle.wasi_match.specs.declared.listed.ListedUse.{ListedUse}
 use Rattle.wasi_match.specs.declared.fault.Cause.{Cause}
 use Rattle.wasi_match.specs.declared.fault.Cause.TheVariants.{Unlisted, TwoVersions, WrongType}

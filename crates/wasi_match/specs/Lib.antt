@@ -1,3 +1,5 @@
+pub mod Names
+pub mod VersionsViews
 pub mod Offered
 pub mod Views
 pub mod Listed

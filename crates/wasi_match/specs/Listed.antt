@@ -10,7 +10,7 @@ use Rattle.comp_types.specs.Equality.{HasEach, IsOneToOne}
 use Rattle.comp_types.specs.Resources.{entries_have_resource}
 use Rattle.wasi_table.specs.Plain.{PlainNamedFunc}
 use Rattle.wasi_listed.specs.Listed.{described}
-use Rattle.wasi_versions.specs.Names.{Versioned, listed_as}
+use Rattle.wasi_match.specs.Names.{Versioned, listed_as}
 use Rattle.wasi_match.specs.declared.listed.ListedUse.{ListedUse}
 use Rattle.wasi_match.specs.Offered.{offered}
 

@@ -4,7 +4,7 @@ use Rattle.std.specs.Prelude.{◌≡◌, List, true, false, Contains, Option, So
 use Rattle.wit_types.specs.Plain.{Name}
 use Rattle.comp_types.specs.Items.{Item, Entries, Signature, End, More, and_entry}
 use Rattle.comp_types.specs.Resources.{item_has_resource, entries_have_resource}
-use Rattle.wasi_versions.specs.Names.{Versioned}
+use Rattle.wasi_match.specs.Names.{Versioned}
 use Rattle.wasi_match.specs.declared.listed.Listed.{Listed}
 use Rattle.wasi_match.specs.declared.listed.ListedUse.{ListedUse}
 use Rattle.wasi_match.specs.declared.fault.Cause.{Cause}

@@ -6,7 +6,7 @@ use Rattle.comp_types.specs.Items.{Item, Entries, Signature, FuncItem, InstanceI
 use Rattle.comp_types.specs.Resources.{item_has_resource}
 use Rattle.comp_types.specs.Matching.{Pairs, onward, only_if, matched_entries}
 use Rattle.wasi_listed.specs.Listed.{described}
-use Rattle.wasi_versions.specs.Names.{Versioned, listed_as}
+use Rattle.wasi_match.specs.Names.{Versioned, listed_as}
 use Rattle.wasi_match.specs.declared.listed.ListedUse.{ListedUse}
 use Rattle.wasi_match.specs.declared.fault.Cause.TheVariants.{Unlisted, TwoVersions, WrongType, HandleExport}
 use Rattle.wasi_match.specs.Offered.{offered}

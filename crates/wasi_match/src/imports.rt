@@ -4,7 +4,7 @@ ghost use Rattle.wit_types.specs.Plain.{Name};
 ghost use Rattle.comp_types.specs.Items.{Item, Entries};
 ghost use Rattle.comp_types.specs.Views.{item_of};
 ghost use Rattle.comp_signature.specs.Signatures.{component_signature};
-ghost use Rattle.wasi_versions.specs.Views.{plain_name};
+ghost use Rattle.wasi_match.specs.VersionsViews.{plain_name};
 ghost use Rattle.wasi_match.specs.Listed.{IsNamed, interfaces};
 ghost use Rattle.wasi_match.specs.Verdicts.{Answers};
 ghost use Rattle.wasi_match.specs.Walk.{HasOneVerdict};
@@ -16,12 +16,12 @@ use crate::fault::{Cause, MatchFault, fault_at};
 use crate::kinds::are_apart;
 use crate::listed::{Listed, ListedUse, ListedUses};
 use crate::offered::offer_of;
+use crate::{ListedName, listed_name};
 use comp_signature::ComponentType;
 use comp_types::{InstanceEntry, InstanceType, ItemType, Substitution};
 use std::alloc::Global;
 use virt_base::{Items, NoMemory, Text};
 use wasi_listed::INTERFACES;
-use wasi_versions::{ListedName, listed_name};
 
 /// The imports that were matched, and the kinds of their resources.
 #[derive(Debug, Drop)]

@@ -1,4 +1,5 @@
-//! Imports against the listed interfaces: which component is listed, and of one that is not, what is at fault first.
+//! Imports against the listed interfaces: their names with versions, which component is listed, and of one that is not, what is at
+//! fault first.
 #![tactic(auto)]
 
 mod entries;
@@ -8,7 +9,9 @@ mod imports;
 mod kinds;
 mod listed;
 mod offered;
+mod versions;
 
 pub use fault::{Cause, MatchFault};
 pub use imports::{has_one_verdict, match_imports};
 pub use listed::{Listed, ListedUse, ListedUses};
+pub use versions::{ListedName, interface_named, is_version, listed_name};

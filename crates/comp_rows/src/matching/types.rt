@@ -2,7 +2,7 @@
 //! their own, as `enum:a,b` or `record:a,b u8 string`.
 
 use crate::spelling::number;
-use comp_kinds::{kind_of, value_at};
+use comp_defining::{kind_of, value_at};
 use comp_scopes::Scope;
 use comp_types::{ItemType, KnownValue, TypeItem};
 use std::alloc::Global;

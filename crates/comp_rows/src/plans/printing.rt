@@ -1,7 +1,7 @@
 //! Plans in words.
 
 use crate::words::put;
-use comp_plans::{ItemAt, Linked, PlanArg, PlanItem};
+use comp_link::{ItemAt, Linked, PlanArg, PlanItem};
 use std::alloc::Global;
 use std::test::Fail;
 use virt_base::Text;

@@ -2,7 +2,7 @@ use Rattle.std.proofs.Common.{◌≡◌, ◌+◌, ◌*◌, ◌<◌, refl, sym, a
 use Rattle.std.proofs.lemmas.Option.{slice_get_read}
 use Rattle.adapter_code.specs.Code.{Stop, before, code_of}
 use Rattle.adapter_code.proofs.Codes.{size, size_at, size_if, size_repeat}
-use Rattle.adapter_spelled.specs.Spelled.{statements, AreNumbered}
+use Rattle.adapter_bytes.specs.Spelled.{statements, AreNumbered}
 use Rattle.adapter_bytes.proofs.Weighing.{statements_if, statements_repeat, numbered_if, numbered_repeat, if_some_map, if_none_map}
 use Rattle.adapter_bytes.proofs.statements.+weigh.Goals as goal
 

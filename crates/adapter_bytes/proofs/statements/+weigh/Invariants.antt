@@ -1,7 +1,7 @@
 use Rattle.std.proofs.Common.{◌≡◌, ◌+◌, ◌*◌, drop}
 use Rattle.adapter_code.specs.Code.{Stop, before, code_of}
 use Rattle.adapter_code.proofs.Codes.{size}
-use Rattle.adapter_spelled.specs.Spelled.{statements, AreNumbered}
+use Rattle.adapter_bytes.specs.Spelled.{statements, AreNumbered}
 use Rattle.adapter_bytes.proofs.statements.+weigh.Given as goal
 
 abbrev pub invariant-weigh-loop-statement : goal.invariant-weigh-loop-statement

@@ -4,9 +4,9 @@ use Rattle.wit_types.specs.PlainValue.{plain_value}
 use Rattle.comp_worlds.specs.Hosts.{passed_by}
 use Rattle.comp_worlds.specs.Locals.{adds_handles, with_map}
 use Rattle.comp_worlds.specs.Passing.{blank, handles_of, unlend_all}
-use Rattle.instance_handles.specs.declared.loan.Loan.{Loan}
-use Rattle.instance_handles.specs.Owning.{plain_for}
-use Rattle.instance_handles.specs.Loans.{indexes_of}
+use Rattle.instance_state.specs.declared.loan.Loan.{Loan}
+use Rattle.instance_state.specs.Owning.{plain_for}
+use Rattle.instance_state.specs.Loans.{indexes_of}
 use Rattle.instance_state.specs.Shown.{config_of}
 use Rattle.instance_values.specs.Passed.{IsLoweredAs, result_plan}
 use Rattle.call_frames.proofs.passing.begin_result.Goals as goal

@@ -2,7 +2,7 @@ use Rattle.std.proofs.Common.{◌≡◌, true}
 use Rattle.wit_types.specs.Plain.{plain}
 use Rattle.abi_load.specs.Lifted.{words}
 use Rattle.comp_worlds.specs.Locals.{lifts}
-use Rattle.instance_handles.specs.Loans.{indexes_of}
+use Rattle.instance_state.specs.Loans.{indexes_of}
 use Rattle.instance_state.specs.Shown.{config_of}
 use Rattle.instance_values.specs.Passed.{options_of, needs_memory, IsInStore}
 use Rattle.call_frames.proofs.Faults.{lift_fails}

@@ -1,7 +1,7 @@
 use Rattle.std.proofs.Common.{◌≡◌, ◌∙◌, ◌∷◌, ◌++◌, ◌+◌, [], ap, sym, take}
 use Rattle.std.proofs.lemmas.List.{take_more}
 use Rattle.comp_link.specs.Plans.{NamedArg, named_args}
-use Rattle.comp_plans.specs.Planned.{args_named}
+use Rattle.comp_link.specs.Planned.{args_named}
 use Rattle.comp_drafts.proofs.NamedLemmas.{args_last, named_last}
 use Rattle.comp_drafts.proofs.arguments.named_args.Goals as goal
 

@@ -2,7 +2,7 @@ use Rattle.std.proofs.Common.{◌≡◌, take}
 use Rattle.comp_types.specs.Spaces.{Space}
 use Rattle.comp_scopes.specs.Stands.{Stands}
 use Rattle.comp_link.specs.Plans.{named_args}
-use Rattle.comp_plans.specs.Planned.{args_named}
+use Rattle.comp_link.specs.Planned.{args_named}
 use Rattle.comp_drafts.proofs.arguments.named_args.Given as goal
 
 abbrev pub invariant-loop-item : goal.invariant-loop-item

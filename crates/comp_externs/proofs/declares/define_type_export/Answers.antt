@@ -2,7 +2,7 @@ use Rattle.std.proofs.Common.{◌≡◌, ◌∙◌, ap, sym, true}
 use Rattle.comp_types.specs.Declarations.{ATypeExport}
 use Rattle.comp_types.specs.Definitions.{AType}
 use Rattle.comp_types.specs.Rules.{desc_stands, lengths_of}
-use Rattle.comp_describes.proofs.IndexLemmas.{indexes_fail}
+use Rattle.comp_instances.proofs.IndexLemmas.{indexes_fail}
 use Rattle.comp_externs.proofs.TableLemmas.{makes, makes_nothing}
 use Rattle.comp_externs.proofs.declares.define_type_export.Goals as goal
 

@@ -1,7 +1,7 @@
 use Rattle.std.proofs.Common.{◌≡◌, ◌∙◌, ap, sym, true}
 use Rattle.comp_types.specs.Definitions.{AnExport}
 use Rattle.comp_types.specs.Rules.{export_stands, lengths_of}
-use Rattle.comp_describes.proofs.IndexLemmas.{indexes_fail}
+use Rattle.comp_instances.proofs.IndexLemmas.{indexes_fail}
 use Rattle.comp_externs.proofs.FaultLemmas.{early_fails}
 use Rattle.comp_externs.proofs.TableLemmas.{makes_nothing}
 use Rattle.comp_externs.proofs.exports.define_export.Goals as goal

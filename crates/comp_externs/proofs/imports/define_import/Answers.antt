@@ -2,7 +2,7 @@ use Rattle.std.proofs.Common.{◌≡◌, ◌∙◌, ap, sym, true}
 use Rattle.comp_types.specs.Definitions.{AnImport}
 use Rattle.comp_types.specs.Rules.{desc_stands, lengths_of}
 use Rattle.type_table.proofs.ScopeLaws.{covers_grew}
-use Rattle.comp_describes.proofs.IndexLemmas.{indexes_fail}
+use Rattle.comp_instances.proofs.IndexLemmas.{indexes_fail}
 use Rattle.comp_externs.proofs.TableLemmas.{makes, makes_nothing}
 use Rattle.comp_externs.proofs.imports.define_import.Goals as goal
 

@@ -6,7 +6,7 @@ use Rattle.comp_types.specs.Rules.{instance_stands, lengths_of}
 use Rattle.comp_scopes.specs.Judged.{Judged}
 use Rattle.type_table.specs.Anew.{Makes}
 use Rattle.type_table.proofs.HasLaws.{grew_same, some_none}
-use Rattle.comp_describes.proofs.IndexLemmas.{indexes_fail}
+use Rattle.comp_instances.proofs.IndexLemmas.{indexes_fail}
 use Rattle.comp_instances.proofs.instances.define_instance.Goals as goal
 
 pub returns-then-not-instance_stands : goal.returns-then-not-instance_stands

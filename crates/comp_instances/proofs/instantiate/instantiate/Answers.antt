@@ -4,8 +4,8 @@ use Rattle.comp_types.specs.Items.{Entries}
 use Rattle.comp_types.specs.Substitution.{partner_in, entries_with}
 use Rattle.comp_types.specs.GivenResources.{given_by, numbered, renamed}
 use Rattle.type_table.specs.Tables.{HasEntries}
-use Rattle.comp_describes.specs.Pairs.{FindAlike}
-use Rattle.comp_describes.proofs.AlikeLemmas.{alike-append, alike-renamed, alike-same, alike-then}
+use Rattle.comp_instances.specs.Pairs.{FindAlike}
+use Rattle.comp_instances.proofs.AlikeLemmas.{alike-append, alike-renamed, alike-same, alike-then}
 use Rattle.comp_instances.specs.Given.{and_pairs}
 use Rattle.comp_instances.proofs.GivenLemmas.{alike-pairs, length-numbered}
 use Rattle.comp_instances.proofs.instantiate.instantiate.Goals as goal

@@ -4,7 +4,7 @@ use Rattle.wasm_ast.specs.declared.component.OuterSort.TheVariants as outer_sort
 use Rattle.comp_types.specs.Spaces.{NestedComponent}
 use Rattle.comp_types.specs.Definitions.{AnAlias}
 use Rattle.comp_link.specs.Plans.{Plan, End, and_module, followed}
-use Rattle.comp_plans.proofs.Earlier.{followed-end}
+use Rattle.comp_link.proofs.Earlier.{followed-end}
 use Rattle.comp_drafts.specs.Drafts.{IsDraft}
 use Rattle.comp_linking.specs.Walks.{spaces, made}
 use Rattle.comp_linking.specs.Names.{outer_module}

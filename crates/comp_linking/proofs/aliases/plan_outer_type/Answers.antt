@@ -2,8 +2,8 @@ use Rattle.std.proofs.Common.{refl, sym, ◌∷◌, slice_get, None}
 use Rattle.wasm_ast.specs.declared.component.Alias.TheVariants.{Outer}
 use Rattle.wasm_ast.specs.declared.component.OuterSort.TheVariants as outer_sorts
 use Rattle.comp_types.specs.Definitions.{AnAlias}
-use Rattle.comp_plans.specs.Planned.{plan_items}
-use Rattle.comp_plans.proofs.Earlier.{followed-end}
+use Rattle.comp_link.specs.Planned.{plan_items}
+use Rattle.comp_link.proofs.Earlier.{followed-end}
 use Rattle.comp_linking.specs.Walks.{spaces}
 use Rattle.comp_linking.proofs.NameLemmas.{outer_type_stays}
 use Rattle.comp_linking.proofs.StepLemmas.{stands_after, behind_item}

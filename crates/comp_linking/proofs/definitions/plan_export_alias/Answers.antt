@@ -2,7 +2,7 @@ use Rattle.std.proofs.Common.{refl, ap, Some}
 use Rattle.wasm_ast.specs.declared.component.Alias.TheVariants.{Export}
 use Rattle.comp_types.specs.Definitions.{AnAlias}
 use Rattle.comp_link.specs.Plans.{ItemOf, just}
-use Rattle.comp_plans.specs.declared.items.PlanItem.TheVariants as items
+use Rattle.comp_link.specs.declared.items.PlanItem.TheVariants as items
 use Rattle.comp_linking.specs.Walks.{spaces}
 use Rattle.comp_linking.proofs.StayLemmas.{export_alias_stays}
 use Rattle.comp_linking.proofs.StepLemmas.{behind_judged}

@@ -9,8 +9,8 @@ use Rattle.comp_types.specs.Spaces.{Space}
 use Rattle.comp_types.specs.Added.{and_module, and_some_module}
 use Rattle.type_table.specs.Covers.{Covers}
 use Rattle.type_table.proofs.ScopeLaws.{covers_alias}
-use Rattle.comp_around.specs.Around.{StandAll}
-use Rattle.comp_around.proofs.Inner.{inner_stands}
+use Rattle.comp_outer.specs.Around.{StandAll}
+use Rattle.comp_outer.proofs.Inner.{inner_stands}
 use Rattle.comp_outer.proofs.OuterLemmas.{added_module}
 use Rattle.comp_outer.proofs.outer.add_module.Goals as goal
 

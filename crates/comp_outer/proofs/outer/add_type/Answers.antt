@@ -10,8 +10,8 @@ use Rattle.comp_types.specs.Spaces.{Space, and_type}
 use Rattle.comp_types.specs.Added.{and_some_type}
 use Rattle.type_table.specs.Covers.{Covers}
 use Rattle.type_table.proofs.ScopeLaws.{covers_alias}
-use Rattle.comp_around.specs.Around.{StandAll}
-use Rattle.comp_around.proofs.Inner.{inner_stands}
+use Rattle.comp_outer.specs.Around.{StandAll}
+use Rattle.comp_outer.proofs.Inner.{inner_stands}
 use Rattle.comp_outer.proofs.OuterLemmas.{added_type}
 use Rattle.comp_outer.proofs.outer.add_type.Goals as goal
 

@@ -5,7 +5,7 @@ use Rattle.abi_layout.specs.Handles.{handles}
 use Rattle.abi_load.specs.Lifted.{words}
 use Rattle.comp_worlds.specs.Passing.{named_in, lift_handles, lift_words}
 use Rattle.comp_worlds.specs.Locals.{bytes_in}
-use Rattle.instance_handles.specs.Loans.{indexes_of}
+use Rattle.instance_state.specs.Loans.{indexes_of}
 use Rattle.instance_state.specs.Shown.{config_of}
 use Rattle.instance_values.specs.Passed.{options_of}
 use Rattle.instance_values.proofs.Lifted.{lifted_as, stops_as, typed_as}

@@ -6,7 +6,7 @@ use Rattle.abi_store.specs.Targets.{plan_for}
 use Rattle.comp_worlds.specs.Passing.{blank, handles_of, spills_over}
 use Rattle.comp_worlds.specs.Hosts.{passed_by}
 use Rattle.comp_worlds.specs.Locals.{adds_handles}
-use Rattle.instance_handles.specs.Owning.{plain_for}
+use Rattle.instance_state.specs.Owning.{plain_for}
 use Rattle.instance_state.specs.Shown.{config_of}
 use Rattle.instance_values.specs.Passed.{params_plan}
 use Rattle.instance_values.proofs.Lifted.{planned_as, params_spill, params_flat}

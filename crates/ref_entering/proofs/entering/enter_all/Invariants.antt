@@ -1,7 +1,7 @@
 use Rattle.std.proofs.Common.{◌≡◌, ◌≤◌, ◌+◌, ◌++◌, ℕ, true, drop}
 use Rattle.reference_step.specs.Atoms.{handles}
 use Rattle.ref_live.specs.Lives.{count_of_kind}
-use Rattle.ref_room.specs.Entering.{are_kinds, count_kind}
+use Rattle.ref_entering.specs.RoomEntering.{are_kinds, count_kind}
 use Rattle.ref_guards.specs.Noted.{shown_all}
 use Rattle.ref_entering.specs.Entering.{with_handles, numbers_for}
 use Rattle.ref_entering.proofs.entering.enter_all.Given as goal

@@ -2,7 +2,7 @@ use Rattle.std.proofs.Common.{◌≤◌, ℕ, List, length, ap, sym, ◌∙◌, 
 use Rattle.wit_types.specs.Plain.{plain}
 use Rattle.wit_types.specs.PlainValue.{PlainValue, plain_value}
 use Rattle.abi_layout.specs.Handles.{handles}
-use Rattle.ref_numbers.proofs.NumberLaws.{numbers_agree}
+use Rattle.ref_entering.proofs.NumberLaws.{numbers_agree}
 use Rattle.ref_entering.proofs.EnterLemmas.{count_agrees}
 use Rattle.ref_entering.proofs.values.renumber_value.Goals as goal
 

@@ -4,7 +4,7 @@ use Rattle.wit_types.specs.PlainValue.{plain_values, values_of, byte_values}
 use Rattle.wit_types.proofs.ValueLemmas.{plain_values-Each, plain_values-Bytes}
 use Rattle.abi_layout.specs.Handles.{field_handles, renumbered_fields}
 use Rattle.host_port.specs.Calls.{fields_in}
-use Rattle.value_numbers.proofs.Changes.{bytes_fields_stay}
+use Rattle.value_handles.proofs.Changes.{bytes_fields_stay}
 use Rattle.ref_host_calls.proofs.ArgumentLemmas.{fields_count, fields_same}
 use Rattle.ref_host_calls.proofs.arguments.renumber_arguments.Goals as goal
 

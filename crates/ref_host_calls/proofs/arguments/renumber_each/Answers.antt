@@ -1,7 +1,7 @@
 use Rattle.std.proofs.Common.{◌+◌, ◌≤◌, length, drop, get_or, ap, refl, ◌∙◌, arith}
 use Rattle.wit_types.specs.declared.types.Field.{out-Field}
 use Rattle.wit_types.specs.Plain.{plain, fields_of}
-use Rattle.value_numbers.proofs.Turns.{turned_starts, turned_end, values_end, fields_end, fields_turn, fields_count, next_is, next_part, as_long}
+use Rattle.value_handles.proofs.Turns.{turned_starts, turned_end, values_end, fields_end, fields_turn, fields_count, next_is, next_part, as_long}
 use Rattle.ref_host_calls.proofs.arguments.renumber_each.Goals as goal
 
 pub loop-i-init : goal.loop-i-init

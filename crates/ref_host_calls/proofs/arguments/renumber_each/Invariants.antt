@@ -2,7 +2,7 @@ use Rattle.std.proofs.Common.{◌≡◌, ◌+◌, length, drop}
 use Rattle.wit_types.specs.Plain.{fields_of}
 use Rattle.wit_types.specs.PlainValue.{values_of}
 use Rattle.abi_layout.specs.Handles.{field_handles, renumbered_fields}
-use Rattle.value_numbers.proofs.Turns.{Turned}
+use Rattle.value_handles.proofs.Turns.{Turned}
 use Rattle.ref_host_calls.proofs.arguments.renumber_each.Given as goal
 
 abbrev pub invariant-loop-i : goal.invariant-loop-i

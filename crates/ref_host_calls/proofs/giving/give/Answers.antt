@@ -8,8 +8,8 @@ use Rattle.ref_guards.specs.declared.atoms.Atom.{Atom}
 use Rattle.ref_guards.specs.Noted.{shown_all}
 use Rattle.ref_entering.specs.declared.standing.Standing.TheVariants.{Hosts as Entering}
 use Rattle.ref_entering.specs.Entering.{with_handles}
-use Rattle.ref_contents.specs.Contents.{Hosts}
-use Rattle.ref_contents.proofs.KeepLaws.{keeps-handles, keeps-same}
+use Rattle.ref_entering.specs.Contents.{Hosts}
+use Rattle.ref_entering.proofs.KeepLaws.{keeps-handles, keeps-same}
 use Rattle.ref_host_calls.specs.Requests.{listed_of, call_of}
 use Rattle.ref_host_calls.specs.Reactions.{state_at}
 use Rattle.ref_host_calls.proofs.GiveLemmas.{gave_light}

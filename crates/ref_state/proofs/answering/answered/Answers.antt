@@ -5,7 +5,7 @@ use Rattle.reference_step.specs.Rules.{given}
 use Rattle.reference_step.specs.Steps.{are_host, is_empty_poll}
 use Rattle.ref_answers.specs.Seen.{live_in}
 use Rattle.ref_host_calls.specs.Requests.{call_of, listed_of}
-use Rattle.ref_contents.proofs.KeepLaws.{on_always}
+use Rattle.ref_entering.proofs.KeepLaws.{on_always}
 use Rattle.ref_state.proofs.StepLemmas.{goes_as, if_false, if_true, ok_map, on_map}
 use Rattle.ref_state.proofs.answering.answered.Goals as goal
 

@@ -2,12 +2,12 @@ use Rattle.std.proofs.Common.{List, ℕ, arith, sym, ap, subst, ◌∙◌}
 use Rattle.reference_step.specs.Rows.{row_of}
 use Rattle.reference_step.specs.State.{View, view_of}
 use Rattle.reference_step.specs.Steps.{by_row}
-use Rattle.ref_bytes.proofs.ListedLaw.{typed_are_bytes}
+use Rattle.ref_sound.proofs.BytesListedLaw.{typed_are_bytes}
 use Rattle.ref_files.specs.Views.{HoldsTrees}
 use Rattle.ref_host_calls.specs.Requests.{call_of, listed_of}
 use Rattle.ref_listed.specs.Versions.{version_in}
 use Rattle.ref_live.specs.Lives.{LiveTable}
-use Rattle.ref_methods.proofs.WordLaws.{typed_words}
+use Rattle.ref_virtual.proofs.WordLaws.{typed_words}
 use Rattle.ref_state.specs.Kept.{IsHolding, reference_at}
 use Rattle.ref_state.proofs.RowLemmas.{by_settled, holding_behind, row_may_enter}
 use Rattle.ref_state.proofs.StepLemmas.{ok_map, on_map}

@@ -2,9 +2,9 @@ use Rattle.std.proofs.Common.{◌≡◌, true, false, length, rules, refl, sym, 
 use Rattle.policy_data.specs.declared.policy.Policy.{Policy}
 use Rattle.host_port.specs.Calls.{plain_answer}
 use Rattle.reference_step.specs.Steps.{asks, environment_gave, host_gave}
-use Rattle.ref_contents.specs.Contents.{Hosts}
-use Rattle.ref_contents.proofs.KeepLaws.{on_always}
-use Rattle.ref_directories.specs.Offers.{HoldsOfFolders}
+use Rattle.ref_entering.specs.Contents.{Hosts}
+use Rattle.ref_entering.proofs.KeepLaws.{on_always}
+use Rattle.ref_host_calls.specs.Offers.{HoldsOfFolders}
 use Rattle.ref_host_calls.specs.Reactions.{IsReaction, state_at}
 use Rattle.ref_host_calls.specs.Requests.{call_of, listed_of}
 use Rattle.ref_state.specs.Kept.{reference_at}

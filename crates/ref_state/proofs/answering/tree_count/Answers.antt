@@ -1,5 +1,5 @@
 use Rattle.std.proofs.Common.{arith}
-use Rattle.ref_directories.proofs.OfferLemmas.{few_trees}
+use Rattle.ref_host_calls.proofs.OfferLemmas.{few_trees}
 use Rattle.ref_state.proofs.answering.tree_count.Goals as goal
 
 pub overflow_cast-result : goal.overflow_cast-result

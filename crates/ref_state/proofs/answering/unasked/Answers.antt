@@ -1,5 +1,5 @@
 use Rattle.std.proofs.Common.{◌≡◌, true, false, length, rules, refl, sym, ◌∙◌}
-use Rattle.ref_directories.specs.Offers.{HoldsOfFolders}
+use Rattle.ref_host_calls.specs.Offers.{HoldsOfFolders}
 use Rattle.ref_state.specs.Kept.{reference_at}
 use Rattle.ref_state.proofs.KeepLemmas.{folders_inside, folders_there, holding_kept}
 use Rattle.ref_state.proofs.StepLemmas.{ends_as, goes_as, if_false, if_true, ok_map, on_two}

@@ -5,8 +5,8 @@ use Rattle.reference_step.specs.Rules.{denial}
 use Rattle.reference_step.specs.Steps.{denied}
 use Rattle.ref_host_calls.specs.Requests.{call_of, listed_of}
 use Rattle.ref_rules.specs.Seen.{denial_of}
-use Rattle.ref_contents.proofs.KeepLaws.{on_always}
-use Rattle.ref_typed.specs.Typed.{is_free}
+use Rattle.ref_entering.proofs.KeepLaws.{on_always}
+use Rattle.ref_sound.specs.Typed.{is_free}
 use Rattle.ref_state.specs.Kept.{reference_at}
 use Rattle.ref_state.proofs.StepLemmas.{ends_as, goes_as, ok_map, on_map}
 use Rattle.ref_state.proofs.TypedLemmas.{further, never}

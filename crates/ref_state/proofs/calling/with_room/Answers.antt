@@ -1,7 +1,7 @@
 use Rattle.std.proofs.Common.{◌≡◌, true, false, arith, rules, sym, ap, ◌∙◌}
 use Rattle.reference_step.specs.Steps.{full}
 use Rattle.ref_host_calls.specs.Requests.{listed_of}
-use Rattle.ref_contents.proofs.KeepLaws.{on_always}
+use Rattle.ref_entering.proofs.KeepLaws.{on_always}
 use Rattle.ref_state.specs.Kept.{reference_at}
 use Rattle.ref_state.proofs.StepLemmas.{ends_as, goes_as, if_false, if_true, ok_map, on_map}
 use Rattle.ref_state.proofs.TypedLemmas.{further, never}

@@ -1,5 +1,5 @@
 use Rattle.std.proofs.Common.{refl}
-use Rattle.ref_contents.specs.Contents.{Nothing}
+use Rattle.ref_entering.specs.Contents.{Nothing}
 use Rattle.ref_state.specs.States.{reference_of}
 use Rattle.ref_state.proofs.KeepLemmas.{holding_kept}
 use Rattle.ref_state.proofs.StepLemmas.{on_map, on_two}

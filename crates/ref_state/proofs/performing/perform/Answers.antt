@@ -8,7 +8,7 @@ use Rattle.ref_guards.specs.Noted.{shown_all}
 use Rattle.ref_host_calls.specs.Requests.{call_of, handles_in, listed_of}
 use Rattle.ref_live.specs.declared.content.Handle.{Handle}
 use Rattle.ref_live.specs.Lives.{LiveTable, count_of_kind}
-use Rattle.ref_room.specs.Entering.{count_kind}
+use Rattle.ref_entering.specs.RoomEntering.{count_kind}
 use Rattle.ref_state.proofs.RowLemmas.{becomes_room, effect_done}
 use Rattle.ref_state.proofs.performing.perform.Goals as goal
 

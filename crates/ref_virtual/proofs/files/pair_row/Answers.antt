@@ -5,7 +5,7 @@ use Rattle.wit_types.proofs.ValueLemmas.{plain_value-Bool}
 use Rattle.reference_step.specs.Descriptors.{link_pair, rename_pair, with_file, same_file}
 use Rattle.reference_step.specs.State.{returns as returning}
 use Rattle.reference_step.specs.Values.{nth, id_in, text_in}
-use Rattle.ref_methods.proofs.HandleLemmas.{looked}
+use Rattle.ref_virtual.proofs.HandleLemmas.{looked}
 use Rattle.ref_virtual.specs.Besides.{is_file, file_pair}
 use Rattle.ref_virtual.proofs.BesideLemmas.{file_with, file_same, rename_file}
 use Rattle.ref_files.proofs.InsideLemmas.{row_fixed}

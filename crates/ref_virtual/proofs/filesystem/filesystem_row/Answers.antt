@@ -4,8 +4,8 @@ use Rattle.wit_types.specs.PlainValue.{plain_values}
 use Rattle.reference_step.specs.Values.{nth, id_in}
 use Rattle.ref_answers.specs.Seen.{content_in}
 use Rattle.ref_live.specs.Lives.{is_open}
-use Rattle.ref_methods.specs.Methods.{method_row}
-use Rattle.ref_methods.proofs.HandleLemmas.{looked}
+use Rattle.ref_virtual.specs.Methods.{method_row}
+use Rattle.ref_virtual.proofs.HandleLemmas.{looked}
 use Rattle.ref_scratch.specs.Told.{settled}
 use Rattle.ref_virtual.proofs.ActLemmas.{method_acts}
 use Rattle.ref_virtual.proofs.ToldLemmas.{stays}

@@ -1,7 +1,7 @@
 use Rattle.std.proofs.Common.{refl, sym, ◌∙◌}
 use Rattle.std.proofs.lemmas.Result.{IfOk-weaker}
 use Rattle.reference_step.specs.Handles.{ScratchEntries}
-use Rattle.ref_methods.proofs.OtherLemmas.{next_is, other_next}
+use Rattle.ref_virtual.proofs.MethodsOtherLemmas.{next_is, other_next}
 use Rattle.ref_virtual.proofs.filesystem.scratch_listing_row.Goals as goal
 
 pub returns-then-is_next : goal.returns-then-is_next

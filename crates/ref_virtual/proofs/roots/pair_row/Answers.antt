@@ -7,7 +7,7 @@ use Rattle.reference_step.specs.Descriptors.{link_pair, rename_pair, with_root}
 use Rattle.reference_step.specs.State.{returns as returning}
 use Rattle.reference_step.specs.Values.{nth, id_in, text_in}
 use Rattle.ref_live.specs.Lives.{is_open}
-use Rattle.ref_methods.proofs.HandleLemmas.{looked}
+use Rattle.ref_virtual.proofs.HandleLemmas.{looked}
 use Rattle.ref_scratch.specs.Told.{settled}
 use Rattle.ref_virtual.specs.Besides.{is_root, root_pair}
 use Rattle.ref_virtual.proofs.BesideLemmas.{root_with, root_same}

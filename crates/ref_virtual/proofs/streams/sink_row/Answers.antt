@@ -3,7 +3,7 @@ use Rattle.std.proofs.lemmas.Result.{IfOk-weaker}
 use Rattle.wit_types.specs.PlainValue.{plain_values}
 use Rattle.reference_step.specs.OutputStreams as output
 use Rattle.reference_step.specs.Handles.{Always, ScratchOut}
-use Rattle.ref_methods.specs.Methods.{output_row}
+use Rattle.ref_virtual.specs.Methods.{output_row}
 use Rattle.ref_scratch.specs.Told.{settled}
 use Rattle.ref_virtual.proofs.ToldLemmas.{told_same}
 use Rattle.ref_virtual.proofs.streams.sink_row.Goals as goal

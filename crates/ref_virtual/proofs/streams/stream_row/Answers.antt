@@ -3,8 +3,8 @@ use Rattle.std.proofs.lemmas.Result.{IfOk-weaker}
 use Rattle.wit_types.specs.PlainValue.{plain_values}
 use Rattle.reference_step.specs.Values.{nth, id_in}
 use Rattle.ref_answers.specs.Seen.{content_in}
-use Rattle.ref_methods.specs.Methods.{stream_row}
-use Rattle.ref_methods.proofs.HandleLemmas.{looked}
+use Rattle.ref_virtual.specs.Methods.{stream_row}
+use Rattle.ref_virtual.proofs.HandleLemmas.{looked}
 use Rattle.ref_scratch.specs.Told.{settled}
 use Rattle.ref_virtual.proofs.ActLemmas.{stream_acts}
 use Rattle.ref_virtual.proofs.ToldLemmas.{stays}

@@ -3,7 +3,7 @@ use Rattle.comp_grammar.specs.Trees.{plain}
 use Rattle.host_port.specs.Scripts.{script}
 use Rattle.host_script.specs.Script.{item_seen}
 use Rattle.host_script.specs.Hosts.{kept_by}
-use Rattle.script_exports.specs.Callable.{callable}
+use Rattle.run_judge.specs.Callable.{callable}
 use Rattle.virt_engine.proofs.ComponentRuns.{shown_over}
 use Rattle.virt_engine.proofs.Showing.{alone_refused, alone_shown}
 use Rattle.virt_engine.proofs.running.show_alone.Goals as goal

@@ -4,7 +4,7 @@ use Rattle.host_port.specs.Hosts.{Kept}
 use Rattle.host_port.specs.Scripts.{Script, script}
 use Rattle.host_script.specs.Script.{item_seen}
 use Rattle.host_script.specs.Hosts.{kept_by}
-use Rattle.script_exports.specs.Callable.{callable}
+use Rattle.run_judge.specs.Callable.{callable}
 use Rattle.reference_step.specs.State.{Reference, opening}
 use Rattle.reference_step.specs.Steps.{reference_step}
 use Rattle.reference_host.specs.Hosts.{setup_for, kept_by as referenced_by}

@@ -5,7 +5,7 @@ use Rattle.std.proofs.lemmas.Bool.{false≢true}
 use Rattle.std.proofs.lemmas.Map.Views.{Contains-from_any, list_any-from_Contains}
 use Rattle.comp_types.specs.Items.{and_entry}
 use Rattle.comp_types.proofs.MeetLaws.{equal_number}
-use Rattle.wasi_versions.specs.Views.{plain_name}
+use Rattle.wasi_match.specs.VersionsViews.{plain_name}
 use Rattle.wasi_match.specs.declared.listed.ListedUse.{ListedUse}
 use Rattle.wasi_match.specs.Listed.{interfaces}
 use Rattle.wasi_match.specs.Begun.{IsBegun, Fits}

@@ -3,7 +3,7 @@ use Rattle.std.specs.Prelude.{option_map}
 use Rattle.instance_values.specs.Targets.{func_of}
 use Rattle.instance_values.specs.declared.canon.Canon.TheVariants as canons
 use Rattle.call_frames.specs.declared.end.Stop.TheVariants as stops
-use Rattle.call_laws.specs.Shown.{depth_of}
+use Rattle.call_moments.specs.Shown.{depth_of}
 use Rattle.comp_calls.specs.Moments.{at}
 use Rattle.call_moments.proofs.Ending.{answer_stops, answer_none, answer_leads}
 use Rattle.comp_calls.proofs.world.World.answer.Goals as goal

@@ -3,7 +3,7 @@ use Rattle.std.specs.Prelude.{slice_get}
 use Rattle.std.proofs.lemmas.Option.{slice_get_read}
 use Rattle.comp_worlds.specs.Acts.{◌>>◌}
 use Rattle.call_frames.specs.Stops.{stop_of_store}
-use Rattle.call_laws.specs.Shown.{depth_of, purpose_of}
+use Rattle.call_moments.specs.Shown.{depth_of, purpose_of}
 use Rattle.call_moments.specs.Leads.{so_far}
 use Rattle.comp_calls.specs.Moments.{at}
 use Rattle.call_moments.specs.Functions.{run, behind}

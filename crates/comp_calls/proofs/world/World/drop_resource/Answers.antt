@@ -5,7 +5,7 @@ use Rattle.comp_worlds.specs.Groups.{ResourceDrop}
 use Rattle.comp_worlds.specs.Locals.{gives_in}
 use Rattle.instance_state.specs.Shown.{config_of}
 use Rattle.call_frames.specs.declared.end.Stop.TheVariants as stops
-use Rattle.call_laws.specs.Shown.{depth_of}
+use Rattle.call_moments.specs.Shown.{depth_of}
 use Rattle.comp_calls.specs.Moments.{at}
 use Rattle.call_moments.proofs.Following.{with_instance}
 use Rattle.call_moments.proofs.Dropping.{drops_none, performs_there, drops_fails, drops_borrowed, drops_host, drops_owner}

@@ -2,8 +2,8 @@ use Rattle.std.proofs.Common.{◌≡◌, ◌∙◌, List, length, Some, Err, ref
 use Rattle.std.specs.Prelude.{slice_get}
 use Rattle.std.proofs.lemmas.Option.{slice_get_read}
 use Rattle.comp_worlds.specs.Passing.{unlend_all}
-use Rattle.instance_handles.specs.declared.loan.Loan.{Loan}
-use Rattle.instance_handles.specs.Loans.{indexes_of, AreLent}
+use Rattle.instance_state.specs.declared.loan.Loan.{Loan}
+use Rattle.instance_state.specs.Loans.{indexes_of, AreLent}
 use Rattle.call_frames.specs.declared.end.Stop.TheVariants as stops
 use Rattle.comp_calls.specs.Moments.{at}
 use Rattle.comp_calls.proofs.NoResult.{not_lent, left_without}

@@ -5,7 +5,7 @@ use Rattle.wit_types.specs.Plain.{plain}
 use Rattle.wit_types.specs.PlainValue.{plain_value}
 use Rattle.wit_types.specs.HasType.{is_of}
 use Rattle.instance_state.specs.Shown.{config_of}
-use Rattle.instance_handles.specs.Loans.{indexes_of}
+use Rattle.instance_state.specs.Loans.{indexes_of}
 use Rattle.instance_values.specs.Passed.{options_of, IsInStore}
 use Rattle.instance_values.specs.Targets.{lifting_of}
 use Rattle.comp_calls.specs.Moments.{at}

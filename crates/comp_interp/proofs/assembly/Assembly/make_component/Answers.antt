@@ -1,5 +1,5 @@
 use Rattle.std.proofs.Common.{ap}
-use Rattle.comp_plans.specs.Planned.{args_named}
+use Rattle.comp_link.specs.Planned.{args_named}
 use Rattle.comp_calls.specs.Moments.{at}
 use Rattle.comp_interp.proofs.Instantiated.{step_ends_component, enters}
 use Rattle.comp_interp.proofs.assembly.Assembly.make_component.Goals as goal

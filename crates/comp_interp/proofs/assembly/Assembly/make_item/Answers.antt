@@ -1,7 +1,7 @@
 use Rattle.std.proofs.Common.{◌∙◌, ◌<◌, ap, refl, sym, subst, Ok, Err}
 use Rattle.std.specs.Prelude.{option_map}
 use Rattle.comp_calls.specs.Moments.{at}
-use Rattle.comp_plans.specs.Planned.{args_named}
+use Rattle.comp_link.specs.Planned.{args_named}
 use Rattle.comp_interp.specs.Gathered.{Begins, ModuleComes}
 use Rattle.comp_interp.specs.Parts.{part_limit}
 use Rattle.comp_interp.proofs.Coming.{not_ok, component_comes, component_fails, module_fails, other_comes, other_fails}

@@ -5,7 +5,7 @@ use Rattle.std.specs.Option.{option_map}
 use Rattle.comp_types.specs.Views.{item_of}
 use Rattle.comp_link.specs.Plans.{OfCoreItems, OfItems, Lifts}
 use Rattle.comp_link.specs.Linking.{givens_of, link_item}
-use Rattle.comp_plans.specs.Planned.{item_named, args_named}
+use Rattle.comp_link.specs.Planned.{item_named, args_named}
 use Rattle.comp_calls.specs.Moments.{at}
 use Rattle.comp_interp.specs.Others.{other_item}
 use Rattle.comp_interp.proofs.Gathering.{Unchanged, unchanged_made}

@@ -1,5 +1,5 @@
 use Rattle.std.proofs.Common.{refl, subst}
-use Rattle.comp_plans.specs.Groups.{linked_group}
+use Rattle.comp_link.specs.Groups.{linked_group}
 use Rattle.call_moments.specs.Leads.{Ends}
 use Rattle.comp_calls.specs.Moments.{at}
 use Rattle.comp_interp.specs.Going.{whole_run}

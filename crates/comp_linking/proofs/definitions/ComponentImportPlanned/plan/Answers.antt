@@ -1,6 +1,6 @@
 use Rattle.std.proofs.Common.{refl, List, [], ◌++◌, Some}
 use Rattle.comp_types.specs.Definitions.{AnImport}
-use Rattle.comp_plans.specs.Planned.{PlannedComponent}
+use Rattle.comp_link.specs.Planned.{PlannedComponent}
 use Rattle.comp_linking.specs.Walks.{spaces, made}
 use Rattle.comp_linking.proofs.StayLemmas.{import_stays}
 use Rattle.type_table.proofs.ScopeLaws.{covers_grew}

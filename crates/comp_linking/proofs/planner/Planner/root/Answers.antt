@@ -1,6 +1,6 @@
 use Rattle.std.proofs.Common.{refl, sym, subst, List, [], reverse}
 use Rattle.comp_link.specs.Plans.{End, no_scope}
-use Rattle.comp_plans.specs.declared.linked.ComponentPlan.{ComponentPlan}
+use Rattle.comp_link.specs.declared.linked.ComponentPlan.{ComponentPlan}
 use Rattle.comp_drafts.specs.declared.draft.Draft.{Draft}
 use Rattle.comp_drafts.specs.Drafts.{IsDraft}
 use Rattle.comp_linking.specs.Walks.{AreDrafts, made}

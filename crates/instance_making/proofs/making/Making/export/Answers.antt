@@ -1,7 +1,7 @@
 use Rattle.std.proofs.Common.{◌∙◌, sym, subst, refl, Some}
 use Rattle.std.specs.Option.{option_map}
 use Rattle.comp_types.specs.Views.{item_of}
-use Rattle.comp_plans.specs.Planned.{item_named}
+use Rattle.comp_link.specs.Planned.{item_named}
 use Rattle.comp_link.specs.Linking.{bound_if, and_bound, and_given, and_export, given_at}
 use Rattle.instance_making.specs.Made.{IsSame}
 use Rattle.instance_making.specs.Shown.{Stands}

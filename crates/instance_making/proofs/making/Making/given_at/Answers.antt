@@ -1,6 +1,6 @@
 use Rattle.std.proofs.Common.{◌∙◌, ap, sym, subst, Some}
 use Rattle.comp_link.specs.Linking.{GivenResource, given_at}
-use Rattle.comp_plans.specs.Planned.{item_named}
+use Rattle.comp_link.specs.Planned.{item_named}
 use Rattle.instance_making.specs.declared.given.Given.TheVariants.{Resource}
 use Rattle.instance_making.specs.Made.{IsSame}
 use Rattle.instance_making.proofs.PartnerLemmas.{partners_in}

@@ -1,7 +1,7 @@
 use Rattle.std.proofs.Common.{◌≡◌, ◌∙◌, ap, sym, subst, ◌∷◌, ◌++◌, ◌+◌, [], take}
 use Rattle.std.proofs.lemmas.List.{take_more, take_all}
 use Rattle.comp_link.specs.Linking.{find, given_at, givens_of}
-use Rattle.comp_plans.specs.Planned.{item_named, args_named}
+use Rattle.comp_link.specs.Planned.{item_named, args_named}
 use Rattle.instance_making.specs.Made.{Holds}
 use Rattle.instance_making.proofs.FoundLemmas.{holds_with, givens_last}
 use Rattle.instance_making.proofs.making.Making.givens_of.Goals as goal

@@ -1,6 +1,6 @@
 use Rattle.std.proofs.Common.{List, take}
 use Rattle.comp_link.specs.Linking.{Givens as GroupGivens, Making as GroupMaking, givens_of}
-use Rattle.comp_plans.specs.Planned.{args_named}
+use Rattle.comp_link.specs.Planned.{args_named}
 use Rattle.instance_making.specs.Made.{Holds}
 use Rattle.instance_making.specs.Shown.{Stands}
 use Rattle.instance_making.proofs.making.Making.givens_of.Given as goal

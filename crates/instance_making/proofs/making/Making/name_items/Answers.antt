@@ -1,5 +1,5 @@
 use Rattle.comp_link.specs.Linking.{givens_of}
-use Rattle.comp_plans.specs.Planned.{args_named}
+use Rattle.comp_link.specs.Planned.{args_named}
 use Rattle.instance_making.proofs.making.Making.name_items.Goals as goal
 
 pub returns : goal.returns

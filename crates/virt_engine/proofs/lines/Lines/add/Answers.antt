@@ -2,7 +2,7 @@ use Rattle.std.proofs.Common.{◌≡◌, ◌∙◌, ◌++◌, ◌∷◌, ◌-◌
 use Rattle.std.proofs.lemmas.List.{length-append}
 use Rattle.host_port.specs.Calls.{plain_observation}
 use Rattle.script_lines.specs.Lines.{line_text, type_of}
-use Rattle.sink_lines.specs.Lines.{cut}
+use Rattle.virt_words.specs.Lines.{cut}
 use Rattle.virt_engine.specs.Lines.{AreLines}
 use Rattle.virt_engine.proofs.Cutting.{cut_more, lines_more}
 use Rattle.virt_engine.proofs.lines.Lines.add.Goals as goal

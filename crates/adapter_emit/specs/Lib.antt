@@ -1,4 +1,0 @@
-pub mod Emit
-pub mod Opening
-pub mod StateWorks
-pub mod StubsWork

@@ -1,4 +1,0 @@
-pub mod Numbers
-pub mod Instructions
-pub mod Pieces
-pub mod Routines

@@ -1,4 +1,0 @@
-pub mod Pieces
-pub mod Instructions
-pub mod Routines
-pub mod Functions

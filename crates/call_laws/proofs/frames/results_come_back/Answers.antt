@@ -1,5 +1,0 @@
-use Rattle.call_laws.proofs.Backs.{results_come}
-use Rattle.call_laws.proofs.frames.results_come_back.Goals as goal
-
-pub returns : goal.returns
-returns g c = λ G. results_come g.H.Host.step G

@@ -1,5 +1,0 @@
-use Rattle.call_laws.proofs.Lending.{handles_stay}
-use Rattle.call_laws.proofs.keeping.handles_stay_while_lent.Goals as goal
-
-pub returns : goal.returns
-returns c = handles_stay

@@ -1,5 +1,0 @@
-use Rattle.call_laws.proofs.Answers.{hosts_answer}
-use Rattle.call_laws.proofs.laws.hosts_answer_as_defined.Goals as goal
-
-pub returns : goal.returns
-returns g c = hosts_answer g.H.Host.step

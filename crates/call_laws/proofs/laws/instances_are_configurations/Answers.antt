@@ -1,5 +1,0 @@
-use Rattle.call_laws.proofs.Worlds.{instances_act}
-use Rattle.call_laws.proofs.laws.instances_are_configurations.Goals as goal
-
-pub returns : goal.returns
-returns g c = instances_act g.H.Host.step

@@ -1,5 +1,0 @@
-use Rattle.call_laws.proofs.Whole.{never_shrink}
-use Rattle.call_laws.proofs.memories.memories_never_shrink.Goals as goal
-
-pub returns : goal.returns
-returns c = never_shrink

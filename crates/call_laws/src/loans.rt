@@ -1,7 +1,0 @@
-ghost use Rattle.call_laws.specs.EndingLaws.{LoansEndLastFirst};
-
-/// Where each handle that was lent to calls in progress is lent, it stays so while calls begin, lift, lower and end, and the loans of the
-/// innermost call can end.
-pub fn loans_end_last_first()
-    ensures { LoansEndLastFirst }
-{}

@@ -1,6 +1,0 @@
-ghost use Rattle.call_laws.specs.MemoryLaws.{MemoriesNeverShrink};
-
-/// Whatever core code does up to its next pause, and whatever is stored, each memory has as many bytes as before, or more.
-pub fn memories_never_shrink()
-    ensures { MemoriesNeverShrink }
-{}

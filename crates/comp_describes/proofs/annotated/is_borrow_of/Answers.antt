@@ -1,5 +1,0 @@
-use Rattle.comp_describes.proofs.Only.{no_borrow}
-use Rattle.comp_describes.proofs.annotated.is_borrow_of.Goals as goal
-
-pub returns-in_default : goal.returns-in_default
-returns-in_default c = λ name rest. no_borrow c.args.resource name rest c.args.ty.now c.in_default.not-Borrow

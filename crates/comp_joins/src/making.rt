@@ -1,0 +1,9 @@
+ghost use Rattle.comp_joins.specs.Made.{StoresAreAsPlanned};
+
+use host_port::Host;
+
+/// As a component is made, the store of each of its instances has as many items as its plan counts, whatever runs meanwhile; so the
+/// places that the plan gives are those of the store.
+pub fn stores_are_as_planned<H: Host>()
+    ensures { StoresAreAsPlanned H.step }
+{}

@@ -1,5 +1,0 @@
-use Rattle.comp_knows.proofs.Order.{known_in_order}
-use Rattle.comp_knows.proofs.laws.plans_know_in_order.Goals as goal
-
-pub returns : goal.returns
-returns c = known_in_order

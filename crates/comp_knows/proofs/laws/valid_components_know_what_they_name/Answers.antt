@@ -1,5 +1,0 @@
-use Rattle.comp_knows.proofs.Known.{names_known}
-use Rattle.comp_knows.proofs.laws.valid_components_know_what_they_name.Goals as goal
-
-pub returns : goal.returns
-returns c = names_known

@@ -1,9 +1,0 @@
-ghost use Rattle.comp_making.specs.Made.{StoresAreAsPlanned};
-
-use host_port::Host;
-
-/// As a component is made, the store of each of its instances has as many items as its plan counts, whatever runs meanwhile; so the
-/// places that the plan gives are those of the store.
-pub fn stores_are_as_planned<H: Host>()
-    ensures { StoresAreAsPlanned H.step }
-{}

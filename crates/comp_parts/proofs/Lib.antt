@@ -1,4 +1,0 @@
-pub mod Exact
-pub mod Embedding
-pub mod Fair
-pub mod Whole

@@ -1,5 +1,0 @@
-use Rattle.comp_pieces.proofs.PieceLaws.{piece_added}
-use Rattle.comp_pieces.proofs.put.put_piece.Goals as goal
-
-pub returns-clause-spelled : goal.returns-clause-spelled
-returns-clause-spelled c = piece_added c.args.piece.now c.args.out.now.items c.put_section.new.out.items c.put_section.result c.requires c.put_section.ensures

@@ -1,4 +1,0 @@
-pub mod Growing
-pub mod Below
-pub mod Standing
-pub mod Passing

@@ -1,5 +1,0 @@
-use Rattle.comp_settled.proofs.Below.{stay_below}
-use Rattle.comp_settled.proofs.laws.numbers_stay_below_the_next.Goals as goal
-
-pub returns : goal.returns
-returns c = stay_below

@@ -1,5 +1,0 @@
-use Rattle.comp_wraps.proofs.Seen.{wrapped_do_same}
-use Rattle.comp_wraps.proofs.laws.wrapped_components_do_the_same.Goals as goal
-
-pub returns : goal.returns
-returns g c = wrapped_do_same g.H.Host.step

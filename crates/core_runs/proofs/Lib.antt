@@ -1,3 +1,0 @@
-pub mod Readying
-pub mod Going
-pub mod Making

@@ -1,4 +1,0 @@
-mod TreeLemmas
-mod NeedLemmas
-mod ShapeLemmas
-pub mod FineLemmas

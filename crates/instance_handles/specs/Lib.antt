@@ -1,4 +1,0 @@
-pub mod Owning
-pub mod Exchanged
-pub mod Counted
-pub mod Loans

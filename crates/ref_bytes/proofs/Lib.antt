@@ -1,2 +1,0 @@
-mod TypeLaws
-pub mod ListedLaw

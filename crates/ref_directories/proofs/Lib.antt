@@ -1,2 +1,0 @@
-pub mod OfferLemmas
-mod OfferedLemmas

@@ -1,4 +1,0 @@
-pub mod MapLaws
-pub mod MethodLaws
-pub mod RowLaws
-pub mod ToldLaws

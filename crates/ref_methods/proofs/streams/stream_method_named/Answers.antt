@@ -1,8 +1,0 @@
-use Rattle.std.proofs.Common.{ap, sym, ◌∙◌}
-use Rattle.reference_step.specs.Rows.{handle}
-use Rattle.ref_methods.specs.Methods.{stream_row, row_by}
-use Rattle.ref_methods.proofs.NameLemmas.{all_stream_methods}
-use Rattle.ref_methods.proofs.streams.stream_method_named.Goals as goal
-
-pub returns : goal.returns
-returns c = λ v a. all_stream_methods c.args.function.now v a ∙ ap (λ m. row_by stream_row m v (handle v 0 a) a) (sym c.method_among.ensures)

@@ -1,2 +1,0 @@
-pub mod HandleLaws
-pub mod NumberLaws

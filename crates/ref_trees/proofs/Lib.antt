@@ -1,2 +1,0 @@
-mod PickLemmas
-pub mod TreeLaws

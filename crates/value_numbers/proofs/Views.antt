@@ -1,7 +1,0 @@
--- Types and values by their trees.
-use Rattle.wit_types.proofs.PlainLemmas.{plains}
-use Rattle.wit_types.proofs.ValueLemmas.{values}
-use Rattle.value_handles.proofs.Laws.{laws}
-use Rattle.value_numbers.proofs.Changes.{changed}
-
-pub ruleset changes = (plains, values, laws, changed)

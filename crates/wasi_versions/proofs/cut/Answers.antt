@@ -1,6 +1,0 @@
-use Rattle.std.proofs.Common.{arith}
-use Rattle.wasi_versions.proofs.CutLaws.{found_parts}
-use Rattle.wasi_versions.proofs.cut.Goals as goal
-
-pub returns : goal.returns
-returns c = found_parts c.args.name.now c.split_once.result (c.split_once.ensures.byte (omega arith) (λ w o f. f))

@@ -1,4 +1,0 @@
-pub mod Compute
-pub mod Counted
-pub mod Joining
-pub mod Renumbering

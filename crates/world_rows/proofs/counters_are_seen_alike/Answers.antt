@@ -1,5 +1,0 @@
-use Rattle.world_rows.proofs.Counted.{counters_related}
-use Rattle.world_rows.proofs.counters_are_seen_alike.Goals as goal
-
-pub returns : goal.returns
-returns c = λ G. c.related_hosts_are_seen_alike.ensures G (counters_related G.imported)

@@ -1,5 +1,0 @@
-use Rattle.world_rows.proofs.Joining.{readers_join}
-use Rattle.world_rows.proofs.readers_do_what_both_do.Goals as goal
-
-pub returns : goal.returns
-returns c = c.parts_do_what_the_whole_does.ensures readers_join

@@ -1,4 +1,0 @@
-pub mod Compute
-pub mod Exported
-pub mod Outputs
-pub mod Premises
