@@ -32,7 +32,7 @@ use Rattle.adapter_compile.specs.Instructions.{constant}
 use Rattle.adapter_bytes.proofs.Numbers.{few_unsigned}
 use Rattle.adapter_bytes.proofs.Instructions.{constant_short}
 use Rattle.adapter_bytes.proofs.Pieces.{nothing, in_front}
-use Rattle.adapter_bytes.proofs.Routines.{type_fits, type_few, code_fits}
+use Rattle.adapter_bytes.proofs.RoutineLaws.{type_fits, type_few, code_fits}
 use Rattle.adapter_state.specs.State.{constant_code}
 
 -- ---- types of functions

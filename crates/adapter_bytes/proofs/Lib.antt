@@ -1,7 +1,7 @@
 pub mod Numbers
 pub mod Instructions
 pub mod Pieces
-pub mod Routines
+pub mod RoutineLaws
 pub mod Keeping
 pub mod Standing
 pub mod Filling
@@ -11,7 +11,7 @@ pub mod Functions
 pub mod StateModule
 pub mod StubsModule
 pub mod Weighing
-pub mod Emitted
+pub mod EmittedLaws
 pub mod Placing
 pub mod Opened
 pub mod Working

@@ -13,7 +13,7 @@ use Rattle.adapter_code.specs.declared.statement.Width.TheVariants.{Narrow, Broa
 use Rattle.adapter_compile.specs.Instructions.{call_at}
 use Rattle.adapter_compile.specs.Handles.{Numbers, drops_type}
 use Rattle.adapter_transfer.proofs.Functions.{get_back}
-use Rattle.adapter_module.specs.declared.module.Defined.{Defined}
+use Rattle.adapter_transfer.specs.declared.module.Defined.{Defined}
 use Rattle.adapter_transfer.specs.Transfer.{reset_code}
 use Rattle.adapter_transfer.specs.Transfer.{body_of as closed}
 use Rattle.adapter_state.specs.declared.parts.Presence.{Presence}

@@ -30,12 +30,12 @@ use Rattle.adapter_compile.specs.Does.{body_of, declared_of}
 use Rattle.adapter_compile.specs.Handles.{drops_type}
 use Rattle.adapter_transfer.specs.Transfer.{last_at, get_end, set_end, room_code, next_code, give_code, realloc_code, reset_code, realloc_type, reset_type}
 use Rattle.adapter_transfer.specs.Transfer.{body_of as closed}
-use Rattle.adapter_module.specs.declared.module.Defined.{Defined}
-use Rattle.adapter_module.specs.Module.{exports_from}
+use Rattle.adapter_transfer.specs.declared.module.Defined.{Defined}
+use Rattle.adapter_transfer.specs.Module.{exports_from}
 use Rattle.adapter_bytes.specs.Spelled.{statements, AreNumbered, AreIndexes, IsSpelledIn}
 use Rattle.adapter_bytes.proofs.Instructions.{get_short, set_short, get_global_short, set_global_short, constant_short, operator_short, trap_short}
 use Rattle.adapter_bytes.proofs.Pieces.{nothing, joined, in_front, in_if}
-use Rattle.adapter_bytes.proofs.Routines.{routine_spelled, body_spelled, declared_small, declared_few}
+use Rattle.adapter_bytes.proofs.RoutineLaws.{routine_spelled, body_spelled, declared_small, declared_few}
 use Rattle.adapter_state.specs.declared.parts.Presence.{Presence}
 use Rattle.adapter_state.specs.declared.parts.Presence.TheVariants.{Absent, Own, Host}
 use Rattle.adapter_state.specs.declared.parts.Posts.{Posts}

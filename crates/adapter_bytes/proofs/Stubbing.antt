@@ -25,7 +25,7 @@ use Rattle.adapter_compile.specs.Instructions.{call_at}
 use Rattle.adapter_compile.specs.Handles.{Numbers, IsOutside, makes_type, drops_type}
 use Rattle.adapter_compile.specs.Does.{Home, IsHome}
 use Rattle.adapter_transfer.proofs.Functions.{get_front, get_back}
-use Rattle.adapter_module.specs.declared.module.Defined.{Defined}
+use Rattle.adapter_transfer.specs.declared.module.Defined.{Defined}
 use Rattle.adapter_transfer.specs.Transfer.{Stands}
 use Rattle.adapter_state.specs.declared.parts.Presence.{Presence}
 use Rattle.adapter_state.specs.State.{drop_calls}

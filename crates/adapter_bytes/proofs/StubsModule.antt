@@ -28,12 +28,12 @@ use Rattle.adapter_compile.specs.Bounds.{nesting}
 use Rattle.adapter_compile.specs.Does.{declared_of}
 use Rattle.adapter_compile.specs.Handles.{makes_type, drops_type}
 use Rattle.adapter_transfer.specs.Transfer.{realloc_type}
-use Rattle.adapter_module.specs.declared.module.Defined.{Defined}
-use Rattle.adapter_module.specs.Module.{exports_from}
+use Rattle.adapter_transfer.specs.declared.module.Defined.{Defined}
+use Rattle.adapter_transfer.specs.Module.{exports_from}
 use Rattle.adapter_bytes.specs.Spelled.{statements, AreIndexes, IsSpelledIn}
 use Rattle.adapter_bytes.proofs.Instructions.{get_short, set_short, invoke_short}
 use Rattle.adapter_bytes.proofs.Pieces.{nothing, wider as piece_wider, joined, in_front, in_if}
-use Rattle.adapter_bytes.proofs.Routines.{routine_spelled, body_spelled, declared_small, declared_few}
+use Rattle.adapter_bytes.proofs.RoutineLaws.{routine_spelled, body_spelled, declared_small, declared_few}
 use Rattle.adapter_state.specs.declared.parts.Presence.{Presence}
 use Rattle.adapter_state.specs.declared.parts.Presence.TheVariants.{Absent, Own, Host}
 use Rattle.adapter_state.specs.State.{each_kind, drop_import}

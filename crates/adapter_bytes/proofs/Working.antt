@@ -33,7 +33,7 @@ use Rattle.adapter_compile.specs.Handles.{Numbers, drops_type, makes_type, IsOut
 use Rattle.adapter_compile.specs.Does.{Home, IsHome, IsPlaced, body_of}
 use Rattle.adapter_compile.proofs.Called.{compiled}
 use Rattle.adapter_transfer.proofs.Functions.{get_front, get_back}
-use Rattle.adapter_module.specs.declared.module.Defined.{Defined}
+use Rattle.adapter_transfer.specs.declared.module.Defined.{Defined}
 use Rattle.adapter_transfer.specs.Transfer.{realloc_code, reset_code, realloc_type, reset_type, Stands, IsUsed}
 use Rattle.adapter_transfer.specs.Transfer.{body_of as closed}
 use Rattle.adapter_transfer.proofs.Reallocating.{reallocs, put_back}

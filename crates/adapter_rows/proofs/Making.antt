@@ -20,10 +20,10 @@ use Rattle.core_instance.specs.declared.external.Extern.TheVariants.{Memory}
 use Rattle.core_instance.specs.declared.external.NamedExtern.{NamedExtern}
 use Rattle.core_instance.specs.Matching.{HasCounts}
 use Rattle.core_instance.specs.Exported.{IsGiven, AreGiven}
-use Rattle.adapter_module.specs.declared.module.Defined.{Defined}
-use Rattle.adapter_module.specs.declared.module.Parts.{Parts}
+use Rattle.adapter_transfer.specs.declared.module.Defined.{Defined}
+use Rattle.adapter_transfer.specs.declared.module.Parts.{Parts}
 use Rattle.adapter_code.specs.declared.layout.Layout.{Layout}
-use Rattle.adapter_module.specs.Module.{module_of}
+use Rattle.adapter_transfer.specs.Module.{module_of}
 use Rattle.adapter_state.specs.declared.parts.Presence.{Presence}
 use Rattle.adapter_stubs.specs.declared.stub.Stub.{Stub}
 use Rattle.adapter_stubs.specs.Stubs.{calls_in, first_host, host_types, stub_functions, stubs_parts, stubs_of}

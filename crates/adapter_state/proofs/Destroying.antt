@@ -25,12 +25,12 @@ use Rattle.table_bytes.specs.declared.entry.Entry.TheVariants.{Host, Node, FileA
 use Rattle.table_bytes.specs.Entries.{entry_of}
 use Rattle.table_bytes.specs.Table.{spot, place_of, place_at, first_of, places_of, IsTable, Changed}
 use Rattle.table_bytes.specs.Routines.{free_code, locals_of, state_of, FreeEnds}
-use Rattle.table_bytes.proofs.Places.{place_words, used_place}
+use Rattle.table_bytes.proofs.PlaceLaws.{place_words, used_place}
 use Rattle.table_bytes.proofs.Frees.{free-run}
 use Rattle.slot_tables.specs.declared.cells.Place.{Place}
 use Rattle.slot_tables.specs.declared.cells.Place.TheVariants.{Free, Used}
-use Rattle.routine_forms.proofs.Fine.{well_formed_is}
-use Rattle.routine_forms.proofs.Own.{alike_inside}
+use Rattle.table_bytes.proofs.Fine.{well_formed_is}
+use Rattle.table_bytes.proofs.Own.{alike_inside}
 use Rattle.adapter_compile.specs.declared.calls.HandleCalls.{HandleCalls}
 use Rattle.adapter_compile.specs.Bounds.{brackets}
 use Rattle.adapter_compile.specs.Handles.{HasCalls}

@@ -28,9 +28,9 @@ use Rattle.adapter_transfer.proofs.ValidPieces.{whole_body}
 use Rattle.adapter_transfer.proofs.Functions.{sum_declared, get_front, valid_function}
 use Rattle.adapter_transfer.specs.Transfer.{HasEnd, realloc_code, reset_code}
 use Rattle.adapter_transfer.proofs.Pieces.{realloc_piece, reset_piece}
-use Rattle.adapter_module.specs.declared.module.Defined.{Defined}
-use Rattle.adapter_module.specs.Valid.{AreLimits, ImportFits, GlobalFits, SegmentFits, ExportFits, FunctionFits, Fits}
-use Rattle.adapter_module.proofs.Whole.{are_valid}
+use Rattle.adapter_transfer.specs.declared.module.Defined.{Defined}
+use Rattle.adapter_transfer.specs.ModuleValid.{AreLimits, ImportFits, GlobalFits, SegmentFits, ExportFits, FunctionFits, Fits}
+use Rattle.adapter_transfer.proofs.Whole.{are_valid}
 use Rattle.adapter_state.specs.declared.parts.Presence.{Presence}
 use Rattle.adapter_state.specs.declared.parts.Presence.TheVariants.{Absent, Own, Host}
 use Rattle.adapter_state.specs.declared.parts.Posts.{Posts}

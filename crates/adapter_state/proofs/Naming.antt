@@ -7,9 +7,9 @@ use Rattle.std.proofs.lemmas.List.{map-append}
 use Rattle.std.proofs.lemmas.List.Elements.{All-nil, All-cons, All-head, All-tail, All-append, All-weaker}
 use Rattle.wasm_ast.specs.declared.module.Export.{Export}
 use Rattle.adapter_code.specs.declared.layout.Layout.{Layout}
-use Rattle.adapter_module.specs.declared.module.Defined.{Defined}
-use Rattle.adapter_module.specs.Module.{exports_from}
-use Rattle.adapter_module.specs.Valid.{AreDistinct, names_of}
+use Rattle.adapter_transfer.specs.declared.module.Defined.{Defined}
+use Rattle.adapter_transfer.specs.Module.{exports_from}
+use Rattle.adapter_transfer.specs.ModuleValid.{AreDistinct, names_of}
 use Rattle.adapter_state.specs.declared.parts.Presence.{Presence}
 use Rattle.adapter_state.specs.declared.parts.Presence.TheVariants.{Absent, Own, Host}
 use Rattle.adapter_state.specs.declared.parts.Posts.{Posts}

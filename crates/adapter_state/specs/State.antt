@@ -19,9 +19,9 @@ use Rattle.adapter_compile.specs.declared.calls.HandleCalls.{HandleCalls}
 use Rattle.adapter_compile.specs.Instructions.{constant}
 use Rattle.adapter_compile.specs.Handles.{drops_type}
 use Rattle.adapter_compile.specs.Does.{body_of}
-use Rattle.adapter_module.specs.declared.module.Defined.{Defined}
-use Rattle.adapter_module.specs.declared.module.Parts.{Parts}
-use Rattle.adapter_module.specs.Module.{module_of}
+use Rattle.adapter_transfer.specs.declared.module.Defined.{Defined}
+use Rattle.adapter_transfer.specs.declared.module.Parts.{Parts}
+use Rattle.adapter_transfer.specs.Module.{module_of}
 use Rattle.adapter_transfer.specs.Transfer.{realloc_code, reset_code, realloc_type, reset_type}
 use Rattle.adapter_transfer.specs.Transfer.{body_of as closed}
 use Rattle.adapter_state.specs.declared.parts.Presence.{Presence}

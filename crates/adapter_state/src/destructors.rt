@@ -7,9 +7,8 @@ ghost use Rattle.adapter_state.specs.Destructor.{release_code, destroy_code, rou
 
 use adapter_code::{Statements, Width, append, constant, load};
 use adapter_compile::{HandleCalls, compile};
-use routine_forms::{drop_handle, equal, placed_at, when};
 use std::alloc::Global;
-use table_bytes::{OWN, TAG, WORD, own_free, to_place};
+use table_bytes::{OWN, TAG, WORD, drop_handle, equal, own_free, placed_at, to_place, when};
 use virt_base::NoMemory;
 use wasm_ast::Body;
 

@@ -10,8 +10,7 @@ use crate::names::free_name;
 use crate::parts::{Posts, Presence};
 use adapter_code::Layout;
 use adapter_compile::HandleCalls;
-use adapter_module::Defined;
-use adapter_transfer::{realloc, reset};
+use adapter_transfer::{Defined, realloc, reset};
 use std::alloc::Global;
 use virt_base::{Items, NoMemory, Text};
 

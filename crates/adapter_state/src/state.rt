@@ -9,7 +9,7 @@ use crate::functions::functions;
 use crate::imports::put_drop_imports;
 use crate::parts::{Posts, Presence};
 use adapter_code::Layout;
-use adapter_module::{Parts, assemble};
+use adapter_transfer::{Parts, assemble};
 use std::alloc::Global;
 use virt_base::{Bytes, CoreType, Items, NoMemory, Text};
 use wasm_ast::{

@@ -24,10 +24,10 @@ use Rattle.adapter_compile.specs.Does.{declared_of}
 use Rattle.adapter_transfer.specs.Valid.{HasFunctions}
 use Rattle.adapter_transfer.proofs.ValidPieces.{whole_body}
 use Rattle.adapter_transfer.proofs.Functions.{sum_declared, get_front, get_back}
-use Rattle.adapter_module.specs.declared.module.Defined.{Defined}
-use Rattle.adapter_module.specs.Module.{exports_from}
-use Rattle.adapter_module.specs.Valid.{AreDistinct, AreLimits, ImportFits, GlobalFits, SegmentFits, ExportFits, FunctionFits, Fits, names_of}
-use Rattle.adapter_module.proofs.Whole.{are_valid}
+use Rattle.adapter_transfer.specs.declared.module.Defined.{Defined}
+use Rattle.adapter_transfer.specs.Module.{exports_from}
+use Rattle.adapter_transfer.specs.ModuleValid.{AreDistinct, AreLimits, ImportFits, GlobalFits, SegmentFits, ExportFits, FunctionFits, Fits, names_of}
+use Rattle.adapter_transfer.proofs.Whole.{are_valid}
 use Rattle.adapter_state.specs.declared.parts.Presence.{Presence}
 use Rattle.adapter_state.specs.declared.parts.Presence.TheVariants.{Absent, Own, Host}
 use Rattle.adapter_state.specs.State.{each_kind, drop_import, drop_calls}

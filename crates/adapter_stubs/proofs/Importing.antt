@@ -7,7 +7,7 @@ use Rattle.core_validate.specs.Gather.{gather}
 use Rattle.core_validate.specs.Spaces.{functions_of, memories_of, imported_functions, imported_memories}
 use Rattle.adapter_code.specs.declared.layout.Layout.{Layout}
 use Rattle.adapter_compile.specs.Instructions.{call_at}
-use Rattle.adapter_module.specs.Valid.{ImportFits}
+use Rattle.adapter_transfer.specs.ModuleValid.{ImportFits}
 use Rattle.adapter_state.specs.declared.parts.Presence.{Presence}
 use Rattle.adapter_state.specs.declared.parts.Presence.TheVariants.{Absent, Own, Host}
 use Rattle.adapter_state.specs.State.{each_kind, drop_import}

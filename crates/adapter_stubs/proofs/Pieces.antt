@@ -19,10 +19,10 @@ use Rattle.adapter_compile.specs.declared.calls.HandleCalls.{HandleCalls}
 use Rattle.adapter_compile.specs.Instructions.{get, set, routine_code}
 use Rattle.adapter_compile.specs.Bounds.{nesting}
 use Rattle.adapter_compile.specs.Does.{core_type}
-use Rattle.adapter_module.proofs.Lists.{all_at}
+use Rattle.adapter_transfer.proofs.Lists.{all_at}
 use Rattle.adapter_transfer.specs.Valid.{IsPiece, HasFunctions}
 use Rattle.adapter_transfer.proofs.ValidPieces.{joined, nothing, above, in_if}
-use Rattle.adapter_transfer.proofs.Instructions.{get_piece, set_piece, call_piece}
+use Rattle.adapter_transfer.proofs.InstructionLaws.{get_piece, set_piece, call_piece}
 use Rattle.adapter_transfer.proofs.Routines.{valid_routine}
 use Rattle.adapter_transfer.proofs.Functions.{locals_of, may_hold, may_hold_fewer}
 use Rattle.adapter_stubs.specs.declared.stub.HostFunc.{HostFunc}

@@ -10,9 +10,9 @@ use Rattle.adapter_code.specs.declared.layout.Layout.{Layout}
 use Rattle.adapter_code.specs.Layout.{pages_of}
 use Rattle.adapter_compile.specs.declared.calls.HandleCalls.{HandleCalls}
 use Rattle.adapter_compile.specs.Handles.{makes_type, drops_type}
-use Rattle.adapter_module.specs.declared.module.Defined.{Defined}
-use Rattle.adapter_module.specs.declared.module.Parts.{Parts}
-use Rattle.adapter_module.specs.Module.{module_of}
+use Rattle.adapter_transfer.specs.declared.module.Defined.{Defined}
+use Rattle.adapter_transfer.specs.declared.module.Parts.{Parts}
+use Rattle.adapter_transfer.specs.Module.{module_of}
 use Rattle.adapter_transfer.specs.Transfer.{realloc_type}
 use Rattle.adapter_state.specs.declared.parts.Presence.{Presence}
 use Rattle.adapter_state.specs.declared.parts.Presence.TheVariants.{Absent, Own, Host}

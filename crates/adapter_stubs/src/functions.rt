@@ -8,7 +8,7 @@ use crate::bodies::stub_body;
 use crate::imports::asks;
 use crate::stub::Stub;
 use adapter_compile::HandleCalls;
-use adapter_module::Defined;
+use adapter_transfer::Defined;
 use std::alloc::Global;
 use virt_base::{NoMemory, Text};
 

@@ -1,5 +1,9 @@
+pub mod Lists
+pub mod Holding
+pub mod Whole
+pub mod Exporting
 pub mod ValidPieces
-pub mod Instructions
+pub mod InstructionLaws
 pub mod Routines
 pub mod Functions
 pub mod Numbers

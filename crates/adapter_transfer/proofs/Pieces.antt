@@ -18,7 +18,7 @@ use Rattle.adapter_code.specs.Layout.{transfer_at}
 use Rattle.adapter_compile.specs.Instructions.{get, set, numeric, constant, opcode}
 use Rattle.adapter_transfer.specs.Valid.{IsPiece}
 use Rattle.adapter_transfer.proofs.ValidPieces.{joined, above, one, in_if}
-use Rattle.adapter_transfer.proofs.Instructions.{tests_within, get_piece, set_piece, constant_piece, operator_piece, trap_piece}
+use Rattle.adapter_transfer.proofs.InstructionLaws.{tests_within, get_piece, set_piece, constant_piece, operator_piece, trap_piece}
 use Rattle.adapter_transfer.specs.Transfer.{last_at, get_end, set_end, room_code, rounded_code, next_code, give_code, realloc_code, reset_code}
 
 module _ (c : Context) (labels : Labels) (global : slice_get c.globals 0 ≡ Some (record { value = I32; variable = true })) where

@@ -28,7 +28,7 @@ use Rattle.adapter_compile.proofs.Places.{has_in}
 use Rattle.adapter_compile.proofs.Sim.{names_of}
 use Rattle.adapter_transfer.specs.Valid.{IsPiece, MayHold}
 use Rattle.adapter_transfer.proofs.ValidPieces.{joined, nothing, above, in_block, in_loop, in_choice}
-use Rattle.adapter_transfer.proofs.Instructions.{of_width, get_piece, set_piece, tee_piece, constant_piece, numeric_piece, operator_piece, conversion_piece, load_piece, store_piece, trap_piece, branch_piece, branch_if_piece, call_piece}
+use Rattle.adapter_transfer.proofs.InstructionLaws.{of_width, get_piece, set_piece, tee_piece, constant_piece, numeric_piece, operator_piece, conversion_piece, load_piece, store_piece, trap_piece, branch_piece, branch_if_piece, call_piece}
 
 -- the labels in a routine's block and its further brackets: no branch takes operands
 abbrev around : Brackets → Labels → Labels

@@ -1,2 +1,4 @@
+pub mod Module
+pub mod ModuleValid
 pub mod Valid
 pub mod Transfer

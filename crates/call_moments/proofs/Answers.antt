@@ -12,9 +12,9 @@ use Rattle.comp_worlds.specs.Groups.{Nesting, Config, World, Nothing, Answer, In
 use Rattle.comp_worlds.specs.Calls.{below, below_end}
 use Rattle.comp_worlds.specs.Hosts.{call_of, passed_by, answered_by, reacts, hosted}
 use Rattle.value_handles.proofs.Twice.{twice}
-use Rattle.call_frames.specs.declared.end.Stop.{Stop}
-use Rattle.call_frames.specs.declared.end.Stop.TheVariants as stops
-use Rattle.call_frames.specs.Asking.{called, Asks}
+use Rattle.call_moments.specs.declared.end.Stop.{Stop}
+use Rattle.call_moments.specs.declared.end.Stop.TheVariants as stops
+use Rattle.call_moments.specs.Asking.{called, Asks}
 use Rattle.call_moments.specs.Laws.{ComesOut, HostsAnswer}
 use Rattle.call_moments.proofs.Own.{numbers, own_numbers}
 

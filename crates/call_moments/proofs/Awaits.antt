@@ -6,7 +6,7 @@ use Rattle.instance_state.specs.declared.calls.CoreCall.{CoreCall}
 use Rattle.host_port.specs.Hosts.{HostStep}
 use Rattle.comp_worlds.specs.Groups.{Group}
 use Rattle.comp_frames.specs.Frames.{Awaiting}
-use Rattle.call_frames.specs.declared.frames.Frame.{Frame}
+use Rattle.call_moments.specs.declared.frame.Frame.{Frame}
 use Rattle.call_moments.specs.Standing.{Calls, with_calls, Stands, AllStand}
 
 module _ {S : Type 0} (h : HostStep S) (G : Group) (stores stores' : ℕ → State) (same : (k : ℕ) → scene_of (stores' k) ≡ scene_of (stores k)) where

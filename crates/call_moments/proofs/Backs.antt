@@ -15,7 +15,7 @@ use Rattle.comp_worlds.specs.Hosts.{hosted}
 use Rattle.comp_frames.specs.Pausing.{IsRunBy}
 use Rattle.comp_frames.specs.Frames.{Awaiting, instance_in, comes_back, gets, resumes, ends_in}
 use Rattle.comp_frames.specs.Frames as defined
-use Rattle.call_frames.specs.declared.frames.Frame.{Frame}
+use Rattle.call_moments.specs.declared.frame.Frame.{Frame}
 use Rattle.call_moments.specs.CodeLaws.{nested, HasResults}
 use Rattle.call_moments.proofs.Coding.{code_gets_results}
 use Rattle.call_moments.specs.Shown.{purpose_of}

@@ -16,7 +16,7 @@ use Rattle.comp_frames.specs.Within.{IsRoomy, StayWithin}
 use Rattle.comp_frames.proofs.Rooms.{flat_within}
 use Rattle.comp_frames.proofs.Halts.{begins_within}
 use Rattle.comp_frames.proofs.Flats.{AreIntegerTypes, values_same, flat_integers}
-use Rattle.instance_values.specs.Passed.{params_plan, result_plan}
+use Rattle.instance_state.specs.Passed.{params_plan, result_plan}
 use Rattle.call_moments.specs.Functions.{ComesLater}
 use Rattle.call_moments.proofs.FlatCounts.{flats_count}
 

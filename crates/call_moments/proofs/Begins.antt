@@ -5,10 +5,10 @@ use Rattle.std.proofs.lemmas.Bool.Decides.{nat_tests}
 use Rattle.comp_worlds.specs.Acts.{TooDeep, Next, Over, Spent, seen_before, ◌>>◌, takes_step}
 use Rattle.comp_worlds.specs.Groups.{Nesting, Nested, has_room, World}
 use Rattle.comp_worlds.specs.Calls.{if_room, finds_room, begins_call}
-use Rattle.call_frames.specs.declared.end.Stop.{Stop}
-use Rattle.call_frames.specs.declared.end.Stop.TheVariants as stops
-use Rattle.call_frames.specs.declared.depth.Depth.{Depth}
-use Rattle.call_frames.specs.Steps.{BeginsCall}
+use Rattle.call_moments.specs.declared.end.Stop.{Stop}
+use Rattle.call_moments.specs.declared.end.Stop.TheVariants as stops
+use Rattle.call_moments.specs.declared.depth.Depth.{Depth}
+use Rattle.call_moments.specs.Steps.{BeginsCall}
 use Rattle.call_moments.specs.Laws.{nested, IsBegun}
 
 module _ {W : Type 0} (w : W) (d : Nesting) where

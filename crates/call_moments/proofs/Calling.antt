@@ -31,25 +31,25 @@ use Rattle.instance_state.specs.declared.instance.Instance.{Instance}
 use Rattle.instance_state.specs.Shown.{config_of}
 use Rattle.instance_state.specs.declared.loan.Loan.{Loan}
 use Rattle.instance_state.specs.Loans.{indexes_of, IsLentAs}
-use Rattle.instance_values.specs.Passed.{options_of, needs_memory, IsInStore, IsLiftedAs}
-use Rattle.instance_values.specs.Targets.{target_of, lifting_of}
-use Rattle.instance_values.specs.declared.options.CallOptions.{CallOptions}
-use Rattle.instance_values.specs.declared.target.Lifting.{Lifting as CodeLifting}
-use Rattle.instance_values.specs.declared.target.Target.{Target as CodeTarget}
-use Rattle.call_frames.specs.Stores.{Lifts}
-use Rattle.call_frames.specs.Steps.{BeginsCall}
-use Rattle.call_frames.specs.Words.{word_in}
-use Rattle.call_frames.specs.declared.group.Group.{Group as CodeGroup}
-use Rattle.call_frames.specs.declared.depth.Depth.{Depth}
-use Rattle.call_frames.specs.declared.end.Stop.{Stop}
-use Rattle.call_frames.specs.declared.end.Stop.TheVariants as stops
-use Rattle.call_frames.specs.declared.frames.Flow.{Flow}
-use Rattle.call_frames.specs.declared.frames.Call.{Call}
-use Rattle.call_frames.specs.declared.frames.Caller.{Caller}
-use Rattle.call_frames.specs.declared.frames.Caller.TheVariants as callers
-use Rattle.call_frames.specs.declared.frames.Due.TheVariants as dues
-use Rattle.call_frames.specs.declared.frames.Frame.{Frame}
-use Rattle.call_frames.specs.declared.frames.Service.{Service}
+use Rattle.instance_state.specs.Passed.{options_of, needs_memory, IsInStore, IsLiftedAs}
+use Rattle.instance_state.specs.Targets.{target_of, lifting_of}
+use Rattle.instance_state.specs.declared.options.CallOptions.{CallOptions}
+use Rattle.instance_state.specs.declared.target.Lifting.{Lifting as CodeLifting}
+use Rattle.instance_state.specs.declared.target.Target.{Target as CodeTarget}
+use Rattle.call_moments.specs.Stores.{Lifts}
+use Rattle.call_moments.specs.Steps.{BeginsCall}
+use Rattle.call_moments.specs.Words.{word_in}
+use Rattle.call_moments.specs.declared.group.Group.{Group as CodeGroup}
+use Rattle.call_moments.specs.declared.depth.Depth.{Depth}
+use Rattle.call_moments.specs.declared.end.Stop.{Stop}
+use Rattle.call_moments.specs.declared.end.Stop.TheVariants as stops
+use Rattle.call_moments.specs.declared.frame.Flow.{Flow}
+use Rattle.call_moments.specs.declared.frame.Call.{Call}
+use Rattle.call_moments.specs.declared.frame.Caller.{Caller}
+use Rattle.call_moments.specs.declared.frame.Caller.TheVariants as callers
+use Rattle.call_moments.specs.declared.frame.Due.TheVariants as dues
+use Rattle.call_moments.specs.declared.frame.Frame.{Frame}
+use Rattle.call_moments.specs.declared.frame.Service.{Service}
 use Rattle.call_moments.specs.CodeLaws.{nested}
 use Rattle.call_moments.specs.Held.{Maps, with_map, AllLend, loans_by}
 use Rattle.call_moments.specs.Lending.{IsLending}

@@ -25,16 +25,16 @@ use Rattle.instance_state.specs.declared.instance.Instance.{Instance}
 use Rattle.instance_state.specs.Shown.{config_of}
 use Rattle.instance_state.specs.declared.owners.Owner.{Owner as CodeOwner}
 use Rattle.instance_state.specs.Owning.{owner_of, owner_in}
-use Rattle.call_frames.specs.Steps.{BeginsCall}
-use Rattle.call_frames.specs.Words.{only_word_in}
-use Rattle.call_frames.specs.declared.depth.Depth.{Depth}
-use Rattle.call_frames.specs.declared.end.Stop.{Stop}
-use Rattle.call_frames.specs.declared.end.Stop.TheVariants as stops
-use Rattle.call_frames.specs.declared.frames.Flow.{Flow}
-use Rattle.call_frames.specs.declared.frames.Flow.TheVariants as flows
-use Rattle.call_frames.specs.declared.frames.Purpose.TheVariants as purposes
-use Rattle.call_frames.specs.declared.frames.Visit.{Visit}
-use Rattle.call_frames.specs.declared.frames.Visit.TheVariants as visits
+use Rattle.call_moments.specs.Steps.{BeginsCall}
+use Rattle.call_moments.specs.Words.{only_word_in}
+use Rattle.call_moments.specs.declared.depth.Depth.{Depth}
+use Rattle.call_moments.specs.declared.end.Stop.{Stop}
+use Rattle.call_moments.specs.declared.end.Stop.TheVariants as stops
+use Rattle.call_moments.specs.declared.frame.Flow.{Flow}
+use Rattle.call_moments.specs.declared.frame.Flow.TheVariants as flows
+use Rattle.call_moments.specs.declared.frame.Purpose.TheVariants as purposes
+use Rattle.call_moments.specs.declared.frame.Visit.{Visit}
+use Rattle.call_moments.specs.declared.frame.Visit.TheVariants as visits
 use Rattle.call_moments.specs.CodeLaws.{nested}
 use Rattle.call_moments.specs.Configs.{world_of}
 use Rattle.call_moments.specs.LoanLaws.{LeavesLent}

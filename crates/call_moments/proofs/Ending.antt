@@ -15,22 +15,22 @@ use Rattle.comp_worlds.specs.Hosts.{hosted}
 use Rattle.comp_frames.proofs.Heads.{before_next}
 use Rattle.comp_frames.specs.Running.{running}
 use Rattle.comp_frames.specs.Frames.{Awaiting}
-use Rattle.instance_values.specs.Targets.{func_of}
-use Rattle.instance_values.specs.declared.canon.Canon.{Canon}
-use Rattle.call_frames.specs.Grouped.{canon_in}
-use Rattle.call_frames.specs.Steps.{BeginsCall}
-use Rattle.call_frames.specs.declared.depth.Depth.{Depth}
-use Rattle.call_frames.specs.declared.end.Stop.{Stop}
-use Rattle.call_frames.specs.declared.end.Stop.TheVariants as stops
-use Rattle.call_frames.specs.declared.frames.Flow.{Flow}
-use Rattle.call_frames.specs.declared.frames.Flow.TheVariants as flows
-use Rattle.call_frames.specs.declared.frames.Back.{Back}
-use Rattle.call_frames.specs.declared.frames.Frame.{Frame}
-use Rattle.call_frames.specs.declared.frames.Purpose.{Purpose}
-use Rattle.call_frames.specs.declared.frames.Purpose.TheVariants as purposes
-use Rattle.call_frames.specs.declared.frames.Service.{Service}
-use Rattle.call_frames.specs.declared.frames.Storing.{Storing}
-use Rattle.call_frames.specs.declared.frames.Visit.{Visit}
+use Rattle.instance_state.specs.Targets.{func_of}
+use Rattle.instance_state.specs.declared.canon.Canon.{Canon}
+use Rattle.call_moments.specs.Grouped.{canon_in}
+use Rattle.call_moments.specs.Steps.{BeginsCall}
+use Rattle.call_moments.specs.declared.depth.Depth.{Depth}
+use Rattle.call_moments.specs.declared.end.Stop.{Stop}
+use Rattle.call_moments.specs.declared.end.Stop.TheVariants as stops
+use Rattle.call_moments.specs.declared.frame.Flow.{Flow}
+use Rattle.call_moments.specs.declared.frame.Flow.TheVariants as flows
+use Rattle.call_moments.specs.declared.frame.Back.{Back}
+use Rattle.call_moments.specs.declared.frame.Frame.{Frame}
+use Rattle.call_moments.specs.declared.frame.Purpose.{Purpose}
+use Rattle.call_moments.specs.declared.frame.Purpose.TheVariants as purposes
+use Rattle.call_moments.specs.declared.frame.Service.{Service}
+use Rattle.call_moments.specs.declared.frame.Storing.{Storing}
+use Rattle.call_moments.specs.declared.frame.Visit.{Visit}
 use Rattle.call_moments.specs.CodeLaws.{nested}
 use Rattle.call_moments.specs.Configs.{world_of}
 use Rattle.call_moments.specs.Held.{AllLend, loans_behind}

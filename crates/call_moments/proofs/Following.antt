@@ -17,12 +17,12 @@ use Rattle.comp_frames.proofs.Halts.{here, world_twice}
 use Rattle.instance_state.specs.declared.instance.Instance.{Instance}
 use Rattle.instance_state.specs.declared.loan.Loan.{Loan}
 use Rattle.instance_state.specs.Shown.{config_of}
-use Rattle.call_frames.specs.declared.depth.Depth.{Depth}
-use Rattle.call_frames.specs.declared.end.Stop.{Stop}
-use Rattle.call_frames.specs.declared.end.Stop.TheVariants as stops
-use Rattle.call_frames.specs.declared.frames.Flow.{Flow}
-use Rattle.call_frames.specs.declared.frames.Flow.TheVariants as flows
-use Rattle.call_frames.specs.Steps.{BeginsCall}
+use Rattle.call_moments.specs.declared.depth.Depth.{Depth}
+use Rattle.call_moments.specs.declared.end.Stop.{Stop}
+use Rattle.call_moments.specs.declared.end.Stop.TheVariants as stops
+use Rattle.call_moments.specs.declared.frame.Flow.{Flow}
+use Rattle.call_moments.specs.declared.frame.Flow.TheVariants as flows
+use Rattle.call_moments.specs.Steps.{BeginsCall}
 use Rattle.call_moments.specs.Laws.{nested}
 use Rattle.call_moments.proofs.Begins.{begun}
 use Rattle.call_moments.specs.Configs.{config_or_rest, configs_of, world_of}

@@ -14,11 +14,11 @@ use Rattle.comp_worlds.specs.Hosts.{hosted}
 use Rattle.comp_frames.specs.Running.{running}
 use Rattle.comp_frames.specs.Left.{goes_granted, does_due}
 use Rattle.comp_frames.specs.Frames.{Awaiting}
-use Rattle.instance_values.specs.Passed.{options_of}
-use Rattle.call_frames.specs.Words.{only_word_in}
-use Rattle.call_frames.specs.declared.end.Stop.{Stop}
-use Rattle.call_frames.specs.declared.frames.Flow.{Flow}
-use Rattle.call_frames.specs.declared.frames.Storing.{Storing}
+use Rattle.instance_state.specs.Passed.{options_of}
+use Rattle.call_moments.specs.Words.{only_word_in}
+use Rattle.call_moments.specs.declared.end.Stop.{Stop}
+use Rattle.call_moments.specs.declared.frame.Flow.{Flow}
+use Rattle.call_moments.specs.declared.frame.Storing.{Storing}
 use Rattle.call_moments.specs.Shown.{depth_of, storing_of, grants_of}
 use Rattle.call_moments.specs.Leads.{Moment, so_far, Leads}
 use Rattle.call_moments.specs.Functions.{Stores, IsGranted, behind, storing_so}

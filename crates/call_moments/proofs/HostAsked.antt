@@ -13,9 +13,9 @@ use Rattle.comp_worlds.specs.Groups.{Nesting, Group, World, Answer, Nothing, Ins
 use Rattle.comp_worlds.specs.Calls.{below}
 use Rattle.comp_worlds.specs.Hosts.{passed_by, hosted}
 use Rattle.comp_frames.proofs.Heads.{before_before, after_next, after_over}
-use Rattle.call_frames.specs.Asking.{called, GivesTuple, Asks}
-use Rattle.call_frames.specs.declared.end.Stop.{Stop}
-use Rattle.call_frames.specs.declared.end.Stop.TheVariants as stops
+use Rattle.call_moments.specs.Asking.{called, GivesTuple, Asks}
+use Rattle.call_moments.specs.declared.end.Stop.{Stop}
+use Rattle.call_moments.specs.declared.end.Stop.TheVariants as stops
 use Rattle.call_moments.specs.Configs.{configs_of, world_of}
 use Rattle.call_moments.proofs.Answers.{comes_out}
 use Rattle.call_moments.specs.Leads.{Moment, so_far, Ends}

@@ -15,9 +15,9 @@ use Rattle.comp_worlds.specs.Groups.{Group}
 use Rattle.comp_frames.specs.Frames.{Awaiting, instance_in}
 use Rattle.instance_state.specs.declared.instance.Instance.{Instance}
 use Rattle.instance_state.specs.declared.loan.Loan.{Loan}
-use Rattle.call_frames.specs.declared.frames.Frame.{Frame}
-use Rattle.call_frames.specs.declared.end.Stop.{Stop}
-use Rattle.call_frames.specs.declared.end.Stop.TheVariants as stops
+use Rattle.call_moments.specs.declared.frame.Frame.{Frame}
+use Rattle.call_moments.specs.declared.end.Stop.{Stop}
+use Rattle.call_moments.specs.declared.end.Stop.TheVariants as stops
 use Rattle.call_moments.specs.Standing.{Calls, AllStand}
 use Rattle.call_moments.specs.Fits.{scenes_of}
 use Rattle.call_moments.specs.Waiting.{instance_of, AllAwait}

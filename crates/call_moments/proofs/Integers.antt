@@ -10,7 +10,7 @@ use Rattle.wit_types.specs.Plain.{Plain, PlainFunc}
 use Rattle.wit_types.specs.Layout.{flat_fields}
 use Rattle.abi_layout.specs.Functions.{flat_result, params_spill, result_spills, core_params, lifted, lowered}
 use Rattle.comp_frames.proofs.Flats.{AreIntegerTypes, flat_integers, fields_integers}
-use Rattle.instance_values.proofs.Words.{AreIntegers}
+use Rattle.instance_state.proofs.Words.{AreIntegers}
 
 integers_of : (ts : List CoreType) (vs : List CoreValue) → AreIntegerTypes ts → HaveTypes ts vs → AreIntegers vs
 integers_of ts [] h typed = tt

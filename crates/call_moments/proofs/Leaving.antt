@@ -18,15 +18,15 @@ use Rattle.comp_frames.specs.Frames.{Awaiting, Back, ToOutside, Returns, Destroy
 use Rattle.comp_frames.proofs.Steps.{leaves_calls}
 use Rattle.comp_frames.specs.Running.{running}
 use Rattle.instance_state.specs.declared.instance.Instance.{Instance}
-use Rattle.call_frames.specs.declared.frames.Frame.{Frame}
+use Rattle.call_moments.specs.declared.frame.Frame.{Frame}
 use Rattle.instance_state.specs.Shown.{config_of}
-use Rattle.call_frames.specs.declared.end.Stop.{Stop}
-use Rattle.call_frames.specs.declared.end.Stop.TheVariants as stops
-use Rattle.call_frames.specs.declared.frames.Flow.{Flow}
-use Rattle.call_frames.specs.declared.frames.Back.{Back as CodeBack}
-use Rattle.call_frames.specs.declared.frames.Back.TheVariants as backs
-use Rattle.call_frames.specs.declared.frames.Visit.{Visit}
-use Rattle.call_frames.specs.declared.frames.Visit.TheVariants as visits
+use Rattle.call_moments.specs.declared.end.Stop.{Stop}
+use Rattle.call_moments.specs.declared.end.Stop.TheVariants as stops
+use Rattle.call_moments.specs.declared.frame.Flow.{Flow}
+use Rattle.call_moments.specs.declared.frame.Back.{Back as CodeBack}
+use Rattle.call_moments.specs.declared.frame.Back.TheVariants as backs
+use Rattle.call_moments.specs.declared.frame.Visit.{Visit}
+use Rattle.call_moments.specs.declared.frame.Visit.TheVariants as visits
 use Rattle.wit_types.specs.declared.value.Value.{Value}
 use Rattle.wit_types.specs.PlainValue.{plain_value}
 use Rattle.call_moments.specs.Shown.{back_of, visits_of}

@@ -17,7 +17,7 @@ use Rattle.comp_worlds.proofs.Maps.{and_then_is, map_is, some_is, relent, Keeps,
 use Rattle.comp_worlds.proofs.Loans.{count, Lending, lift_lending, unlend_there, unlend_sound}
 use Rattle.instance_state.specs.declared.loan.Loan.{Loan}
 use Rattle.instance_state.specs.Loans.{indexes_of, IsLentAs, AreLent}
-use Rattle.instance_values.specs.Passed.{IsLiftedAs, IsLoweredAs}
+use Rattle.instance_state.specs.Passed.{IsLiftedAs, IsLoweredAs}
 use Rattle.call_moments.specs.Lending.{loans_at, IsLentFor, IsLending}
 use Rattle.call_moments.specs.LoanLaws.{LeavesLent, HandlesStayWhileLent}
 use Rattle.call_moments.proofs.LawsStoring.{also_is}

@@ -1,3 +1,6 @@
+pub mod Plans
+pub mod Faults
+pub mod Firsts
 pub mod Begins
 pub mod Own
 pub mod Answers
@@ -20,11 +23,11 @@ pub mod Planned
 pub mod Awaits
 pub mod Insides
 pub mod Serves
-pub mod Asking
-pub mod Keeping
+pub mod AskingLaws
+pub mod KeepingLaws
 pub mod Rooms
 pub mod StoreSteps
-pub mod Storing
+pub mod StoringLaws
 pub mod Beginning
 pub mod Granting
 pub mod Lowered

@@ -35,19 +35,19 @@ use Rattle.instance_state.specs.Shown.{config_of}
 use Rattle.instance_state.specs.declared.loan.Loan.{Loan}
 use Rattle.instance_state.specs.Loans.{indexes_of, AreLent}
 use Rattle.instance_state.specs.Owning.{plain_for}
-use Rattle.instance_values.specs.Passed.{options_of, needs_memory, IsLoweredAs, params_plan, result_plan}
-use Rattle.instance_values.specs.Targets.{target_of, lifting_of}
-use Rattle.call_frames.specs.Stores.{BeginsToStore, Stores as BeginStores, without_loans}
-use Rattle.call_frames.specs.declared.depth.Depth.{Depth}
-use Rattle.call_frames.specs.declared.end.Stop.{Stop}
-use Rattle.call_frames.specs.declared.end.Stop.TheVariants as stops
-use Rattle.call_frames.specs.declared.frames.Flow.{Flow}
-use Rattle.call_frames.specs.declared.frames.Frame.{Frame}
-use Rattle.call_frames.specs.declared.frames.Service.{Service}
-use Rattle.call_frames.specs.declared.frames.Call.{Call}
-use Rattle.call_frames.specs.declared.frames.Due.{Due}
-use Rattle.call_frames.specs.declared.frames.Storing.{Storing}
-use Rattle.call_frames.specs.declared.frames.Stored.TheVariants as stored
+use Rattle.instance_state.specs.Passed.{options_of, needs_memory, IsLoweredAs, params_plan, result_plan}
+use Rattle.instance_state.specs.Targets.{target_of, lifting_of}
+use Rattle.call_moments.specs.Stores.{BeginsToStore, Stores as BeginStores, without_loans}
+use Rattle.call_moments.specs.declared.depth.Depth.{Depth}
+use Rattle.call_moments.specs.declared.end.Stop.{Stop}
+use Rattle.call_moments.specs.declared.end.Stop.TheVariants as stops
+use Rattle.call_moments.specs.declared.frame.Flow.{Flow}
+use Rattle.call_moments.specs.declared.frame.Frame.{Frame}
+use Rattle.call_moments.specs.declared.frame.Service.{Service}
+use Rattle.call_moments.specs.declared.frame.Call.{Call}
+use Rattle.call_moments.specs.declared.frame.Due.{Due}
+use Rattle.call_moments.specs.declared.frame.Storing.{Storing}
+use Rattle.call_moments.specs.declared.frame.Stored.TheVariants as stored
 use Rattle.call_moments.specs.CodeLaws.{nested}
 use Rattle.call_moments.specs.Configs.{world_of}
 use Rattle.call_moments.specs.EndingLaws.{LeavesLent as LeavesMap}

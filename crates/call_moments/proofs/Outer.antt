@@ -22,16 +22,16 @@ use Rattle.comp_frames.specs.Frames.{Awaiting, instance_in}
 use Rattle.comp_frames.specs.Laws.{calls_lifted}
 use Rattle.comp_frames.specs.Frames as defined
 use Rattle.comp_frames.proofs.Steps.{calls_from_outside as outside_laws}
-use Rattle.instance_values.specs.Targets.{target_of, lifting_of}
-use Rattle.instance_values.specs.declared.target.Lifting.{Lifting as CodeLifting}
-use Rattle.call_frames.specs.Steps.{BeginsCall}
-use Rattle.call_frames.specs.declared.depth.Depth.{Depth}
-use Rattle.call_frames.specs.declared.end.Stop.{Stop}
-use Rattle.call_frames.specs.declared.end.Stop.TheVariants as stops
-use Rattle.call_frames.specs.declared.frames.Flow.{Flow}
-use Rattle.call_frames.specs.declared.frames.Flow.TheVariants as flows
-use Rattle.call_frames.specs.declared.frames.Caller.TheVariants as callers
-use Rattle.call_frames.specs.declared.frames.Purpose.TheVariants as purposes
+use Rattle.instance_state.specs.Targets.{target_of, lifting_of}
+use Rattle.instance_state.specs.declared.target.Lifting.{Lifting as CodeLifting}
+use Rattle.call_moments.specs.Steps.{BeginsCall}
+use Rattle.call_moments.specs.declared.depth.Depth.{Depth}
+use Rattle.call_moments.specs.declared.end.Stop.{Stop}
+use Rattle.call_moments.specs.declared.end.Stop.TheVariants as stops
+use Rattle.call_moments.specs.declared.frame.Flow.{Flow}
+use Rattle.call_moments.specs.declared.frame.Flow.TheVariants as flows
+use Rattle.call_moments.specs.declared.frame.Caller.TheVariants as callers
+use Rattle.call_moments.specs.declared.frame.Purpose.TheVariants as purposes
 use Rattle.call_moments.specs.CodeLaws.{nested}
 use Rattle.call_moments.specs.Configs.{world_of}
 use Rattle.call_moments.specs.Held.{AllLend}

@@ -10,8 +10,8 @@ use Rattle.core_store.specs.Scene.{Scene, scene_of, results_at}
 use Rattle.core_interp.specs.Session.{IsCallable, awaited, resumed}
 use Rattle.core_memory.specs.declared.fault.StoreFault.{StoreFault}
 use Rattle.core_memory.specs.declared.fault.StoreFault.TheVariants as faults
-use Rattle.call_frames.specs.declared.end.Stop.{Stop}
-use Rattle.call_frames.specs.Stops.{stop_of_store}
+use Rattle.call_moments.specs.declared.end.Stop.{Stop}
+use Rattle.call_moments.specs.Stops.{stop_of_store}
 use Rattle.instance_state.specs.declared.calls.CoreCall.{CoreCall}
 use Rattle.instance_state.specs.Ready.{Runs}
 use Rattle.instance_state.specs.Done.{Begun, Begins, Resumes, Resumed}
@@ -31,8 +31,8 @@ use Rattle.comp_frames.specs.Frames.{Awaiting, resumes, ends_in}
 use Rattle.comp_frames.specs.Frames as defined
 use Rattle.instance_state.specs.declared.instance.Instance.{Instance}
 use Rattle.instance_state.specs.Shown.{config_of}
-use Rattle.call_frames.specs.declared.frames.Frame.{Frame}
-use Rattle.call_frames.specs.declared.frames.Purpose.{Purpose}
+use Rattle.call_moments.specs.declared.frame.Frame.{Frame}
+use Rattle.call_moments.specs.declared.frame.Purpose.{Purpose}
 use Rattle.call_moments.specs.Configs.{configs_of, world_of}
 use Rattle.call_moments.proofs.Worlds.{same_place, config_at, changed}
 use Rattle.call_moments.specs.CodeLaws.{nested, HasBegun}

@@ -8,8 +8,8 @@ use Rattle.abi_layout.specs.Loading.{has_ranges, parts_have_ranges}
 use Rattle.abi_layout.specs.Storing.{Step, Ask, Write, Place, Refuse, FlatItem, Lowered, requests, lower_flat, lower_fields, lower_case}
 use Rattle.abi_store.specs.Plan.{Halt, Asks, Ends, Traps, Plan, Due, Nothing, Given, Asked, at_plan, flat_plan, spill_plan, is_within, is_room, goes, takes, tested, goes_on}
 use Rattle.comp_worlds.specs.Passing.{most_params, most_results, spills_over}
-use Rattle.instance_values.specs.Passed.{needs_memory, params_plan, result_plan}
-use Rattle.instance_values.proofs.Passing.{ranges_need, spilled_need}
+use Rattle.instance_state.specs.Passed.{needs_memory, params_plan, result_plan}
+use Rattle.instance_state.proofs.Passing.{ranges_need, spilled_need}
 use Rattle.call_moments.specs.Waiting.{HasRequest, AsksRoom}
 
 -- ---- where a plan halts at a request, one stands among its steps

@@ -16,22 +16,22 @@ use Rattle.comp_worlds.specs.Locals.{exit, close}
 use Rattle.comp_worlds.specs.Calls.{on, begins_call}
 use Rattle.comp_worlds.specs.Hosts.{hosted}
 use Rattle.comp_frames.specs.Frames.{Awaiting, Serves, Returns, instance_in, is_left}
-use Rattle.instance_values.specs.Targets.{lifting_of}
+use Rattle.instance_state.specs.Targets.{lifting_of}
 use Rattle.instance_state.specs.declared.instance.Instance.{Instance}
-use Rattle.call_frames.specs.declared.depth.Depth.{Depth}
-use Rattle.call_frames.specs.Steps.{BeginsCall}
-use Rattle.call_frames.specs.declared.frames.Served.{Served}
-use Rattle.call_frames.specs.declared.frames.Due.{Due as CodeDue}
-use Rattle.call_frames.specs.declared.frames.Due.TheVariants as dues
-use Rattle.call_frames.specs.declared.frames.Back.{Back as CodeBack}
-use Rattle.call_frames.specs.declared.frames.Back.TheVariants as backs
-use Rattle.call_frames.specs.declared.frames.Stored.{Stored}
-use Rattle.call_frames.specs.declared.frames.Stored.TheVariants as stored
-use Rattle.call_frames.specs.declared.end.Stop.{Stop}
-use Rattle.call_frames.specs.declared.frames.Flow.{Flow}
-use Rattle.call_frames.specs.declared.frames.Flow.TheVariants as flows
-use Rattle.call_frames.specs.declared.frames.Purpose.TheVariants as purposes
-use Rattle.call_frames.specs.declared.frames.Service.{Service}
+use Rattle.call_moments.specs.declared.depth.Depth.{Depth}
+use Rattle.call_moments.specs.Steps.{BeginsCall}
+use Rattle.call_moments.specs.declared.frame.Served.{Served}
+use Rattle.call_moments.specs.declared.frame.Due.{Due as CodeDue}
+use Rattle.call_moments.specs.declared.frame.Due.TheVariants as dues
+use Rattle.call_moments.specs.declared.frame.Back.{Back as CodeBack}
+use Rattle.call_moments.specs.declared.frame.Back.TheVariants as backs
+use Rattle.call_moments.specs.declared.frame.Stored.{Stored}
+use Rattle.call_moments.specs.declared.frame.Stored.TheVariants as stored
+use Rattle.call_moments.specs.declared.end.Stop.{Stop}
+use Rattle.call_moments.specs.declared.frame.Flow.{Flow}
+use Rattle.call_moments.specs.declared.frame.Flow.TheVariants as flows
+use Rattle.call_moments.specs.declared.frame.Purpose.TheVariants as purposes
+use Rattle.call_moments.specs.declared.frame.Service.{Service}
 use Rattle.call_moments.specs.Shown.{depth_of, service_of, due_of, back_of}
 use Rattle.call_moments.specs.CodeLaws.{nested}
 use Rattle.call_moments.proofs.Lending.{handles_stay}

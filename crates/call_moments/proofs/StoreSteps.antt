@@ -26,8 +26,8 @@ use Rattle.comp_frames.proofs.Halts.{world_stays}
 use Rattle.comp_frames.proofs.Heads.{after_unseen, after_over}
 use Rattle.instance_state.specs.declared.instance.Instance.{Instance}
 use Rattle.instance_state.specs.Shown.{config_of}
-use Rattle.instance_values.specs.Passed.{options_of, IsInStore}
-use Rattle.instance_values.specs.declared.options.CallOptions.{CallOptions}
+use Rattle.instance_state.specs.Passed.{options_of, IsInStore}
+use Rattle.instance_state.specs.declared.options.CallOptions.{CallOptions}
 use Rattle.call_moments.specs.Configs.{world_of}
 use Rattle.call_moments.proofs.Worlds.{config_at}
 use Rattle.call_moments.specs.Fits.{scenes_of, HasMemory}

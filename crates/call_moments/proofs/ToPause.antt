@@ -33,11 +33,11 @@ use Rattle.comp_frames.specs.Frames.{Awaiting, resumes, ends_in}
 use Rattle.comp_frames.proofs.Steps.{calls_go_back}
 use Rattle.instance_state.specs.declared.instance.Instance.{Instance}
 use Rattle.instance_state.specs.Shown.{config_of}
-use Rattle.call_frames.specs.declared.end.Stop.{Stop}
-use Rattle.call_frames.specs.declared.end.Stop.TheVariants as stops
-use Rattle.call_frames.specs.declared.frames.Flow.{Flow}
-use Rattle.call_frames.specs.declared.frames.Frame.{Frame}
-use Rattle.call_frames.specs.Grouped.{canon_in}
+use Rattle.call_moments.specs.declared.end.Stop.{Stop}
+use Rattle.call_moments.specs.declared.end.Stop.TheVariants as stops
+use Rattle.call_moments.specs.declared.frame.Flow.{Flow}
+use Rattle.call_moments.specs.declared.frame.Frame.{Frame}
+use Rattle.call_moments.specs.Grouped.{canon_in}
 use Rattle.call_moments.specs.CodeLaws.{nested, HasPaused, AwaitsSince}
 use Rattle.call_moments.specs.Configs.{world_of}
 use Rattle.call_moments.specs.Held.{AllLend, loans_behind}
@@ -56,7 +56,7 @@ use Rattle.call_moments.specs.Canonical.{AnswersCode, EndsCode, GoesToPause}
 use Rattle.call_moments.proofs.Awaits.{all_stand_on}
 use Rattle.call_moments.proofs.Instances.{same_last, store_here, calls_here, scene_here, calls_set, stores_set, maps_same, scene_same, scenes_set, still_as, found_by}
 use Rattle.call_moments.proofs.Following.{with_instance, leads_by, ends_by}
-use Rattle.call_moments.proofs.Keeping.{sizes_grown, room_of, all_roomy}
+use Rattle.call_moments.proofs.KeepingLaws.{sizes_grown, room_of, all_roomy}
 use Rattle.call_moments.proofs.Resuming.{calls_twice, same_calls}
 use Rattle.call_moments.proofs.Results.{innermost_is}
 use Rattle.call_moments.proofs.Serves.{ends_as}

@@ -15,7 +15,7 @@ use Rattle.comp_frames.proofs.Acts.{nothing_before}
 use Rattle.comp_frames.proofs.Halts.{here, world_twice}
 use Rattle.instance_state.specs.declared.instance.Instance.{Instance}
 use Rattle.instance_state.specs.Shown.{config_of}
-use Rattle.instance_values.specs.Passed.{IsLoweredAs}
+use Rattle.instance_state.specs.Passed.{IsLoweredAs}
 use Rattle.call_moments.specs.Configs.{config_or_rest, configs_of, world_of, InstancesAct, Begins, StoresBegin}
 
 pub same_place : (is : List Instance) (k : ℕ) (i j : Instance) → slice_get is k ≡ Some i → slice_get (set is k j) k ≡ Some j

@@ -22,12 +22,12 @@ use Rattle.instance_state.specs.declared.instance.Instance.{Instance}
 use Rattle.instance_state.specs.Shown.{config_of}
 use Rattle.instance_state.specs.declared.owners.Owner.{Owner}
 use Rattle.instance_state.specs.Owning.{owner_of}
-use Rattle.instance_values.specs.Passed.{needs_memory}
-use Rattle.call_frames.specs.Grouped.{canon_in}
-use Rattle.call_frames.specs.declared.depth.Depth.{Depth}
-use Rattle.call_frames.specs.declared.end.Stop.{Stop}
-use Rattle.call_frames.specs.declared.frames.Flow.{Flow}
-use Rattle.call_frames.specs.declared.frames.Frame.{Frame}
+use Rattle.instance_state.specs.Passed.{needs_memory}
+use Rattle.call_moments.specs.Grouped.{canon_in}
+use Rattle.call_moments.specs.declared.depth.Depth.{Depth}
+use Rattle.call_moments.specs.declared.end.Stop.{Stop}
+use Rattle.call_moments.specs.declared.frame.Flow.{Flow}
+use Rattle.call_moments.specs.declared.frame.Frame.{Frame}
 use Rattle.call_moments.specs.CodeLaws.{nested}
 use Rattle.call_moments.specs.Held.{loans_behind}
 use Rattle.call_moments.specs.Shown.{depth_of, purpose_of}

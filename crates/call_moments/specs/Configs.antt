@@ -11,7 +11,7 @@ use Rattle.comp_worlds.specs.Locals.{Local, gives_in, close}
 use Rattle.comp_worlds.specs.Calls.{on, at_rest}
 use Rattle.instance_state.specs.declared.instance.Instance.{Instance}
 use Rattle.instance_state.specs.Shown.{config_of}
-use Rattle.call_frames.specs.Stores.{BeginsToStore}
+use Rattle.call_moments.specs.Stores.{BeginsToStore}
 
 abbrev pub config_or_rest : Option Instance → Config ℕ
 config_or_rest None = at_rest

@@ -4,7 +4,7 @@ use Rattle.handle_space.specs.HandleMap.{HandleMap, empty}
 use Rattle.comp_worlds.specs.Passing.{unlend_all}
 use Rattle.instance_state.specs.declared.loan.Loan.{Loan}
 use Rattle.instance_state.specs.Loans.{indexes_of, AreLent}
-use Rattle.call_frames.specs.declared.frames.Frame.{Frame}
+use Rattle.call_moments.specs.declared.frame.Frame.{Frame}
 use Rattle.call_moments.specs.Lending.{IsLending}
 use Rattle.call_moments.specs.Held.{loans_behind, Maps, with_map, AllLend}
 

@@ -17,10 +17,10 @@ use Rattle.comp_worlds.specs.Locals.{adds_handles}
 use Rattle.comp_worlds.specs.Calls.{owned_by, owns, borrowed, plainly}
 use Rattle.instance_state.specs.declared.owners.Owners.{Owners}
 use Rattle.instance_state.specs.Owning.{owner_in, plain_for}
-use Rattle.instance_values.specs.Passed.{needs_memory}
+use Rattle.instance_state.specs.Passed.{needs_memory}
 use Rattle.instance_state.specs.declared.instance.Instance.{Instance}
-use Rattle.call_frames.specs.declared.group.Group.{Group as CodeGroup}
-use Rattle.call_frames.specs.Grouped.{canon_in}
+use Rattle.call_moments.specs.declared.group.Group.{Group as CodeGroup}
+use Rattle.call_moments.specs.Grouped.{canon_in}
 
 -- the stores of instances, but for what core code changes
 abbrev pub scenes_of : List Instance → List Scene

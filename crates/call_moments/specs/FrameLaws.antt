@@ -11,7 +11,7 @@ use Rattle.comp_worlds.specs.Acts.{Act, ◌>>◌}
 use Rattle.comp_worlds.specs.Groups.{Group, World}
 use Rattle.comp_worlds.specs.Hosts.{hosted}
 use Rattle.comp_frames.specs.Frames.{Awaiting, resumes, ends_in}
-use Rattle.call_frames.specs.declared.frames.Frame.{Frame}
+use Rattle.call_moments.specs.declared.frame.Frame.{Frame}
 use Rattle.call_moments.specs.CodeLaws.{nested, HasBegun}
 use Rattle.call_moments.specs.Shown.{purpose_of}
 use Rattle.call_moments.specs.Standing.{Calls, with_calls, with_store, AllStand, Goes}

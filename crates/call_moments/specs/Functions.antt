@@ -24,25 +24,25 @@ use Rattle.comp_frames.specs.Laws.{is_called, calls_lifted}
 use Rattle.comp_frames.specs.Frames as defined
 use Rattle.instance_state.specs.declared.instance.Instance.{Instance}
 use Rattle.instance_state.specs.Shown.{config_of}
-use Rattle.instance_values.specs.Passed.{options_of}
-use Rattle.instance_values.specs.Targets.{target_of, lifting_of}
-use Rattle.call_frames.specs.declared.depth.Depth.{Depth}
-use Rattle.call_frames.specs.declared.end.Stop.{Stop}
-use Rattle.call_frames.specs.declared.end.Stop.TheVariants as stops
-use Rattle.call_frames.specs.declared.frames.Flow.{Flow}
-use Rattle.call_frames.specs.declared.frames.Flow.TheVariants as flows
-use Rattle.call_frames.specs.declared.frames.Frame.{Frame}
-use Rattle.call_frames.specs.declared.frames.Purpose.{Purpose}
-use Rattle.call_frames.specs.declared.frames.Purpose.TheVariants as purposes
-use Rattle.call_frames.specs.declared.frames.Call.{Call}
-use Rattle.call_frames.specs.declared.frames.Caller.{Caller}
-use Rattle.call_frames.specs.declared.frames.Service.{Service}
-use Rattle.call_frames.specs.declared.frames.Served.{Served}
-use Rattle.call_frames.specs.declared.frames.Storing.{Storing}
-use Rattle.call_frames.specs.declared.frames.Stored.{Stored}
-use Rattle.call_frames.specs.declared.frames.Back.{Back}
-use Rattle.call_frames.specs.declared.frames.Due.{Due}
-use Rattle.call_frames.specs.declared.frames.Visit.{Visit}
+use Rattle.instance_state.specs.Passed.{options_of}
+use Rattle.instance_state.specs.Targets.{target_of, lifting_of}
+use Rattle.call_moments.specs.declared.depth.Depth.{Depth}
+use Rattle.call_moments.specs.declared.end.Stop.{Stop}
+use Rattle.call_moments.specs.declared.end.Stop.TheVariants as stops
+use Rattle.call_moments.specs.declared.frame.Flow.{Flow}
+use Rattle.call_moments.specs.declared.frame.Flow.TheVariants as flows
+use Rattle.call_moments.specs.declared.frame.Frame.{Frame}
+use Rattle.call_moments.specs.declared.frame.Purpose.{Purpose}
+use Rattle.call_moments.specs.declared.frame.Purpose.TheVariants as purposes
+use Rattle.call_moments.specs.declared.frame.Call.{Call}
+use Rattle.call_moments.specs.declared.frame.Caller.{Caller}
+use Rattle.call_moments.specs.declared.frame.Service.{Service}
+use Rattle.call_moments.specs.declared.frame.Served.{Served}
+use Rattle.call_moments.specs.declared.frame.Storing.{Storing}
+use Rattle.call_moments.specs.declared.frame.Stored.{Stored}
+use Rattle.call_moments.specs.declared.frame.Back.{Back}
+use Rattle.call_moments.specs.declared.frame.Due.{Due}
+use Rattle.call_moments.specs.declared.frame.Visit.{Visit}
 use Rattle.call_moments.specs.CodeLaws.{nested}
 use Rattle.call_moments.specs.Held.{loans_by, loans_next, loans_behind}
 use Rattle.call_moments.specs.Shown.{depth_of, asker_of, caller_of, service_of, due_of, next_of, storing_of, back_of, visits_of, purpose_of}

@@ -4,13 +4,13 @@ use Rattle.std.specs.Prelude.{◌==◌, ◌++◌, ℕ, List, [], ◌∷◌, Bool
 use Rattle.handle_space.specs.HandleMap.{HandleMap}
 use Rattle.comp_worlds.specs.Calls.{pick}
 use Rattle.instance_state.specs.declared.loan.Loan.{Loan}
-use Rattle.call_frames.specs.declared.frames.Caller.{Caller}
-use Rattle.call_frames.specs.declared.frames.Caller.TheVariants as callers
-use Rattle.call_frames.specs.declared.frames.Stored.{Stored}
-use Rattle.call_frames.specs.declared.frames.Stored.TheVariants as stored
-use Rattle.call_frames.specs.declared.frames.Purpose.{Purpose}
-use Rattle.call_frames.specs.declared.frames.Purpose.TheVariants as purposes
-use Rattle.call_frames.specs.declared.frames.Frame.{Frame}
+use Rattle.call_moments.specs.declared.frame.Caller.{Caller}
+use Rattle.call_moments.specs.declared.frame.Caller.TheVariants as callers
+use Rattle.call_moments.specs.declared.frame.Stored.{Stored}
+use Rattle.call_moments.specs.declared.frame.Stored.TheVariants as stored
+use Rattle.call_moments.specs.declared.frame.Purpose.{Purpose}
+use Rattle.call_moments.specs.declared.frame.Purpose.TheVariants as purposes
+use Rattle.call_moments.specs.declared.frame.Frame.{Frame}
 use Rattle.call_moments.specs.Lending.{IsLending}
 
 abbrev pub loans_by : Caller → List Loan

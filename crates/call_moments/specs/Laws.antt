@@ -8,11 +8,11 @@ use Rattle.comp_worlds.specs.Passing.{params_tuple, answer_tuple}
 use Rattle.comp_worlds.specs.Groups.{Nesting, Nested, deeper, Config, World, Nothing, Answer, Inside, Import}
 use Rattle.comp_worlds.specs.Calls.{below, begins_call}
 use Rattle.comp_worlds.specs.Hosts.{passed_by, hosted}
-use Rattle.call_frames.specs.declared.end.Stop.{Stop}
-use Rattle.call_frames.specs.declared.end.Stop.TheVariants as stops
-use Rattle.call_frames.specs.declared.depth.Depth.{Depth}
-use Rattle.call_frames.specs.Steps.{BeginsCall}
-use Rattle.call_frames.specs.Asking.{called, Asks}
+use Rattle.call_moments.specs.declared.end.Stop.{Stop}
+use Rattle.call_moments.specs.declared.end.Stop.TheVariants as stops
+use Rattle.call_moments.specs.declared.depth.Depth.{Depth}
+use Rattle.call_moments.specs.Steps.{BeginsCall}
+use Rattle.call_moments.specs.Asking.{called, Asks}
 
 -- of at most 65,536 calls so many are in progress
 abbrev pub nested : ℕ → Nesting

@@ -11,12 +11,12 @@ use Rattle.comp_frames.specs.Frames.{Awaiting, ends_in}
 use Rattle.instance_state.specs.declared.instance.Instance.{Instance}
 use Rattle.instance_state.specs.declared.loan.Loan.{Loan}
 use Rattle.instance_state.specs.declared.calls.CoreCall.{CoreCall}
-use Rattle.call_frames.specs.declared.end.Stop.{Stop}
-use Rattle.call_frames.specs.declared.end.Stop.TheVariants as stops
-use Rattle.call_frames.specs.declared.frames.Flow.{Flow}
-use Rattle.call_frames.specs.declared.frames.Flow.TheVariants as flows
-use Rattle.call_frames.specs.declared.frames.Frame.{Frame}
-use Rattle.call_frames.specs.declared.group.Group.{Group as CodeGroup}
+use Rattle.call_moments.specs.declared.end.Stop.{Stop}
+use Rattle.call_moments.specs.declared.end.Stop.TheVariants as stops
+use Rattle.call_moments.specs.declared.frame.Flow.{Flow}
+use Rattle.call_moments.specs.declared.frame.Flow.TheVariants as flows
+use Rattle.call_moments.specs.declared.frame.Frame.{Frame}
+use Rattle.call_moments.specs.declared.group.Group.{Group as CodeGroup}
 use Rattle.call_moments.specs.Configs.{configs_of, world_of}
 use Rattle.call_moments.specs.CodeLaws.{nested}
 use Rattle.call_moments.specs.Held.{Maps, AllLend}

@@ -1,3 +1,9 @@
+pub mod Words
+pub mod Grouped
+pub mod Stores
+pub mod Steps
+pub mod Stops
+pub mod Asking
 pub mod Laws
 pub mod Configs
 pub mod Shown

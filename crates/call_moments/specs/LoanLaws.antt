@@ -12,7 +12,7 @@ use Rattle.comp_worlds.specs.Locals.{Local, enter, exit, close, reopen, makes, r
 use Rattle.comp_worlds.specs.Calls.{plainly}
 use Rattle.instance_state.specs.declared.loan.Loan.{Loan}
 use Rattle.instance_state.specs.Loans.{indexes_of, IsLentAs, AreLent}
-use Rattle.instance_values.specs.Passed.{IsLiftedAs, IsLoweredAs}
+use Rattle.instance_state.specs.Passed.{IsLiftedAs, IsLoweredAs}
 use Rattle.call_moments.specs.Lending.{IsLending}
 
 -- an operation on an instance leaves what is lent

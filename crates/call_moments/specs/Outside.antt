@@ -11,7 +11,7 @@ use Rattle.comp_worlds.specs.Groups.{Target, type_of, Group, World, Outside}
 use Rattle.comp_worlds.specs.Calls.{answers, leaves, starts}
 use Rattle.comp_worlds.specs.Hosts.{hosted}
 use Rattle.comp_frames.specs.Running.{running}
-use Rattle.call_frames.specs.declared.end.Stop.{Stop}
+use Rattle.call_moments.specs.declared.end.Stop.{Stop}
 use Rattle.call_moments.specs.CodeLaws.{nested}
 use Rattle.call_moments.specs.Configs.{world_of}
 use Rattle.call_moments.specs.Fits.{scenes_of, Takes, TargetFits}

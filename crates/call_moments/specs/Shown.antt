@@ -4,26 +4,26 @@ use Rattle.wit_types.specs.PlainValue.{plain_value}
 use Rattle.abi_store.specs.Plan as plans
 use Rattle.abi_store.specs.Plan.{Plan, Nothing, Given, Asked}
 use Rattle.comp_worlds.specs.Groups.{Nesting, Nested, Due as GroupDue, Nothing as NothingDue, Served as IsServed, Below}
-use Rattle.instance_values.specs.Targets.{target_of, lifting_of}
+use Rattle.instance_state.specs.Targets.{target_of, lifting_of}
 use Rattle.instance_state.specs.Loans.{indexes_of}
-use Rattle.instance_values.specs.Passed.{options_of}
+use Rattle.instance_state.specs.Passed.{options_of}
 use Rattle.comp_frames.specs.Frames as defined
-use Rattle.call_frames.specs.declared.depth.Depth.{Depth}
-use Rattle.call_frames.specs.declared.frames.Call.{Call}
-use Rattle.call_frames.specs.declared.frames.Caller.{Caller}
-use Rattle.call_frames.specs.declared.frames.Caller.TheVariants as callers
-use Rattle.call_frames.specs.declared.frames.Service.{Service}
-use Rattle.call_frames.specs.declared.frames.Storing.{Storing}
-use Rattle.call_frames.specs.declared.frames.Stored.{Stored}
-use Rattle.call_frames.specs.declared.frames.Stored.TheVariants as stored
-use Rattle.call_frames.specs.declared.frames.Due.{Due}
-use Rattle.call_frames.specs.declared.frames.Due.TheVariants as dues
-use Rattle.call_frames.specs.declared.frames.Back.{Back}
-use Rattle.call_frames.specs.declared.frames.Back.TheVariants as backs
-use Rattle.call_frames.specs.declared.frames.Visit.{Visit}
-use Rattle.call_frames.specs.declared.frames.Visit.TheVariants as visits
-use Rattle.call_frames.specs.declared.frames.Purpose.{Purpose}
-use Rattle.call_frames.specs.declared.frames.Purpose.TheVariants as purposes
+use Rattle.call_moments.specs.declared.depth.Depth.{Depth}
+use Rattle.call_moments.specs.declared.frame.Call.{Call}
+use Rattle.call_moments.specs.declared.frame.Caller.{Caller}
+use Rattle.call_moments.specs.declared.frame.Caller.TheVariants as callers
+use Rattle.call_moments.specs.declared.frame.Service.{Service}
+use Rattle.call_moments.specs.declared.frame.Storing.{Storing}
+use Rattle.call_moments.specs.declared.frame.Stored.{Stored}
+use Rattle.call_moments.specs.declared.frame.Stored.TheVariants as stored
+use Rattle.call_moments.specs.declared.frame.Due.{Due}
+use Rattle.call_moments.specs.declared.frame.Due.TheVariants as dues
+use Rattle.call_moments.specs.declared.frame.Back.{Back}
+use Rattle.call_moments.specs.declared.frame.Back.TheVariants as backs
+use Rattle.call_moments.specs.declared.frame.Visit.{Visit}
+use Rattle.call_moments.specs.declared.frame.Visit.TheVariants as visits
+use Rattle.call_moments.specs.declared.frame.Purpose.{Purpose}
+use Rattle.call_moments.specs.declared.frame.Purpose.TheVariants as purposes
 
 abbrev pub depth_of : Depth → Nesting
 depth_of d = Nested 65536 d.calls

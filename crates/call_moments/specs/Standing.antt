@@ -11,7 +11,7 @@ use Rattle.comp_worlds.specs.Calls.{pick}
 use Rattle.comp_worlds.specs.Hosts.{hosted}
 use Rattle.comp_frames.specs.Pausing.{IsRunBy}
 use Rattle.comp_frames.specs.Frames.{Awaiting}
-use Rattle.call_frames.specs.declared.frames.Frame.{Frame}
+use Rattle.call_moments.specs.declared.frame.Frame.{Frame}
 use Rattle.call_moments.specs.CodeLaws.{nested, AwaitsSince}
 use Rattle.call_moments.specs.Shown.{purpose_of}
 

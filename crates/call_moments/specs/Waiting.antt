@@ -17,15 +17,15 @@ use Rattle.comp_worlds.specs.Passing.{answer_tuple}
 use Rattle.comp_worlds.specs.Groups.{Nesting, type_of, Lifting, Due as GroupDue, Nothing, Served, Below}
 use Rattle.comp_frames.specs.Within.{IsRoomy}
 use Rattle.comp_frames.specs.Frames.{Asker, Caller, FromOutside, FromCode, Service, Back, ToOutside, ToCode}
-use Rattle.instance_values.specs.Passed.{options_of}
-use Rattle.call_frames.specs.declared.frames.Frame.{Frame}
-use Rattle.call_frames.specs.declared.frames.Purpose.{Purpose}
-use Rattle.call_frames.specs.declared.frames.Purpose.TheVariants as purposes
-use Rattle.call_frames.specs.declared.frames.Storing.{Storing}
-use Rattle.call_frames.specs.declared.frames.Stored.{Stored}
-use Rattle.call_frames.specs.declared.frames.Stored.TheVariants as stored
-use Rattle.call_frames.specs.declared.frames.Due.{Due}
-use Rattle.call_frames.specs.declared.frames.Due.TheVariants as dues
+use Rattle.instance_state.specs.Passed.{options_of}
+use Rattle.call_moments.specs.declared.frame.Frame.{Frame}
+use Rattle.call_moments.specs.declared.frame.Purpose.{Purpose}
+use Rattle.call_moments.specs.declared.frame.Purpose.TheVariants as purposes
+use Rattle.call_moments.specs.declared.frame.Storing.{Storing}
+use Rattle.call_moments.specs.declared.frame.Stored.{Stored}
+use Rattle.call_moments.specs.declared.frame.Stored.TheVariants as stored
+use Rattle.call_moments.specs.declared.frame.Due.{Due}
+use Rattle.call_moments.specs.declared.frame.Due.TheVariants as dues
 use Rattle.call_moments.specs.Shown.{depth_of, caller_of, service_of, due_of, storing_of, back_of}
 use Rattle.call_moments.specs.Standing.{Calls, with_calls}
 use Rattle.call_moments.specs.Fits.{answers_of, OptionsFit, LiftingFits, Takes, HasMemory}

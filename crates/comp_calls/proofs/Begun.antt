@@ -29,29 +29,29 @@ use Rattle.instance_state.specs.Shown.{config_of}
 use Rattle.instance_state.specs.declared.loan.Loan.{Loan}
 use Rattle.instance_state.specs.Loans.{indexes_of, IsLentAs, AreLent}
 use Rattle.instance_state.specs.Owning.{plain_for}
-use Rattle.instance_values.specs.Functions.{IsPassedAs}
-use Rattle.instance_values.specs.Passed.{options_of, needs_memory, IsInStore, params_plan, result_plan}
-use Rattle.instance_values.specs.Targets.{target_of, lifting_of}
-use Rattle.instance_values.specs.declared.options.CallOptions.{CallOptions}
-use Rattle.instance_values.specs.declared.passed_func.PassedFunc.{PassedFunc}
-use Rattle.instance_values.specs.declared.target.Lifting.{Lifting}
-use Rattle.instance_values.specs.declared.target.Target.{Target}
-use Rattle.instance_values.specs.declared.target.Target.TheVariants as targets
-use Rattle.instance_values.proofs.Words.{words_same}
-use Rattle.call_frames.specs.Stops.{stop_of_store}
-use Rattle.call_frames.specs.Stores.{Lifts, Stores as BeginStores, without_loans}
-use Rattle.call_frames.specs.Words.{word_in}
-use Rattle.call_frames.specs.declared.depth.Depth.{Depth}
-use Rattle.call_frames.specs.declared.end.Stop.{Stop}
-use Rattle.call_frames.specs.declared.end.Stop.TheVariants as stops
-use Rattle.call_frames.specs.declared.frames.Flow.{Flow}
-use Rattle.call_frames.specs.declared.frames.Call.{Call}
-use Rattle.call_frames.specs.declared.frames.Caller.TheVariants as callers
-use Rattle.call_frames.specs.declared.frames.Due.{Due}
-use Rattle.call_frames.specs.declared.frames.Due.TheVariants as dues
-use Rattle.call_frames.specs.declared.frames.Service.{Service}
-use Rattle.call_frames.specs.declared.frames.Storing.{Storing}
-use Rattle.call_frames.specs.declared.frames.Stored.TheVariants as stored
+use Rattle.instance_state.specs.Functions.{IsPassedAs}
+use Rattle.instance_state.specs.Passed.{options_of, needs_memory, IsInStore, params_plan, result_plan}
+use Rattle.instance_state.specs.Targets.{target_of, lifting_of}
+use Rattle.instance_state.specs.declared.options.CallOptions.{CallOptions}
+use Rattle.instance_state.specs.declared.passed_func.PassedFunc.{PassedFunc}
+use Rattle.instance_state.specs.declared.target.Lifting.{Lifting}
+use Rattle.instance_state.specs.declared.target.Target.{Target}
+use Rattle.instance_state.specs.declared.target.Target.TheVariants as targets
+use Rattle.instance_state.proofs.Words.{words_same}
+use Rattle.call_moments.specs.Stops.{stop_of_store}
+use Rattle.call_moments.specs.Stores.{Lifts, Stores as BeginStores, without_loans}
+use Rattle.call_moments.specs.Words.{word_in}
+use Rattle.call_moments.specs.declared.depth.Depth.{Depth}
+use Rattle.call_moments.specs.declared.end.Stop.{Stop}
+use Rattle.call_moments.specs.declared.end.Stop.TheVariants as stops
+use Rattle.call_moments.specs.declared.frame.Flow.{Flow}
+use Rattle.call_moments.specs.declared.frame.Call.{Call}
+use Rattle.call_moments.specs.declared.frame.Caller.TheVariants as callers
+use Rattle.call_moments.specs.declared.frame.Due.{Due}
+use Rattle.call_moments.specs.declared.frame.Due.TheVariants as dues
+use Rattle.call_moments.specs.declared.frame.Service.{Service}
+use Rattle.call_moments.specs.declared.frame.Storing.{Storing}
+use Rattle.call_moments.specs.declared.frame.Stored.TheVariants as stored
 use Rattle.call_moments.specs.Shown.{depth_of}
 use Rattle.call_moments.specs.Leads.{Moment}
 use Rattle.call_moments.specs.Functions.{Stores, ParamsLead, ResultLeads, CallsLifted}

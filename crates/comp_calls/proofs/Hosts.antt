@@ -7,11 +7,11 @@ use Rattle.host_port.specs.Calls.{PlainCall, PlainAnswer, Gives, Trap, Ended, Ba
 use Rattle.host_port.specs.Hosts.{HostStep, Kept, IsAnswerTo, answer_of, reacts}
 use Rattle.comp_worlds.specs.Groups.{Import}
 use Rattle.comp_worlds.specs.Passing.{in_tuple}
-use Rattle.instance_values.specs.Targets.{target_of}
-use Rattle.instance_values.specs.declared.target.Target.{Target}
-use Rattle.call_frames.specs.Asking.{called, GivesTuple}
-use Rattle.call_frames.specs.declared.end.Stop.{Stop}
-use Rattle.call_frames.specs.declared.end.Stop.TheVariants as stops
+use Rattle.instance_state.specs.Targets.{target_of}
+use Rattle.instance_state.specs.declared.target.Target.{Target}
+use Rattle.call_moments.specs.Asking.{called, GivesTuple}
+use Rattle.call_moments.specs.declared.end.Stop.{Stop}
+use Rattle.call_moments.specs.declared.end.Stop.TheVariants as stops
 use Rattle.call_moments.specs.Leads.{Moment}
 use Rattle.call_moments.specs.Canonical.{AsksHost}
 use Rattle.call_moments.specs.Outside.{RunsCall}

@@ -21,14 +21,14 @@ use Rattle.instance_state.specs.declared.fault.HandleFault.TheVariants.{Trap, No
 use Rattle.instance_state.specs.declared.loan.Loan.{Loan}
 use Rattle.instance_state.specs.Loans.{indexes_of}
 use Rattle.instance_state.specs.Owning.{owner_in}
-use Rattle.instance_values.specs.Passed.{needs_memory}
-use Rattle.instance_values.proofs.Words.{words_same}
-use Rattle.call_frames.specs.Stops.{stop_of_handles}
-use Rattle.call_frames.specs.Stores.{Lifts}
-use Rattle.call_frames.specs.Words.{only_word_in}
-use Rattle.call_frames.specs.declared.end.Stop.{Stop}
-use Rattle.call_frames.specs.declared.end.Stop.TheVariants as stops
-use Rattle.call_frames.specs.declared.frames.Flow.{Flow}
+use Rattle.instance_state.specs.Passed.{needs_memory}
+use Rattle.instance_state.proofs.Words.{words_same}
+use Rattle.call_moments.specs.Stops.{stop_of_handles}
+use Rattle.call_moments.specs.Stores.{Lifts}
+use Rattle.call_moments.specs.Words.{only_word_in}
+use Rattle.call_moments.specs.declared.end.Stop.{Stop}
+use Rattle.call_moments.specs.declared.end.Stop.TheVariants as stops
+use Rattle.call_moments.specs.declared.frame.Flow.{Flow}
 use Rattle.call_moments.specs.Leads.{Moment}
 use Rattle.call_moments.specs.Canonical.{LiftsResult, Performs}
 use Rattle.call_moments.proofs.Dropping.{makes_fails}

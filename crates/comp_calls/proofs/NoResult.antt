@@ -23,25 +23,25 @@ use Rattle.instance_state.specs.declared.instance.Instance.{Instance}
 use Rattle.instance_state.specs.Shown.{config_of}
 use Rattle.instance_state.specs.Loans.{indexes_of, AreLent}
 use Rattle.instance_state.specs.Owning.{plain_for}
-use Rattle.instance_values.specs.Passed.{IsInStore, result_plan}
-use Rattle.instance_values.specs.Targets.{target_of}
-use Rattle.call_frames.specs.Stores.{BeginsToStore, without_loans}
-use Rattle.call_frames.specs.declared.depth.Depth.{Depth}
-use Rattle.call_frames.specs.declared.end.Stop.{Stop}
-use Rattle.call_frames.specs.declared.end.Stop.TheVariants as stops
-use Rattle.call_frames.specs.declared.frames.Flow.{Flow}
-use Rattle.call_frames.specs.declared.frames.Back.TheVariants as backs
-use Rattle.call_frames.specs.declared.frames.Call.{Call}
-use Rattle.call_frames.specs.declared.frames.Due.{Due}
-use Rattle.call_frames.specs.declared.frames.Storing.{Storing}
-use Rattle.call_frames.specs.declared.frames.Stored.TheVariants as stored
+use Rattle.instance_state.specs.Passed.{IsInStore, result_plan}
+use Rattle.instance_state.specs.Targets.{target_of}
+use Rattle.call_moments.specs.Stores.{BeginsToStore, without_loans}
+use Rattle.call_moments.specs.declared.depth.Depth.{Depth}
+use Rattle.call_moments.specs.declared.end.Stop.{Stop}
+use Rattle.call_moments.specs.declared.end.Stop.TheVariants as stops
+use Rattle.call_moments.specs.declared.frame.Flow.{Flow}
+use Rattle.call_moments.specs.declared.frame.Back.TheVariants as backs
+use Rattle.call_moments.specs.declared.frame.Call.{Call}
+use Rattle.call_moments.specs.declared.frame.Due.{Due}
+use Rattle.call_moments.specs.declared.frame.Storing.{Storing}
+use Rattle.call_moments.specs.declared.frame.Stored.TheVariants as stored
 use Rattle.call_moments.proofs.Worlds.{same_place}
 use Rattle.call_moments.specs.Leads.{Moment}
 use Rattle.call_moments.specs.Functions.{IsLeft, IsStored, Stores, ResultLeads}
 use Rattle.call_moments.proofs.Following.{with_instance}
 use Rattle.call_moments.proofs.Lowered.{result_fail, result_lead}
 use Rattle.call_moments.proofs.Serves.{stored_result}
-use Rattle.call_moments.proofs.Storing.{step_done}
+use Rattle.call_moments.proofs.StoringLaws.{step_done}
 use Rattle.call_moments.proofs.StoreSteps.{set_twice}
 use Rattle.comp_calls.proofs.Begun.{ends_so}
 

@@ -5,11 +5,11 @@ use Rattle.std.proofs.lemmas.Bool.Decides.{nat_tests}
 use Rattle.host_port.specs.Hosts.{HostStep}
 use Rattle.comp_worlds.specs.Locals.{enter}
 use Rattle.instance_state.specs.declared.owners.Owner.{Owner}
-use Rattle.call_frames.specs.declared.depth.Depth.{Depth}
-use Rattle.call_frames.specs.declared.end.Stop.{Stop}
-use Rattle.call_frames.specs.declared.frames.Flow.{Flow}
-use Rattle.call_frames.specs.declared.frames.Visit.{Visit}
-use Rattle.call_frames.specs.declared.frames.Visit.TheVariants.{Own, Other}
+use Rattle.call_moments.specs.declared.depth.Depth.{Depth}
+use Rattle.call_moments.specs.declared.end.Stop.{Stop}
+use Rattle.call_moments.specs.declared.frame.Flow.{Flow}
+use Rattle.call_moments.specs.declared.frame.Visit.{Visit}
+use Rattle.call_moments.specs.declared.frame.Visit.TheVariants.{Own, Other}
 use Rattle.call_moments.specs.Leads.{Moment}
 use Rattle.call_moments.specs.Functions.{IsChanged}
 use Rattle.call_moments.specs.Canonical.{Destroys}

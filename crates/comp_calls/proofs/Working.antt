@@ -1,7 +1,7 @@
 -- One piece of core code more.
 use Rattle.std.proofs.Common.{◌≡◌, ◌+◌, ℕ, List, [], ◌∷◌, ◌++◌, arith}
 use Rattle.std.proofs.lemmas.List.Sums.{sum_by-append}
-use Rattle.call_frames.specs.declared.frames.Frame.{Frame}
+use Rattle.call_moments.specs.declared.frame.Frame.{Frame}
 use Rattle.comp_calls.specs.Work.{weight, weights, work}
 
 pub weights_more : (fs : List Frame) (f : Frame) → weights (fs ++ f ∷ []) ≡ weights fs + weight f.purpose

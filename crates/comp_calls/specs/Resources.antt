@@ -2,10 +2,10 @@
 use Rattle.std.specs.Prelude.{◌≡◌, ◌==◌, ℕ, List, [], ◌∷◌, ◌++◌, Option, Some, None, Bool, true, false}
 use Rattle.host_port.specs.declared.call.Resource.{Resource}
 use Rattle.host_port.specs.Hosts.{HostStep, Kept, drops}
-use Rattle.call_frames.specs.declared.frames.Frame.{Frame}
-use Rattle.call_frames.specs.declared.frames.Purpose.TheVariants.{Destroys}
-use Rattle.call_frames.specs.declared.frames.Visit.{Visit}
-use Rattle.call_frames.specs.declared.frames.Visit.TheVariants.{Own, Other}
+use Rattle.call_moments.specs.declared.frame.Frame.{Frame}
+use Rattle.call_moments.specs.declared.frame.Purpose.TheVariants.{Destroys}
+use Rattle.call_moments.specs.declared.frame.Visit.{Visit}
+use Rattle.call_moments.specs.declared.frame.Visit.TheVariants.{Own, Other}
 
 -- the host lost a handle of a resource that it has
 abbrev pub IsDropped : {S : Type 0} → HostStep S → Kept S → Option Resource → ℕ → Kept S → Type 0

@@ -1,10 +1,10 @@
 -- How much is left to do at most: steps, and core code in progress that is to end.
 use Rattle.std.specs.Prelude.{ℕ, ◌+◌, ◌*◌, List, sum_by}
-use Rattle.call_frames.specs.declared.frames.Frame.{Frame}
-use Rattle.call_frames.specs.declared.frames.Purpose.{Purpose}
-use Rattle.call_frames.specs.declared.frames.Purpose.TheVariants.{Starts, Serves, Grants, Returns, Destroys}
-use Rattle.call_frames.specs.declared.frames.Stored.{Stored}
-use Rattle.call_frames.specs.declared.frames.Stored.TheVariants.{Params, Result}
+use Rattle.call_moments.specs.declared.frame.Frame.{Frame}
+use Rattle.call_moments.specs.declared.frame.Purpose.{Purpose}
+use Rattle.call_moments.specs.declared.frame.Purpose.TheVariants.{Starts, Serves, Grants, Returns, Destroys}
+use Rattle.call_moments.specs.declared.frame.Stored.{Stored}
+use Rattle.call_moments.specs.declared.frame.Stored.TheVariants.{Params, Result}
 
 -- behind the last `realloc` for parameters the function runs, which takes no step of its own
 abbrev pub weight : Purpose → ℕ

@@ -5,11 +5,11 @@ ghost use Rattle.std.specs.Option.{option_and_then};
 ghost use Rattle.wit_types.specs.PlainValue.{plain_value, plain_values};
 ghost use Rattle.host_port.specs.Calls.{plain_option};
 ghost use Rattle.host_port.specs.Hosts.{answer_of, reacts};
-ghost use Rattle.call_frames.specs.Asking.{called, Asks, WithMemory};
+ghost use Rattle.call_moments.specs.Asking.{called, Asks, WithMemory};
 ghost use Rattle.comp_worlds.specs.Groups.{LoweredFunc};
 ghost use Rattle.comp_worlds.specs.Passing.{out_of_tuple as value_of};
-ghost use Rattle.instance_values.specs.Passed.{options_of};
-ghost use Rattle.instance_values.specs.Targets.{target_of};
+ghost use Rattle.instance_state.specs.Passed.{options_of};
+ghost use Rattle.instance_state.specs.Targets.{target_of};
 ghost use Rattle.call_moments.specs.Shown.{depth_of};
 ghost use Rattle.comp_calls.specs.Work.{work};
 ghost use Rattle.comp_calls.specs.Moments.{at};
@@ -17,12 +17,12 @@ ghost use Rattle.call_moments.specs.Canonical.{AsksHost, Performs, AnswersCode};
 ghost use Rattle.call_moments.specs.Outside.{RunsCall};
 
 use crate::world::World;
-use call_frames::{
+use call_moments::{
     Call, Caller, Depth, Due, Flow, Stop, host_call, in_tuple, lift_in, out_of_tuple, word_at,
 };
 use core_slots::CoreValues;
 use host_port::{Answer, Host};
-use instance_values::{CallOptions, Canon, Import, Target};
+use instance_state::{CallOptions, Canon, Import, Target};
 use std::alloc::Global;
 use wit_types::{Value, Values};
 

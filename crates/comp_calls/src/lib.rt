@@ -9,5 +9,5 @@ mod resources;
 mod serving;
 mod world;
 
-pub use call_frames::{Group, RunEnd, Stop};
+pub use call_moments::{Group, RunEnd, Stop};
 pub use world::World;

@@ -4,20 +4,20 @@ ghost use Rattle.std.specs.Prelude.{◌≡◌, ◌≤◌, ◌<◌, ◌+◌, OnOk
 ghost use Rattle.comp_calls.specs.Work.{work, weight_behind};
 ghost use Rattle.comp_calls.specs.Moments.{at};
 ghost use Rattle.wit_types.specs.PlainValue.{PlainValue, plain_value};
-ghost use Rattle.call_frames.specs.declared.depth.Depth.{Depth};
+ghost use Rattle.call_moments.specs.declared.depth.Depth.{Depth};
 ghost use Rattle.call_moments.specs.Functions.{AsksFor, IsStored, ParamsLead, ResultLeads, Stores, IsGranted};
 ghost use Rattle.comp_worlds.specs.Groups.{type_of};
-ghost use Rattle.instance_values.specs.Targets.{target_of};
+ghost use Rattle.instance_state.specs.Targets.{target_of};
 
 use crate::world::World;
 use abi_store::StoreStep;
-use call_frames::{
+use call_moments::{
     Back, Call, Depth, Due, Flow, Purpose, Service, Stop, Stored, Storing, begin_params,
     begin_result, memory_for, only_word, request,
 };
 use core_slots::CoreValues;
 use host_port::Host;
-use instance_values::Target;
+use instance_state::Target;
 use std::alloc::Global;
 use virt_base::Items;
 use wit_types::Value;

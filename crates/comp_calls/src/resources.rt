@@ -11,7 +11,7 @@ ghost use Rattle.call_moments.specs.Canonical.{Performs, DropsAtHost, Destroys};
 ghost use Rattle.comp_calls.specs.Resources.{IsDropped, destroying};
 
 use crate::world::World;
-use call_frames::{Depth, Flow, Purpose, Stop, Visit, one_word, only_word};
+use call_moments::{Depth, Flow, Purpose, Stop, Visit, one_word, only_word};
 use core_slots::CoreValues;
 use host_port::Host;
 use instance_state::Owner;

@@ -2,17 +2,17 @@
 
 ghost use Rattle.std.specs.Prelude.{◌≡◌, ◌≤◌, ◌<◌, ◌+◌, OnOk};
 ghost use Rattle.wit_types.specs.PlainValue.{plain_value};
-ghost use Rattle.instance_values.specs.Targets.{lifting_of};
+ghost use Rattle.instance_state.specs.Targets.{lifting_of};
 ghost use Rattle.comp_calls.specs.Work.{work};
 ghost use Rattle.comp_calls.specs.Moments.{at};
 ghost use Rattle.call_moments.specs.Functions.{GoesBack, HasReturned, IsLeft, PostReturns, Serving, HasServed, CallsLifted};
 ghost use Rattle.call_moments.specs.Canonical.{LiftsResult};
 
 use crate::world::World;
-use call_frames::{Back, Caller, Depth, Due, Flow, Purpose, Served, Service, Stop, lift_in};
+use call_moments::{Back, Caller, Depth, Due, Flow, Purpose, Served, Service, Stop, lift_in};
 use core_slots::CoreValues;
 use host_port::Host;
-use instance_values::Lifting;
+use instance_state::Lifting;
 use std::alloc::Global;
 use std::rc::Rc;
 use wit_types::Value;

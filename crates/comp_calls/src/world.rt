@@ -1,7 +1,7 @@
 #![tactic(auto, using(crate::proofs::Working::works))]
 
 ghost use Rattle.std.specs.Prelude.{◌≡◌, ◌≤◌, ◌<◌, ◌+◌, ◌++◌, ◌∷◌, [], reverse, OnOk, IfOk};
-ghost use Rattle.call_frames.specs.Steps.{TakesStep, BeginsCall};
+ghost use Rattle.call_moments.specs.Steps.{TakesStep, BeginsCall};
 ghost use Rattle.comp_worlds.specs.Locals.{enter as opens_call, exit as closes_call};
 ghost use Rattle.comp_calls.specs.Work.{work, weight};
 ghost use Rattle.comp_calls.specs.Moments.{at};
@@ -9,7 +9,7 @@ ghost use Rattle.call_moments.specs.Functions.{IsInnermost, Does, Resumes, CodeB
 ghost use Rattle.call_moments.specs.Canonical.{EndsCode, GoesToPause, GoesToEnd};
 ghost use Rattle.call_moments.specs.Outside.{RunsStart};
 
-use call_frames::{Depth, Flow, Frame, Group, Purpose, Stop};
+use call_moments::{Depth, Flow, Frame, Group, Purpose, Stop};
 use core_interp::Pause;
 use core_slots::CoreValues;
 use host_port::Host;

@@ -1,2 +1,5 @@
+pub mod AroundLemmas
+pub mod Inner
+pub mod OuterLemmas
 pub mod PartLemmas
 pub mod TypeLemmas

@@ -7,3 +7,9 @@ pub mod MakesLemmas
 pub mod NamedLemmas
 pub mod GivenLemmas
 pub mod InstanceLemmas
+pub mod AmongLemmas
+pub mod FaultLemmas
+pub mod NumberLemmas
+pub mod ExternsStandLemmas
+pub mod StatedLemmas
+pub mod TableLemmas

@@ -17,10 +17,10 @@ use Rattle.instance_state.specs.declared.owners.Owner.{Owner as CodeOwner}
 use Rattle.instance_state.specs.Owning.{owner_in as owner_known}
 use Rattle.instance_state.specs.declared.instance.Instance.{Instance}
 use Rattle.instance_state.specs.Shown.{config_of}
-use Rattle.instance_values.specs.declared.canon.Canon.{Canon}
-use Rattle.instance_values.specs.Targets.{func_of}
-use Rattle.call_frames.specs.declared.end.Stop.TheVariants as stops
-use Rattle.call_frames.specs.Grouped.{canon_in as canon_known}
+use Rattle.instance_state.specs.declared.canon.Canon.{Canon}
+use Rattle.instance_state.specs.Targets.{func_of}
+use Rattle.call_moments.specs.declared.end.Stop.TheVariants as stops
+use Rattle.call_moments.specs.Grouped.{canon_in as canon_known}
 use Rattle.call_moments.specs.Configs.{config_or_rest, world_of}
 use Rattle.call_moments.specs.Held.{AllLend}
 use Rattle.call_moments.specs.Leads.{Moment, calls_in, calls_of, so_far, Ends}

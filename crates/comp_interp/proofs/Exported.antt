@@ -6,8 +6,8 @@ use Rattle.std.specs.List.{position_or_len, before_first, after_first}
 use Rattle.std.proofs.lemmas.Bool.{ltb-true, ltb-false, false≢true}
 use Rattle.wit_types.specs.Plain.{Name}
 use Rattle.comp_link.specs.Linking.{Given as GroupGiven, Givens as GroupGivens, GivenFunc, GivenInstance, GivenResource, GivenType, find, target_in, instance_in as items_in, exported}
-use Rattle.instance_values.specs.declared.target.Target.{Target}
-use Rattle.instance_values.specs.Targets.{target_of}
+use Rattle.instance_state.specs.declared.target.Target.{Target}
+use Rattle.instance_state.specs.Targets.{target_of}
 use Rattle.instance_making.specs.declared.named.Named.{Named}
 use Rattle.instance_making.specs.declared.given.Given.{Given}
 use Rattle.instance_making.specs.declared.given.Given.TheVariants.{Func, Instance, Resource, «Type»}

@@ -14,11 +14,11 @@ use Rattle.host_port.specs.Hosts.{HostStep}
 use Rattle.comp_worlds.specs.Groups.{Stage, Group}
 use Rattle.comp_link.specs.Linking.{Givens, Making}
 use Rattle.instance_state.specs.declared.instance.Instance.{Instance}
-use Rattle.instance_values.specs.declared.canon.Canon.{Canon}
-use Rattle.call_frames.specs.declared.end.Stop.{Stop}
-use Rattle.call_frames.specs.declared.end.Stop.TheVariants as stops
-use Rattle.call_frames.specs.Stops.{stop_of_store}
-use Rattle.call_frames.specs.Steps.{TakesStep}
+use Rattle.instance_state.specs.declared.canon.Canon.{Canon}
+use Rattle.call_moments.specs.declared.end.Stop.{Stop}
+use Rattle.call_moments.specs.declared.end.Stop.TheVariants as stops
+use Rattle.call_moments.specs.Stops.{stop_of_store}
+use Rattle.call_moments.specs.Steps.{TakesStep}
 use Rattle.call_moments.specs.Leads.{Moment, so_far, Ends}
 use Rattle.instance_making.specs.declared.named.Named.{Named}
 use Rattle.instance_making.specs.declared.given.Given.{Given}

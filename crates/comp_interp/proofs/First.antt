@@ -10,7 +10,7 @@ use Rattle.comp_link.specs.declared.linked.Linked.{Linked}
 use Rattle.comp_link.specs.Planned.{and_components, plan_items, plan_in}
 use Rattle.comp_joins.proofs.Held.{all_outside_held, each_known}
 use Rattle.comp_joins.proofs.Below.{stay_below}
-use Rattle.comp_sound.specs.Sound.{at_first}
+use Rattle.comp_joins.specs.Sound.{at_first}
 use Rattle.call_moments.specs.Configs.{world_of}
 use Rattle.call_moments.specs.Held.{AllLend}
 use Rattle.call_moments.specs.Fits.{scenes_of}

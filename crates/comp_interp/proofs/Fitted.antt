@@ -21,7 +21,7 @@ use Rattle.comp_joins.specs.Settled.{TargetNames, FuncNames, IsOwnedAlike}
 use Rattle.comp_joins.proofs.Growing.{plan_grows}
 use Rattle.comp_joins.proofs.Passing.{pass_alike}
 use Rattle.comp_joins.proofs.Standing.{settled}
-use Rattle.comp_sound.specs.Sound.{at_first}
+use Rattle.comp_joins.specs.Sound.{at_first}
 use Rattle.instance_state.specs.Owning.{owner_in as owner_known, plain_for}
 use Rattle.call_moments.specs.Fits.{scenes_of, PassesAlike, TargetFits, OwnerFits, FuncFits, Fits}
 use Rattle.call_moments.specs.Leads.{Moment, IsAtRest}

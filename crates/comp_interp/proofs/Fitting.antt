@@ -15,9 +15,9 @@ use Rattle.comp_types.specs.Flat.{lifted_type}
 use Rattle.comp_types.specs.Rules.{post_return_type, realloc_type}
 use Rattle.comp_worlds.specs.Passing.{params_tuple, answer_tuple, answer_parts, most_params, most_results, spills_over}
 use Rattle.comp_worlds.specs.Groups.{Options, Lifting}
-use Rattle.comp_sound.specs.Fits.{HasCode, HasCodeIfAny, HasMemoryIfAny}
-use Rattle.comp_sound.specs.Fits as sound
-use Rattle.instance_values.specs.Passed.{needs_memory}
+use Rattle.comp_joins.specs.Fits.{HasCode, HasCodeIfAny, HasMemoryIfAny}
+use Rattle.comp_joins.specs.Fits as sound
+use Rattle.instance_state.specs.Passed.{needs_memory}
 use Rattle.call_moments.specs.Fits.{Takes, answers_in, answers_of, HasMemory, OptionsFit, LiftingFits}
 use Rattle.comp_interp.proofs.Lists.{get_front}
 

@@ -20,9 +20,9 @@ use Rattle.comp_frames.proofs.Heads.{before_next, on_some}
 use Rattle.comp_link.specs.Linking.{Givens, Placed, Whole, Making, with_canon, canon_in}
 use Rattle.instance_state.specs.declared.instance.Instance.{Instance}
 use Rattle.instance_state.specs.Shown.{config_of}
-use Rattle.instance_values.specs.declared.canon.Canon.{Canon}
-use Rattle.instance_values.specs.Targets.{func_of}
-use Rattle.call_frames.specs.Grouped.{canon_in as canon_known}
+use Rattle.instance_state.specs.declared.canon.Canon.{Canon}
+use Rattle.instance_state.specs.Targets.{func_of}
+use Rattle.call_moments.specs.Grouped.{canon_in as canon_known}
 use Rattle.call_moments.specs.CodeLaws.{nested}
 use Rattle.call_moments.specs.Configs.{world_of}
 use Rattle.call_moments.specs.Held.{AllLend}

@@ -16,7 +16,7 @@ use Rattle.comp_link.specs.declared.linked.Linked.{Linked}
 use Rattle.comp_link.specs.Planned.{PlannedComponent, item_named, args_named, plan_item}
 use Rattle.comp_joins.specs.Growing.{Grows}
 use Rattle.comp_joins.proofs.Growing.{grows_then, item_grows, plan_grows}
-use Rattle.call_frames.specs.declared.end.Stop.{Stop}
+use Rattle.call_moments.specs.declared.end.Stop.{Stop}
 use Rattle.call_moments.specs.Leads.{Moment, so_far, Ends}
 use Rattle.instance_making.specs.declared.named.Named.{Named}
 use Rattle.instance_making.specs.declared.given.Given.{Given}

@@ -8,8 +8,8 @@ use Rattle.comp_worlds.specs.Groups.{Owner}
 use Rattle.comp_link.specs.Linking.{Givens, all_outside, all_known}
 use Rattle.instance_state.specs.declared.owners.Owners.{Owners}
 use Rattle.instance_state.specs.Owning.{owner_of}
-use Rattle.instance_values.specs.declared.canon.Canon.{Canon}
-use Rattle.call_frames.specs.Grouped.{canon_in as canon_known}
+use Rattle.instance_state.specs.declared.canon.Canon.{Canon}
+use Rattle.call_moments.specs.Grouped.{canon_in as canon_known}
 use Rattle.call_moments.specs.Leads.{Moment}
 use Rattle.instance_making.specs.declared.named.Named.{Named}
 use Rattle.instance_making.specs.declared.given.Given.{Given}

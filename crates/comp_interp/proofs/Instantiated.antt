@@ -17,9 +17,9 @@ use Rattle.comp_frames.specs.Running.{running}
 use Rattle.comp_link.specs.Plans.{NamedArg}
 use Rattle.comp_link.specs.Linking.{Givens, Whole, Making, begun, and_stage, givens_of, externs_for, and_core_instance, with_module}
 use Rattle.instance_state.specs.declared.instance.Instance.{Instance}
-use Rattle.call_frames.specs.declared.end.Stop.{Stop}
-use Rattle.call_frames.specs.Stops.{stop_of_store}
-use Rattle.call_frames.specs.Steps.{TakesStep}
+use Rattle.call_moments.specs.declared.end.Stop.{Stop}
+use Rattle.call_moments.specs.Stops.{stop_of_store}
+use Rattle.call_moments.specs.Steps.{TakesStep}
 use Rattle.call_moments.specs.CodeLaws.{nested}
 use Rattle.call_moments.specs.Configs.{world_of}
 use Rattle.call_moments.specs.Leads.{Moment, so_far, Ends}

@@ -18,10 +18,10 @@ use Rattle.comp_worlds.specs.Hosts.{hosted}
 use Rattle.comp_frames.specs.Running.{running}
 use Rattle.comp_frames.proofs.Heads.{before_spent, before_over, step_spent, step_then, on_some, on_none, then_gives}
 use Rattle.comp_link.specs.Linking.{Givens, Making, with_module}
-use Rattle.comp_sound.specs.Fits.{ModuleFits}
+use Rattle.comp_joins.specs.Fits.{ModuleFits}
 use Rattle.instance_state.specs.declared.instance.Instance.{Instance}
 use Rattle.instance_state.specs.Shown.{config_of}
-use Rattle.call_frames.specs.declared.end.Stop.TheVariants as stops
+use Rattle.call_moments.specs.declared.end.Stop.TheVariants as stops
 use Rattle.call_moments.specs.CodeLaws.{nested}
 use Rattle.call_moments.specs.Configs.{world_of}
 use Rattle.call_moments.proofs.Worlds.{config_at, changed}

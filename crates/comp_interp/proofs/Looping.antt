@@ -3,7 +3,7 @@ use Rattle.std.proofs.Common.{◌≡◌, ◌∙◌, ap, sym, refl, subst, List, 
 use Rattle.host_port.specs.Hosts.{HostStep}
 use Rattle.comp_link.specs.declared.linked.Linked.{Linked}
 use Rattle.comp_link.specs.Groups.{linked_group}
-use Rattle.call_frames.specs.declared.end.Stop.{Stop}
+use Rattle.call_moments.specs.declared.end.Stop.{Stop}
 use Rattle.call_moments.specs.Leads.{Moment, Ends}
 use Rattle.instance_making.specs.declared.named.Named.{Named}
 use Rattle.instance_making.specs.declared.given.Given.{Given}

@@ -13,7 +13,7 @@ use Rattle.comp_link.specs.declared.linked.Linked.{Linked}
 use Rattle.comp_link.specs.Groups.{linked_group}
 use Rattle.comp_link.specs.Planned.{PlannedComponent, args_named, plan_item}
 use Rattle.comp_link.proofs.Earlier.{none_behind}
-use Rattle.call_frames.specs.declared.end.Stop.{Stop}
+use Rattle.call_moments.specs.declared.end.Stop.{Stop}
 use Rattle.call_moments.specs.Leads.{Moment, Ends}
 use Rattle.instance_making.specs.declared.named.Named.{Named}
 use Rattle.instance_making.specs.declared.given.Given.{Given}

@@ -4,7 +4,7 @@ use Rattle.std.specs.Option.{option_map}
 use Rattle.std.specs.Global.{Global}
 use Rattle.std.proofs.lemmas.Option.{none-some, slice_get_past}
 use Rattle.comp_link.specs.Linking.{Givens, Making}
-use Rattle.instance_values.specs.declared.canon.Canon.{Canon}
+use Rattle.instance_state.specs.declared.canon.Canon.{Canon}
 use Rattle.call_moments.specs.Leads.{Moment}
 use Rattle.instance_making.specs.Shown.{Stands}
 use Rattle.instance_making.proofs.MoreLemmas.{stands_more}

@@ -10,9 +10,9 @@ use Rattle.comp_worlds.specs.Groups.{Func, Owner}
 use Rattle.comp_link.specs.Linking.{Placed, Owned, Making, with_canon, with_resource, place_at, canon_in, owner_in}
 use Rattle.comp_joins.specs.Joining.{or_else}
 use Rattle.comp_joins.proofs.Lists.{canon_append, owner_append}
-use Rattle.instance_values.specs.declared.canon.Canon.{Canon}
-use Rattle.instance_values.specs.Targets.{func_of}
-use Rattle.call_frames.specs.Grouped.{canon_in as canon_known}
+use Rattle.instance_state.specs.declared.canon.Canon.{Canon}
+use Rattle.instance_state.specs.Targets.{func_of}
+use Rattle.call_moments.specs.Grouped.{canon_in as canon_known}
 use Rattle.call_moments.specs.Fits.{core_type_of}
 use Rattle.comp_interp.specs.Gathered.{row_at}
 use Rattle.comp_interp.specs.Standing.{FuncStands, OwnerStands, Stands}

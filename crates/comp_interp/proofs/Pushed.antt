@@ -10,9 +10,9 @@ use Rattle.comp_joins.specs.Joining.{or_else}
 use Rattle.comp_joins.proofs.Lists.{or_none, canon_append, owner_append, unlike}
 use Rattle.instance_state.specs.declared.owners.Owner.{Owner as CodeOwner}
 use Rattle.instance_state.specs.Owning.{owner_of}
-use Rattle.instance_values.specs.declared.canon.Canon.{Canon}
-use Rattle.instance_values.specs.Targets.{func_of}
-use Rattle.call_frames.specs.Grouped.{canon_in as canon_known}
+use Rattle.instance_state.specs.declared.canon.Canon.{Canon}
+use Rattle.instance_state.specs.Targets.{func_of}
+use Rattle.call_moments.specs.Grouped.{canon_in as canon_known}
 use Rattle.comp_interp.proofs.Lists.{set_here, set_there, push_here, push_there, by_number, is_itself}
 
 -- what a row has at a number

@@ -9,10 +9,10 @@ use Rattle.comp_worlds.specs.Groups.{Target, World}
 use Rattle.comp_frames.proofs.Heads.{before_over}
 use Rattle.comp_link.specs.declared.linked.Linked.{Linked}
 use Rattle.comp_link.specs.Groups.{linked_group}
-use Rattle.call_frames.specs.declared.end.RunEnd.{RunEnd}
-use Rattle.call_frames.specs.declared.end.RunEnd.TheVariants as ends
-use Rattle.call_frames.specs.declared.end.Stop.{Stop}
-use Rattle.call_frames.specs.declared.end.Stop.TheVariants as stops
+use Rattle.call_moments.specs.declared.end.RunEnd.{RunEnd}
+use Rattle.call_moments.specs.declared.end.RunEnd.TheVariants as ends
+use Rattle.call_moments.specs.declared.end.Stop.{Stop}
+use Rattle.call_moments.specs.declared.end.Stop.TheVariants as stops
 use Rattle.call_moments.specs.Configs.{world_of}
 use Rattle.call_moments.specs.Fits.{scenes_of, TargetFits}
 use Rattle.call_moments.specs.Leads.{Moment, so_far, Same, IsAtRest, Ends}

@@ -14,8 +14,8 @@ use Rattle.comp_link.specs.Plans.{Planned, Then, OfModule, OfCoreItems, CoreItem
 use Rattle.comp_link.specs.Linking.{Whole, Making, with_canon, with_lowered, place_at, options_in, lifting_of, link_item, canon_in, owner_in}
 use Rattle.comp_types.specs.Substitution.{partner_in}
 use Rattle.comp_link.specs.declared.linked.Linked.{Linked}
-use Rattle.comp_sound.specs.Fits.{HasCodeIfAny}
-use Rattle.comp_sound.specs.Sound.{IsSoundItem}
+use Rattle.comp_joins.specs.Fits.{HasCodeIfAny}
+use Rattle.comp_joins.specs.Sound.{IsSoundItem}
 use Rattle.call_moments.specs.Fits.{scenes_of, core_type_of}
 use Rattle.call_moments.specs.Leads.{Moment}
 use Rattle.instance_making.specs.declared.named.Named.{Named}

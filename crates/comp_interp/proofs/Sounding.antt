@@ -17,10 +17,10 @@ use Rattle.comp_link.specs.declared.linked.ComponentPlan.{ComponentPlan}
 use Rattle.comp_link.specs.declared.linked.Linked.{Linked}
 use Rattle.comp_link.specs.Planned.{PlannedComponent, args_named, plan_item, plan_items, planned_component, and_components, plan_in}
 use Rattle.comp_link.proofs.Earlier.{component_at, component_before}
-use Rattle.comp_exports.proofs.Spelled.{spelled_define}
-use Rattle.comp_sound.specs.Sound.{IsSoundItem as FitsItem, IsSoundPlan, at_first}
-use Rattle.comp_sound.proofs.Spelled.{spelled_count}
-use Rattle.comp_sound.proofs.Made.{linked_sound}
+use Rattle.comp_link.proofs.Spelled.{spelled_define}
+use Rattle.comp_joins.specs.Sound.{IsSoundItem as FitsItem, IsSoundPlan, at_first}
+use Rattle.comp_joins.proofs.Spelled.{spelled_count}
+use Rattle.comp_joins.proofs.SoundMade.{linked_sound}
 use Rattle.comp_joins.specs.Known.{PlanNamesKnown}
 use Rattle.comp_joins.proofs.Known.{names_known}
 use Rattle.comp_interp.specs.declared.part.Part.{Part}

@@ -8,8 +8,8 @@ use Rattle.comp_worlds.specs.Calls.{does}
 use Rattle.comp_worlds.specs.Hosts.{hosted}
 use Rattle.comp_frames.specs.Running.{running}
 use Rattle.comp_frames.proofs.Heads.{before_then, then_then, gives_then, then_alike}
-use Rattle.call_frames.specs.declared.end.Stop.{Stop}
-use Rattle.call_frames.specs.declared.end.Stop.TheVariants as stops
+use Rattle.call_moments.specs.declared.end.Stop.{Stop}
+use Rattle.call_moments.specs.declared.end.Stop.TheVariants as stops
 use Rattle.call_moments.specs.CodeLaws.{nested}
 use Rattle.call_moments.specs.Configs.{world_of}
 use Rattle.call_moments.specs.Leads.{Moment, so_far, Ends}

@@ -16,10 +16,10 @@ use Rattle.comp_frames.proofs.Heads.{before_next}
 use Rattle.comp_link.specs.Plans.{Then, OfModule}
 use Rattle.comp_link.specs.Linking.{Givens, Making, externs_for, with_module, canon_in, owner_in}
 use Rattle.comp_link.specs.declared.linked.Linked.{Linked}
-use Rattle.comp_sound.specs.Fits.{HasCodeIfAny, ModuleFits}
+use Rattle.comp_joins.specs.Fits.{HasCodeIfAny, ModuleFits}
 use Rattle.instance_state.specs.Owning.{owner_in as owner_known}
-use Rattle.call_frames.specs.declared.end.Stop.{Stop}
-use Rattle.call_frames.specs.Grouped.{canon_in as canon_known}
+use Rattle.call_moments.specs.declared.end.Stop.{Stop}
+use Rattle.call_moments.specs.Grouped.{canon_in as canon_known}
 use Rattle.call_moments.specs.CodeLaws.{nested}
 use Rattle.call_moments.specs.Configs.{world_of}
 use Rattle.call_moments.specs.Fits.{scenes_of, Takes}

@@ -7,7 +7,7 @@ use Rattle.comp_types.specs.GivenResources.{numbered}
 use Rattle.comp_link.specs.Plans.{Plan, End, Then, OfComponent, followed, if_some, just}
 use Rattle.comp_link.specs.Linking.{Making, link, link_item}
 use Rattle.comp_inside.specs.Linked.{PlanKnows}
-use Rattle.comp_sound.specs.Sound.{IsSoundPlan}
+use Rattle.comp_joins.specs.Sound.{IsSoundPlan}
 use Rattle.comp_link.specs.declared.items.PlanItem.{PlanItem}
 use Rattle.comp_link.specs.declared.items.PlanItem.TheVariants as items
 use Rattle.comp_link.specs.declared.linked.ComponentPlan.{ComponentPlan}

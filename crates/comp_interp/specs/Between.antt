@@ -11,7 +11,7 @@ use Rattle.comp_link.specs.declared.linked.Linked.{Linked}
 use Rattle.comp_joins.specs.Known.{PlanNamesKnown}
 use Rattle.comp_joins.specs.Growing.{Grows}
 use Rattle.comp_joins.specs.Settled.{AreBelow}
-use Rattle.comp_sound.specs.Sound.{IsSoundPlan}
+use Rattle.comp_joins.specs.Sound.{IsSoundPlan}
 use Rattle.call_moments.specs.Fits.{scenes_of}
 use Rattle.call_moments.specs.Leads.{Moment}
 use Rattle.instance_making.specs.declared.named.Named.{Named}

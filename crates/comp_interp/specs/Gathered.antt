@@ -19,13 +19,13 @@ use Rattle.comp_frames.specs.Running.{running}
 use Rattle.comp_link.specs.Plans.{NamedArg}
 use Rattle.comp_link.specs.Linking.{Givens, Whole, Making, begun, and_stage, givens_of, externs_for, with_module, with_component, canon_in, owner_in, all_outside, all_known, behind_known}
 use Rattle.comp_link.specs.declared.linked.Linked.{Linked}
-use Rattle.comp_sound.specs.Fits.{ModuleFits}
+use Rattle.comp_joins.specs.Fits.{ModuleFits}
 use Rattle.instance_state.specs.Owning.{owner_in as owner_known}
-use Rattle.instance_values.specs.declared.canon.Canon.{Canon}
+use Rattle.instance_state.specs.declared.canon.Canon.{Canon}
 use Rattle.instance_state.specs.declared.instance.Instance.{Instance}
-use Rattle.call_frames.specs.declared.end.Stop.{Stop}
-use Rattle.call_frames.specs.declared.end.Stop.TheVariants as stops
-use Rattle.call_frames.specs.Grouped.{canon_in as canon_known}
+use Rattle.call_moments.specs.declared.end.Stop.{Stop}
+use Rattle.call_moments.specs.declared.end.Stop.TheVariants as stops
+use Rattle.call_moments.specs.Grouped.{canon_in as canon_known}
 use Rattle.call_moments.specs.CodeLaws.{nested}
 use Rattle.call_moments.specs.Configs.{world_of}
 use Rattle.call_moments.specs.Held.{AllLend}

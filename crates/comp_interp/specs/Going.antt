@@ -11,7 +11,7 @@ use Rattle.comp_link.specs.declared.items.PlanItem.{PlanItem}
 use Rattle.comp_link.specs.declared.items.PlanItem.TheVariants as items
 use Rattle.comp_link.specs.declared.linked.Linked.{Linked}
 use Rattle.comp_link.specs.Planned.{args_named}
-use Rattle.call_frames.specs.declared.end.Stop.{Stop}
+use Rattle.call_moments.specs.declared.end.Stop.{Stop}
 use Rattle.call_moments.specs.Fits.{scenes_of, TargetFits}
 use Rattle.call_moments.specs.Leads.{Moment, so_far, IsAtRest, Ends}
 use Rattle.instance_making.specs.declared.named.Named.{Named}

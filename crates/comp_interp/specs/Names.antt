@@ -2,7 +2,7 @@
 use Rattle.std.specs.Prelude.{Bool, ℕ, ◌==◌, nat_lt, if◌then◌else◌, List, [], length, Option, Some, None, slice_get}
 use Rattle.std.specs.List.{position_or_len, before_first, after_first}
 use Rattle.wit_types.specs.Plain.{Name}
-use Rattle.instance_values.specs.declared.target.Target.{Target}
+use Rattle.instance_state.specs.declared.target.Target.{Target}
 use Rattle.instance_making.specs.declared.named.Named.{Named}
 use Rattle.instance_making.specs.declared.given.Given.{Given}
 use Rattle.instance_making.specs.declared.given.Given.TheVariants.{Func, Instance, Resource, «Type»}

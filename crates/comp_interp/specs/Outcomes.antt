@@ -9,10 +9,10 @@ use Rattle.comp_worlds.specs.Acts.{Trapped, ScriptEnded, BadAnswer, TooDeep, Out
 use Rattle.comp_worlds.specs.Passing.{params_tuple, answer_tuple}
 use Rattle.comp_worlds.specs.Groups.{Target, type_of, Group, World}
 use Rattle.comp_link.specs.declared.linked.Linked.{Linked}
-use Rattle.call_frames.specs.declared.end.RunEnd.{RunEnd}
-use Rattle.call_frames.specs.declared.end.RunEnd.TheVariants as ends
-use Rattle.call_frames.specs.declared.end.Stop.{Stop}
-use Rattle.call_frames.specs.declared.end.Stop.TheVariants as stops
+use Rattle.call_moments.specs.declared.end.RunEnd.{RunEnd}
+use Rattle.call_moments.specs.declared.end.RunEnd.TheVariants as ends
+use Rattle.call_moments.specs.declared.end.Stop.{Stop}
+use Rattle.call_moments.specs.declared.end.Stop.TheVariants as stops
 use Rattle.wit_types.specs.declared.value.Value.{Value}
 use Rattle.call_moments.specs.Configs.{world_of}
 use Rattle.call_moments.specs.Leads.{Moment, so_far}

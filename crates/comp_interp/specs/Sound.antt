@@ -10,7 +10,7 @@ use Rattle.comp_types.specs.Validity.{IsValidComponent}
 use Rattle.comp_link.specs.Plans.{Plan, Planned, End, Then, OfModule, OfComponent, plan_of}
 use Rattle.comp_link.specs.declared.linked.Linked.{Linked}
 use Rattle.comp_link.specs.Planned.{plan_in}
-use Rattle.comp_sound.specs.Sound.{at_first, IsSound}
+use Rattle.comp_joins.specs.Sound.{at_first, IsSound}
 use Rattle.comp_joins.specs.Known.{PlanNamesKnown}
 
 -- each module is valid, and has as many bodies and data segments as it counts

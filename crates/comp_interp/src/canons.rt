@@ -2,7 +2,7 @@ ghost use Rattle.std.specs.Prelude.{◌≡◌, ◌+◌, List, ℕ, Option, IfOk,
 ghost use Rattle.comp_types.specs.Added.{takes_one, takes_and_gives};
 ghost use Rattle.comp_link.specs.Plans.{Lowers, NewResource};
 ghost use Rattle.comp_link.specs.Linking.{Givens, Making as GroupMaking, place_at, with_canon, link_item};
-ghost use Rattle.instance_values.specs.Targets.{func_of};
+ghost use Rattle.instance_state.specs.Targets.{func_of};
 ghost use Rattle.instance_making.specs.Shown.{Stands};
 ghost use Rattle.comp_calls.specs.Moments.{at};
 ghost use Rattle.comp_interp.specs.Gathered.{Makes};
@@ -11,8 +11,7 @@ use crate::assembly::Assembly;
 use comp_calls::Stop;
 use host_port::Host;
 use instance_making::Making;
-use instance_state::{Owner, Owners};
-use instance_values::Canon;
+use instance_state::{Canon, Owner, Owners};
 use std::alloc::Global;
 use virt_base::{CoreType, Items, NoMemory};
 use wasm_ast::{CanonOption, CoreFunc};

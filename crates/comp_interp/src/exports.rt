@@ -1,12 +1,12 @@
 ghost use Rattle.std.specs.Prelude.{◌≡◌, List, Some, IfOk, option_map, option_copied, option_and_then};
 ghost use Rattle.comp_link.specs.Linking.{Givens as GroupGivens, target_in, exported as exported_by};
-ghost use Rattle.instance_values.specs.Targets.{target_of as target_of_group};
+ghost use Rattle.instance_state.specs.Targets.{target_of as target_of_group};
 ghost use Rattle.instance_making.specs.Made.{IsSame, Holds, AreMade};
 ghost use Rattle.instance_making.specs.Named.{found};
 ghost use Rattle.comp_interp.specs.Names.{cut, function_in as function_of, instance_in as instance_of};
 
 use instance_making::{Given, Givens, MadeInstances};
-use instance_values::Target;
+use instance_state::Target;
 use std::alloc::Global;
 use virt_base::{NoMemory, Text};
 

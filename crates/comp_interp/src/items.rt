@@ -15,7 +15,7 @@ use comp_calls::Stop;
 use comp_link::{Linked, PlanItem};
 use host_port::Host;
 use instance_making::Making;
-use instance_values::Canon;
+use instance_state::Canon;
 use std::alloc::Global;
 use wasm_ast::{CoreArg, Module};
 

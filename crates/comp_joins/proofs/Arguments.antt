@@ -9,7 +9,7 @@ use Rattle.comp_types.specs.Subtyping.{IsArgument, AreGiven}
 use Rattle.comp_types.proofs.ValueLaws.{name-sound}
 use Rattle.comp_types.specs.GivenResources.{given_by, given_for}
 use Rattle.comp_inside.specs.Linked.{IsBrought}
-use Rattle.comp_exports.proofs.Shapes.{some_same}
+use Rattle.comp_link.proofs.Shapes.{some_same}
 use Rattle.comp_joins.proofs.Shown.{found_at, Shown, none_found, brought_first, brought_second}
 use Rattle.comp_joins.proofs.Names.{ItemNames, AllName}
 use Rattle.comp_joins.proofs.Described.{IfSome}

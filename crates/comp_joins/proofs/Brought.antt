@@ -16,7 +16,7 @@ use Rattle.comp_worlds.specs.Groups.{Target}
 use Rattle.comp_link.specs.Plans.{Plan, End, Then, followed, resource_or_type, named_by, named_args}
 use Rattle.comp_link.specs.Linking.{Given, Givens, GivenFunc, GivenInstance, GivenResource, GivenType, find, bound, all_bound, Making, and_core_item, and_item, with_lowered, own_bound, link_item, link}
 use Rattle.comp_inside.specs.Linked.{IsBrought, Each, NamesBrought, ArgsBrought, OwnBrought, PlanKnows}
-use Rattle.comp_exports.specs.Exports.{IsOf}
+use Rattle.comp_link.specs.Exports.{IsOf}
 use Rattle.comp_joins.proofs.Shown.{Shown, brought_first, brought_second, shown_bound}
 use Rattle.comp_joins.proofs.Names.{each_first, each_second, each_then}
 use Rattle.comp_joins.proofs.Described.{IfSome, Knows, kind_known}

@@ -20,7 +20,7 @@ use Rattle.comp_types.specs.Rules.{is_new_in, if_there, is_destructor, resources
 use Rattle.comp_types.specs.Definitions.{AType}
 use Rattle.comp_types.specs.Validity.{IsValidDeclaration, AreValidDeclarations}
 use Rattle.comp_inside.specs.Linked.{Each}
-use Rattle.comp_exports.proofs.Kept.{found_before, found_new}
+use Rattle.comp_link.proofs.Kept.{found_before, found_new}
 use Rattle.comp_joins.proofs.Shown.{found_at, Shown, none_found}
 use Rattle.comp_joins.proofs.Names.{each_then, each_both, among_each, each_among, OwnOr, Apart, Differ, ItemNames, KindNames, AllName}
 use Rattle.comp_joins.proofs.Described.{Wider, IfSome, KnowsAt, Knows, every_get, described_known, described_shown}

@@ -41,12 +41,12 @@ use Rattle.comp_worlds.specs.Groups.{Begins}
 use Rattle.comp_link.specs.Plans.{Plan, OfModule, OfComponent, MakesResource, DropsResource, ReadsResource, Imports, Exports, Scope, no_scope, if_some, just, named_by, named_args, of_core_instance, own_numbers, of_instance, of_alias, of_canon, planned_by, scope_after, plan_all, plan_part, plan_tree}
 use Rattle.comp_link.specs.Linking.{Given, Givens, bound, bound_if, Whole, Making, begun, and_stage, core_find, givens_of, item_in, and_item as and_made, and_export as and_out, link, all_outside}
 use Rattle.comp_inside.specs.Linked.{IsBrought, Each, PlanKnows, unmade}
-use Rattle.comp_exports.specs.Exports.{IsOf}
-use Rattle.comp_exports.specs.Sections.{DefinesIn, DefinesTypes}
-use Rattle.comp_exports.proofs.Shapes.{Has, found, has_given, has_exports}
-use Rattle.comp_exports.proofs.Kept.{Within, found_new, all_within, tree_within, then_within}
-use Rattle.comp_exports.proofs.Items.{Both, both_and, both_get, get_there, Fits, item_there, given_there, named_fit, stated_fits}
-use Rattle.comp_exports.proofs.Made.{link_followed, IsPlanOf, ScopeIs, Defines, DefineAll, define_map, define_types, defined_fits, scope_stays, module_scope, tree_made, outside_has}
+use Rattle.comp_link.specs.Exports.{IsOf}
+use Rattle.comp_link.specs.Sections.{DefinesIn, DefinesTypes}
+use Rattle.comp_link.proofs.Shapes.{Has, found, has_given, has_exports}
+use Rattle.comp_link.proofs.Kept.{Within, found_new, all_within, tree_within, then_within}
+use Rattle.comp_link.proofs.ItemLaws.{Both, both_and, both_get, get_there, Fits, item_there, given_there, named_fit, stated_fits}
+use Rattle.comp_link.proofs.Made.{link_followed, IsPlanOf, ScopeIs, Defines, DefineAll, define_map, define_types, defined_fits, scope_stays, module_scope, tree_made, outside_has}
 use Rattle.comp_joins.specs.Known.{ValidNamesKnown}
 use Rattle.comp_joins.proofs.Names.{each_then, Apart, ItemNames, AllName, item_named, all_named, among_each}
 use Rattle.comp_joins.proofs.Described.{every_get, IfSome, Wider, item_carried, Brings, IsOwn, ComponentNames, Knows, kind_known, func_known, described_known, described_shown}

@@ -21,7 +21,7 @@ use Rattle.comp_link.specs.Linking.{Making, link}
 use Rattle.comp_joins.specs.Made.{Items, items_of, IsAsPlanned, StoresAreAsPlanned}
 use Rattle.comp_joins.proofs.Acts.{Kept}
 use Rattle.comp_joins.proofs.Running.{runs_keep, calls_keep}
-use Rattle.comp_joins.proofs.Making.{all_did, plan_adds}
+use Rattle.comp_joins.proofs.MakingLaws.{all_did, plan_adds}
 
 cancelled : {A : Type 0} → (xs ys zs : List A) → xs ++ ys ≡ xs ++ zs → ys ≡ zs
 cancelled [] ys zs e = e

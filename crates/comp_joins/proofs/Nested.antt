@@ -8,7 +8,7 @@ use Rattle.comp_types.specs.GivenResources.{is_among, distinct, named_in, named_
 use Rattle.comp_types.specs.Spaces.{Space, NestedComponent}
 use Rattle.comp_types.specs.Added.{nested_of}
 use Rattle.comp_inside.specs.Linked.{Each, IsBrought}
-use Rattle.comp_exports.proofs.Shapes.{some_same}
+use Rattle.comp_link.proofs.Shapes.{some_same}
 use Rattle.comp_joins.proofs.Shown.{found_at, Shown, none_found}
 use Rattle.comp_joins.proofs.Names.{each_first, each_second, each_then, each_among, among_each}
 use Rattle.comp_joins.proofs.Arguments.{EachGives, func_gives, value_gives, func_kind_gives, instance_kind_gives, nothing_gives}

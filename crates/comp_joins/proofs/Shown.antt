@@ -8,8 +8,8 @@ use Rattle.comp_types.specs.Substitution.{item_with, entries_with}
 use Rattle.comp_types.proofs.ValueLaws.{name-sound}
 use Rattle.comp_link.specs.Linking.{Given, Givens, GivenFunc, GivenInstance, GivenResource, GivenType, find, bound, all_bound}
 use Rattle.comp_inside.specs.Linked.{IsBrought}
-use Rattle.comp_exports.specs.Exports.{IsOf}
-use Rattle.comp_exports.proofs.Shapes.{some_same, found}
+use Rattle.comp_link.specs.Exports.{IsOf}
+use Rattle.comp_link.proofs.Shapes.{some_same, found}
 
 -- the entry of that name, of an instance
 abbrev pub entry_in : Name → Option Item → Option Item

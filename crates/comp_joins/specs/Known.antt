@@ -5,7 +5,7 @@ use Rattle.comp_types.specs.Spaces.{Space, empty_space}
 use Rattle.comp_types.specs.Validity.{IsValidComponent}
 use Rattle.comp_link.specs.Plans.{Plan, Scope, no_scope, plan_tree, plan_of}
 use Rattle.comp_link.specs.Linking.{Making, link, linked}
-use Rattle.comp_exports.specs.Sections.{DefinesTypes}
+use Rattle.comp_link.specs.Sections.{DefinesTypes}
 use Rattle.comp_inside.specs.Linked.{Standing, InOrder, making_in, PlanKnows, unmade}
 
 -- numbers one behind the other, from the first on and in front of the last, become such numbers

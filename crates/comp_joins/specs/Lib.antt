@@ -1,3 +1,6 @@
+pub mod Counts
+pub mod Fits
+pub mod Sound
 pub mod Made
 pub mod Known
 pub mod Alike

@@ -6,7 +6,7 @@ use Rattle.comp_types.specs.Validity.{IsValidComponent}
 use Rattle.comp_worlds.specs.Groups.{Import}
 use Rattle.comp_worlds.specs.Parts.{IsImportOf}
 use Rattle.comp_link.specs.Linking.{group_of}
-use Rattle.comp_exports.specs.Sections.{DefinesTypes}
+use Rattle.comp_link.specs.Sections.{DefinesTypes}
 use Rattle.comp_joins.specs.Joining.{first_own, behind_own, IsKnown, known_by, over_host, Meets, Agree}
 
 -- a number that no resource has stands behind all of these

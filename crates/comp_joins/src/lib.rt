@@ -1,5 +1,5 @@
-//! A component that joins two others does what the one does over the other, and what a valid component's plan names, it has brought or
-//! defined before: definitions and laws. `specs/` hold the definitions.
+//! A component that joins two others does what the one does over the other; what a valid component's plan names, it has brought or
+//! defined before; and linking a valid component is sound: definitions and laws. `specs/` hold the definitions.
 #![tactic(auto)]
 
 mod agrees;
@@ -7,6 +7,7 @@ mod knows;
 mod laws;
 mod making;
 mod settled;
+mod sound;
 
 pub use agrees::{handed_exports_fit, valid_components_agree};
 pub use knows::{
@@ -22,3 +23,4 @@ pub use making::stores_are_as_planned;
 pub use settled::{
     handles_pass_alike, numbers_stay_below_the_next, plans_add_at_the_end, what_stands_is_settled,
 };
+pub use sound::{linked_components_are_sound, linking_is_sound, spelled_components_have_counts};

@@ -1,3 +1,9 @@
 pub mod Numbers
 pub mod Seen
 pub mod Earlier
+pub mod Passing
+pub mod Shapes
+pub mod Kept
+pub mod ItemLaws
+pub mod Made
+pub mod Spelled

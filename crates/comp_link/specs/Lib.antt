@@ -4,3 +4,5 @@ pub mod Components
 pub mod Laws
 pub mod Planned
 pub mod Groups
+pub mod Sections
+pub mod Exports

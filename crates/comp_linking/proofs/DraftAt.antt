@@ -4,9 +4,9 @@ use Rattle.std.proofs.lemmas.List.{length-reverse}
 use Rattle.std.proofs.lemmas.Option.{slice_get_past}
 use Rattle.wasm_ast.specs.Boxed.{Held}
 use Rattle.wasm_ast.specs.declared.module.Module.{Module}
-use Rattle.comp_outer.proofs.AroundLemmas.{rev_at}
+use Rattle.comp_defining.proofs.AroundLemmas.{rev_at}
 use Rattle.comp_link.specs.Planned.{PlannedComponent}
-use Rattle.comp_drafts.specs.declared.draft.Draft.{Draft}
+use Rattle.comp_linking.specs.declared.draft.Draft.{Draft}
 use Rattle.comp_linking.specs.Walks.{At, AreDrafts}
 use Rattle.comp_linking.specs.Names.{AreNamed}
 

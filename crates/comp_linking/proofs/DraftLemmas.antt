@@ -7,8 +7,8 @@ use Rattle.comp_types.specs.Spaces.{NestedComponent}
 use Rattle.comp_link.specs.Plans.{Plan, Scope, followed}
 use Rattle.comp_link.specs.declared.items.PlanItem.{PlanItem}
 use Rattle.comp_link.specs.Planned.{PlannedComponent, plan_items}
-use Rattle.comp_drafts.specs.declared.draft.Draft.{Draft}
-use Rattle.comp_drafts.specs.Drafts.{some_item, module_at, NamesComponents, IsDraft}
+use Rattle.comp_linking.specs.declared.draft.Draft.{Draft}
+use Rattle.comp_linking.specs.Drafts.{some_item, module_at, NamesComponents, IsDraft}
 use Rattle.comp_linking.specs.Walks.{At, AreDrafts}
 
 pub item_more : (ms : List (Held Module)) (cs : List PlannedComponent) (scope : Scope) (known : List NestedComponent) (plan p : Plan) (x y : Draft) (item : Option PlanItem)

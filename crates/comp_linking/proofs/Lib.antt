@@ -1,3 +1,5 @@
+pub mod ModuleLemmas
+pub mod NamedLemmas
 pub mod DraftLemmas
 pub mod StayLemmas
 pub mod StepLemmas

@@ -15,7 +15,7 @@ use Rattle.comp_link.specs.declared.linked.ComponentPlan.{ComponentPlan}
 use Rattle.comp_link.specs.declared.linked.Linked.{Linked}
 use Rattle.comp_link.specs.Planned.{plan_in, plan_items}
 use Rattle.comp_link.specs.Groups.{linked_group}
-use Rattle.comp_drafts.specs.Modules.{modules_in}
+use Rattle.comp_linking.specs.Modules.{modules_in}
 use Rattle.comp_linking.specs.declared.planner.Planner.{Planner}
 use Rattle.comp_linking.specs.Walks.{Walks, at_root, at_tree, made}
 use Rattle.comp_linking.specs.Goes.{PlansTree}

@@ -6,13 +6,13 @@ use Rattle.wasm_ast.specs.Boxed.{Held}
 use Rattle.wasm_ast.specs.declared.module.Module.{Module}
 use Rattle.comp_types.specs.Spaces.{Space, NestedComponent}
 use Rattle.comp_types.specs.Added.{nested_of}
-use Rattle.comp_outer.proofs.AroundLemmas.{rev_push}
+use Rattle.comp_defining.proofs.AroundLemmas.{rev_push}
 use Rattle.comp_link.specs.Plans.{Plan, End, no_scope, and_plan}
 use Rattle.comp_link.specs.declared.linked.ComponentPlan.{ComponentPlan}
 use Rattle.comp_link.specs.Planned.{PlannedComponent, plan_items, planned_component, and_components}
 use Rattle.comp_link.proofs.Earlier.{components_more}
-use Rattle.comp_drafts.specs.declared.draft.Draft.{Draft}
-use Rattle.comp_drafts.specs.Drafts.{module_at, plan_at, own_at, IsDraft}
+use Rattle.comp_linking.specs.declared.draft.Draft.{Draft}
+use Rattle.comp_linking.specs.Drafts.{module_at, plan_at, own_at, IsDraft}
 use Rattle.comp_linking.specs.Walks.{At, AreDrafts, made}
 use Rattle.comp_linking.proofs.DraftLemmas.{component_behind}
 use Rattle.comp_linking.proofs.NameLemmas.{both_behind}

@@ -15,14 +15,14 @@ use Rattle.comp_types.specs.Spaces.{Space, NestedComponent}
 use Rattle.comp_types.specs.Added.{after_part, after_all}
 use Rattle.comp_types.specs.Validity.{AreValid}
 use Rattle.comp_types.proofs.VerdictLaws.{sound_tree}
-use Rattle.comp_outer.specs.declared.scopes.Scopes.{Scopes}
-use Rattle.comp_outer.specs.Around.{StandAll}
-use Rattle.comp_outer.specs.Judged.{JudgedEach}
+use Rattle.comp_defining.specs.declared.scopes.Scopes.{Scopes}
+use Rattle.comp_defining.specs.Around.{StandAll}
+use Rattle.comp_defining.specs.Judged.{JudgedEach}
 use Rattle.comp_validate.specs.Judged.{JudgedPart}
 use Rattle.comp_link.specs.Plans.{Plan, Scope, and_module, and_plan}
 use Rattle.comp_link.specs.Planned.{PlannedComponent, plan_items}
-use Rattle.comp_drafts.specs.declared.draft.Draft.{Draft}
-use Rattle.comp_drafts.specs.Drafts.{module_at, plan_at, own_at, IsDraft}
+use Rattle.comp_linking.specs.declared.draft.Draft.{Draft}
+use Rattle.comp_linking.specs.Drafts.{module_at, plan_at, own_at, IsDraft}
 use Rattle.comp_linking.specs.Walks.{At}
 use Rattle.comp_linking.specs.Names.{AreNamed, AreOne, outer_module, outer_plan, outer_known}
 use Rattle.comp_linking.proofs.NameLemmas.{both_behind, modules_with, modules_keep_components, components_with, components_keep_modules}

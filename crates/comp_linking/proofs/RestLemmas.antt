@@ -8,7 +8,7 @@ use Rattle.comp_grammar.specs.Trees.{Part, Tree, End as NoParts, More as Section
 use Rattle.comp_types.specs.Spaces.{Space}
 use Rattle.comp_types.specs.Definitions.{Definition}
 use Rattle.comp_types.specs.Validity.{AreValid, IsValidTree}
-use Rattle.comp_drafts.specs.Modules.{modules_in, modules_in_part}
+use Rattle.comp_linking.specs.Modules.{modules_in, modules_in_part}
 use Rattle.comp_linking.specs.declared.planner.Planner.{Planner}
 use Rattle.comp_linking.specs.Walks.{At, spaces, at_after, at_all, at_part, at_tree, Walks}
 use Rattle.comp_linking.specs.Goes.{Plans, PlansPart}

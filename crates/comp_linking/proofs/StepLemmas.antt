@@ -8,18 +8,18 @@ use Rattle.comp_types.specs.Added.{after}
 use Rattle.comp_types.specs.Validity.{BreaksDefinition}
 use Rattle.comp_scopes.specs.declared.scope.Scope.{Scope as Kept}
 use Rattle.comp_scopes.specs.Judged.{Judged}
-use Rattle.comp_outer.specs.declared.scopes.Scopes.{Scopes}
-use Rattle.comp_outer.specs.Around.{StandAll}
-use Rattle.comp_outer.specs.Judged.{JudgedIn}
-use Rattle.comp_outer.proofs.Inner.{judged_inner}
+use Rattle.comp_defining.specs.declared.scopes.Scopes.{Scopes}
+use Rattle.comp_defining.specs.Around.{StandAll}
+use Rattle.comp_defining.specs.Judged.{JudgedIn}
+use Rattle.comp_defining.proofs.Inner.{judged_inner}
 use Rattle.type_table.specs.Tables.{Types, Grew}
 use Rattle.type_table.specs.Anew.{HasNew, Makes}
 use Rattle.type_table.proofs.HasLaws.{grew_same, grew_then}
 use Rattle.comp_link.specs.Plans.{Scope, followed, planned_by, scope_after}
 use Rattle.comp_link.specs.declared.items.PlanItem.{PlanItem}
 use Rattle.comp_link.specs.Planned.{PlannedComponent, plan_items}
-use Rattle.comp_drafts.specs.declared.draft.Draft.{Draft}
-use Rattle.comp_drafts.specs.Drafts.{some_item, IsDraft}
+use Rattle.comp_linking.specs.declared.draft.Draft.{Draft}
+use Rattle.comp_linking.specs.Drafts.{some_item, IsDraft}
 use Rattle.comp_linking.specs.declared.planner.Planner.{Planner}
 use Rattle.comp_linking.specs.Walks.{At, spaces, scopes, at_after, made, Walks}
 use Rattle.comp_linking.proofs.DraftLemmas.{item_more}

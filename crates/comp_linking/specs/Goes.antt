@@ -7,7 +7,7 @@ use Rattle.comp_types.specs.Definitions.{Definition}
 use Rattle.comp_types.specs.Validity.{IsValidDefinition, AreValid, IsValidPart, IsValidTree}
 use Rattle.comp_linking.specs.declared.planner.Planner.{Planner}
 use Rattle.comp_linking.specs.Walks.{At, spaces, at_after, at_all, at_part, at_tree, Walks}
-use Rattle.comp_drafts.specs.Modules.{modules_in_part, modules_in}
+use Rattle.comp_linking.specs.Modules.{modules_in_part, modules_in}
 
 abbrev pub Plans : Definition → Planner → Planner → Type 0
 Plans d x y = (ms todo : List (Held Module)) (outer : List At) (a : At) → IsValidDefinition (spaces outer) a.space d → Walks ms todo outer a x → Walks ms todo outer (at_after outer a d) y

@@ -1,3 +1,5 @@
+pub mod Drafts
+pub mod Modules
 pub mod Walks
 pub mod Goes
 pub mod Names

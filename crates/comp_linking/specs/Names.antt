@@ -6,8 +6,8 @@ use Rattle.wasm_ast.specs.declared.module.Module.{Module}
 use Rattle.comp_types.specs.Spaces.{Space, NestedComponent}
 use Rattle.comp_link.specs.Plans.{Plan, Scope}
 use Rattle.comp_link.specs.Planned.{PlannedComponent}
-use Rattle.comp_drafts.specs.declared.draft.Draft.{Draft}
-use Rattle.comp_drafts.specs.Drafts.{IsDraft, module_at, plan_at, own_at}
+use Rattle.comp_linking.specs.declared.draft.Draft.{Draft}
+use Rattle.comp_linking.specs.Drafts.{IsDraft, module_at, plan_at, own_at}
 use Rattle.comp_linking.specs.declared.planner.Planner.{Planner}
 use Rattle.comp_linking.specs.Walks.{At, made, scopes, spaces, Walks}
 

@@ -6,13 +6,13 @@ use Rattle.comp_grammar.specs.Trees.{Part, Tree, CoreModule, Nested, End as NoPa
 use Rattle.comp_types.specs.Spaces.{Space}
 use Rattle.comp_types.specs.Definitions.{Definition, definitions}
 use Rattle.comp_types.specs.Added.{after, after_part, and_nested, entered, nested_of, root}
-use Rattle.comp_outer.specs.Around.{StandAll}
+use Rattle.comp_defining.specs.Around.{StandAll}
 use Rattle.comp_link.specs.Plans.{Plan, End, Scope, no_scope, and_module, and_plan, followed, planned_by, scope_after}
 use Rattle.comp_link.specs.declared.linked.ComponentPlan.{ComponentPlan}
 use Rattle.comp_link.specs.Planned.{PlannedComponent, and_components}
-use Rattle.comp_drafts.specs.declared.draft.Draft.{Draft}
+use Rattle.comp_linking.specs.declared.draft.Draft.{Draft}
 use Rattle.comp_linking.specs.declared.planner.Planner.{Planner}
-use Rattle.comp_drafts.specs.Drafts.{IsDraft}
+use Rattle.comp_linking.specs.Drafts.{IsDraft}
 
 -- the index spaces at a place of a component, what can be named there, and what is planned so far
 pub record At : Type 0 where

@@ -8,7 +8,7 @@ ghost use Rattle.comp_linking.specs.Goes.{Plans};
 ghost use Rattle.comp_linking.specs.Names.{NumbersComponent, NumbersModule};
 
 use crate::planner::Planner;
-use comp_outer::define_outer_alias;
+use comp_defining::define_outer_alias;
 use std::alloc::Global;
 use virt_base::NoMemory;
 use wasm_ast::OuterSort;

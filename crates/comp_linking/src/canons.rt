@@ -6,9 +6,9 @@ ghost use Rattle.comp_link.specs.Plans.{of_canon};
 ghost use Rattle.comp_link.specs.Planned.{PlannedComponent, plan_item};
 ghost use Rattle.comp_types.specs.Spaces.{Space};
 ghost use Rattle.comp_scopes.specs.Stands.{Stands};
-ghost use Rattle.comp_drafts.specs.Drafts.{some_item};
+ghost use Rattle.comp_linking.specs.Drafts.{some_item};
 
-use comp_drafts::resource_at;
+use crate::resource_at;
 use comp_lifting::lowered_at;
 use comp_link::PlanItem;
 use comp_scopes::{Scope, func_at};

@@ -9,7 +9,7 @@ ghost use Rattle.comp_types.specs.Validity.{IsValidComponent};
 
 use crate::planner::Planner;
 use crate::sections::plan_sections;
-use comp_drafts::take_modules;
+use crate::take_modules;
 use comp_link::Linked;
 use std::alloc::Global;
 use virt_base::{Items, NoMemory};

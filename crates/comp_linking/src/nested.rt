@@ -6,9 +6,9 @@ ghost use Rattle.comp_grammar.specs.Trees.{CoreModule};
 ghost use Rattle.comp_linking.specs.Goes.{PlansPart};
 ghost use Rattle.comp_linking.specs.Walks.{At, Leaves, Walks, at_entered, at_nested};
 
+use crate::Draft;
 use crate::planner::Planner;
-use comp_drafts::Draft;
-use comp_externs::own_resources;
+use comp_instances::own_resources;
 use comp_link::ComponentPlan;
 use comp_validate::{close_nested, define_module};
 use std::alloc::Global;

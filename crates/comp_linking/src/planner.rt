@@ -2,9 +2,9 @@ ghost use Rattle.std.specs.Prelude.{◌≡◌, ◌∷◌, [], List, ℕ, option_
 ghost use Rattle.wasm_ast.specs.Boxed.{Held};
 ghost use Rattle.wasm_ast.specs.declared.module.Module.{Module};
 
-use comp_drafts::Draft;
+use crate::Draft;
+use comp_defining::Scopes;
 use comp_link::ComponentPlan;
-use comp_outer::Scopes;
 use std::alloc::Global;
 
 /// The walk over the sections of a component: index spaces and drafts of the component and of those around it, and what is planned of

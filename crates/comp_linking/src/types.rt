@@ -1,7 +1,7 @@
 ghost use Rattle.std.specs.Prelude.{◌≡◌, ◌≤◌, List, IfOk, OnOk, length};
 ghost use Rattle.wasm_ast.specs.Boxed.{Held};
 ghost use Rattle.wasm_ast.specs.declared.module.Module.{Module};
-ghost use Rattle.comp_drafts.specs.Drafts.{some_item};
+ghost use Rattle.comp_linking.specs.Drafts.{some_item};
 ghost use Rattle.comp_linking.specs.Firsts.{PlansFirst, declared_by, destructor_in, of_item, taken};
 ghost use Rattle.comp_linking.specs.Goes.{PlansAll};
 ghost use Rattle.comp_link.specs.Planned.{PlannedComponent};

@@ -13,7 +13,7 @@ use Rattle.comp_grammar.specs.Trees.{Tree, End}
 use Rattle.comp_grammar.specs.Components.{preamble, section, sections, all_sections, component}
 use Rattle.comp_grammar.proofs.ComponentLaws.{exact_sections, exact_component}
 use Rattle.comp_grammar.proofs.DepthLaws.{within, at_its_depth, spelled_once}
-use Rattle.comp_causes.proofs.AnyDepth.{at_any_depth}
+use Rattle.comp_read.proofs.AnyDepth.{at_any_depth}
 use Rattle.comp_read.specs.Answers.{inside, StopsAt, MeetsTag, ReachesTooDeep, most_deep, SpellsReadable, IsLongest, IsNoComponent, IsCause, IsTheComponent}
 use Rattle.comp_read.proofs.StopLaws.{IsOfSection, run_stopped, run_stop}
 

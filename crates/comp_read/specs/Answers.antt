@@ -8,7 +8,7 @@ use Rattle.wasm_ast.specs.declared.component.Component.{Component}
 use Rattle.comp_grammar.specs.Trees.{Part, Tree, End, plain}
 use Rattle.comp_grammar.specs.Components.{preamble, section, sections, component, SpellsComponent}
 use Rattle.comp_grammar.specs.Depths.{depth_of}
-use Rattle.comp_causes.specs.Causes.{CauseAtAnyDepth}
+use Rattle.comp_read.specs.Causes.{CauseAtAnyDepth}
 use Rattle.comp_read.specs.declared.reading.CompReadFault.{CompReadFault}
 use Rattle.comp_read.specs.declared.reading.CompReadFault.TheVariants.{Malformed, Unsupported, TooNested, NoMemory}
 

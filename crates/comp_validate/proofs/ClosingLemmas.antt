@@ -8,9 +8,9 @@ use Rattle.comp_types.specs.Added.{and_depth, instance_type}
 use Rattle.comp_types.specs.Rules.{is_within_limits}
 use Rattle.comp_scopes.specs.declared.scope.Scope.{Scope}
 use Rattle.comp_scopes.specs.Stands.{Stands}
-use Rattle.comp_outer.specs.declared.scopes.Scopes.{Scopes}
-use Rattle.comp_outer.specs.Around.{StandAll}
-use Rattle.comp_outer.proofs.Inner.{inner_stands}
+use Rattle.comp_defining.specs.declared.scopes.Scopes.{Scopes}
+use Rattle.comp_defining.specs.Around.{StandAll}
+use Rattle.comp_defining.proofs.Inner.{inner_stands}
 use Rattle.type_table.specs.Covers.{Covers}
 use Rattle.type_table.proofs.ScopeLaws.{covers_closed}
 use Rattle.comp_validate.specs.Closing.{Closes, ClosesIn}

@@ -3,9 +3,9 @@ use Rattle.std.proofs.Common.{◌≡◌, sym, subst, ℕ, List, [], ◌∷◌, m
 use Rattle.comp_types.specs.Spaces.{Space}
 use Rattle.comp_types.specs.Definitions.{Definition}
 use Rattle.comp_types.specs.Added.{after}
-use Rattle.comp_outer.specs.declared.scopes.Scopes.{Scopes}
-use Rattle.comp_outer.specs.Around.{StandAll}
-use Rattle.comp_outer.specs.Judged.{JudgedIn, JudgedEach}
+use Rattle.comp_defining.specs.declared.scopes.Scopes.{Scopes}
+use Rattle.comp_defining.specs.Around.{StandAll}
+use Rattle.comp_defining.specs.Judged.{JudgedIn, JudgedEach}
 
 pub each_valid : (around : List Space) (s : Space) (d : Definition) (ds : List Definition) (x y : Scopes) (answer : Option ℕ) → JudgedIn around s d x None → JudgedEach around (after around s d) ds y answer → JudgedEach around s (d ∷ ds) y answer
 each_valid around s d ds x y None v h = ((v.0, h.0), h.1)

@@ -4,10 +4,10 @@ use Rattle.comp_types.specs.Spaces.{Space}
 use Rattle.comp_types.specs.Definitions.{Definition}
 use Rattle.comp_scopes.specs.declared.scope.Scope.{Scope}
 use Rattle.comp_scopes.specs.Judged.{Judged}
-use Rattle.comp_outer.specs.declared.scopes.Scopes.{Scopes}
-use Rattle.comp_outer.specs.Around.{StandAll}
-use Rattle.comp_outer.specs.Judged.{JudgedIn}
-use Rattle.comp_outer.proofs.Inner.{judged_inner}
+use Rattle.comp_defining.specs.declared.scopes.Scopes.{Scopes}
+use Rattle.comp_defining.specs.Around.{StandAll}
+use Rattle.comp_defining.specs.Judged.{JudgedIn}
+use Rattle.comp_defining.proofs.Inner.{judged_inner}
 use Rattle.type_table.specs.Anew.{HasNew}
 use Rattle.type_table.proofs.HasLaws.{grew_same}
 

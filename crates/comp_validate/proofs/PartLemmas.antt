@@ -16,9 +16,9 @@ use Rattle.comp_types.specs.Spaces.{Space}
 use Rattle.comp_types.specs.Added.{entered, after_tree, and_nested}
 use Rattle.comp_types.specs.Validity.{IsValidTree, BreaksTree}
 use Rattle.comp_types.proofs.VerdictLaws.{sound_tree}
-use Rattle.comp_outer.specs.declared.scopes.Scopes.{Scopes}
-use Rattle.comp_outer.specs.Around.{StandAll}
-use Rattle.comp_outer.specs.Judged.{JudgedEach}
+use Rattle.comp_defining.specs.declared.scopes.Scopes.{Scopes}
+use Rattle.comp_defining.specs.Around.{StandAll}
+use Rattle.comp_defining.specs.Judged.{JudgedEach}
 use Rattle.comp_validate.specs.declared.components.Broken.{Broken}
 use Rattle.comp_validate.specs.Judged.{JudgedPart, JudgedTree}
 

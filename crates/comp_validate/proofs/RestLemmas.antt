@@ -11,7 +11,7 @@ use Rattle.comp_types.specs.Spaces.{Space}
 use Rattle.comp_types.specs.Added.{opened, instance_type, after_declaration, after_declarations}
 use Rattle.comp_types.specs.Rules.{is_within_limits}
 use Rattle.comp_types.specs.Validity.{IsValidDeclaration, BreaksDeclaration}
-use Rattle.comp_outer.specs.declared.scopes.Scopes.{Scopes}
+use Rattle.comp_defining.specs.declared.scopes.Scopes.{Scopes}
 use Rattle.comp_validate.specs.Closing.{closed}
 use Rattle.comp_validate.specs.Stack.{IsReady, one_less}
 use Rattle.comp_validate.specs.Rest.{in_front, alone, item_count, Wholly, Rest}

@@ -7,9 +7,9 @@ use Rattle.comp_types.specs.Spaces.{Space}
 use Rattle.comp_types.specs.Definitions.{AType}
 use Rattle.comp_types.specs.Added.{opened, instance_type, after_declaration}
 use Rattle.comp_types.specs.Rules.{is_within_limits}
-use Rattle.comp_outer.specs.declared.scopes.Scopes.{Scopes}
-use Rattle.comp_outer.specs.Around.{StandAll}
-use Rattle.comp_outer.specs.Judged.{JudgedIn}
+use Rattle.comp_defining.specs.declared.scopes.Scopes.{Scopes}
+use Rattle.comp_defining.specs.Around.{StandAll}
+use Rattle.comp_defining.specs.Judged.{JudgedIn}
 use Rattle.comp_validate.specs.Closing.{closed, ClosesIn}
 use Rattle.comp_validate.specs.Stack.{IsReady, one_less}
 use Rattle.comp_validate.specs.Rest.{in_front, alone, item_count, Rest, Leads, Step}

@@ -5,8 +5,8 @@ use Rattle.wasm_ast.specs.declared.component.Section.{Section}
 use Rattle.comp_grammar.specs.Trees.{Part, Tree, End, More, plain_section, plain_sections}
 use Rattle.comp_types.specs.Spaces.{Space}
 use Rattle.comp_types.specs.Added.{after_part}
-use Rattle.comp_outer.specs.declared.scopes.Scopes.{Scopes}
-use Rattle.comp_outer.specs.Around.{StandAll}
+use Rattle.comp_defining.specs.declared.scopes.Scopes.{Scopes}
+use Rattle.comp_defining.specs.Around.{StandAll}
 use Rattle.comp_validate.specs.declared.components.Broken.{Broken}
 use Rattle.comp_validate.specs.Judged.{JudgedPart, JudgedTree}
 

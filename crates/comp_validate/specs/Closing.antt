@@ -5,8 +5,8 @@ use Rattle.comp_types.specs.Added.{and_depth, and_instance_type, instance_type}
 use Rattle.comp_types.specs.Rules.{is_within_limits}
 use Rattle.comp_scopes.specs.declared.scope.Scope.{Scope}
 use Rattle.comp_scopes.specs.Stands.{Stands}
-use Rattle.comp_outer.specs.declared.scopes.Scopes.{Scopes}
-use Rattle.comp_outer.specs.Around.{StandAll}
+use Rattle.comp_defining.specs.declared.scopes.Scopes.{Scopes}
+use Rattle.comp_defining.specs.Around.{StandAll}
 
 abbrev pub closed : Space → Space → Space
 closed t inner = and_depth (and_instance_type t inner) (instance_type inner).depth

@@ -4,8 +4,8 @@ use Rattle.comp_grammar.specs.Trees.{Part, Tree}
 use Rattle.comp_types.specs.Spaces.{Space}
 use Rattle.comp_types.specs.Added.{after_part, after_tree}
 use Rattle.comp_types.specs.Validity.{IsValidPart, IsValidTree, BreaksPart, BreaksTree}
-use Rattle.comp_outer.specs.declared.scopes.Scopes.{Scopes}
-use Rattle.comp_outer.specs.Around.{StandAll}
+use Rattle.comp_defining.specs.declared.scopes.Scopes.{Scopes}
+use Rattle.comp_defining.specs.Around.{StandAll}
 use Rattle.comp_validate.specs.declared.components.Broken.{Broken}
 
 abbrev pub JudgedPart : List Space → Space → Part → Scopes → Option ℕ → Type 0

@@ -10,9 +10,9 @@ use Rattle.comp_types.specs.Definitions.{types_in}
 use Rattle.comp_types.specs.Added.{instance_type, after_declarations}
 use Rattle.comp_types.specs.Rules.{is_within_limits}
 use Rattle.comp_types.specs.Validity.{AreValidDeclarations, BreakDeclarations}
-use Rattle.comp_outer.specs.declared.scopes.Scopes.{Scopes}
-use Rattle.comp_outer.specs.Around.{StandAll}
-use Rattle.comp_outer.specs.Judged.{JudgedEach}
+use Rattle.comp_defining.specs.declared.scopes.Scopes.{Scopes}
+use Rattle.comp_defining.specs.Around.{StandAll}
+use Rattle.comp_defining.specs.Judged.{JudgedEach}
 use Rattle.comp_validate.specs.Closing.{closed}
 
 -- ---- the list with an item in front

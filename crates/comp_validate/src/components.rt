@@ -2,13 +2,13 @@ ghost use Rattle.std.specs.Prelude.{List, IfOk};
 ghost use Rattle.wasm_ast.specs.declared.component.Span.{Span};
 ghost use Rattle.comp_grammar.specs.Trees.{Nested, plain, plain_section, plain_sections};
 ghost use Rattle.comp_types.specs.Spaces.{Space};
-ghost use Rattle.comp_outer.specs.Around.{StandAll};
+ghost use Rattle.comp_defining.specs.Around.{StandAll};
 ghost use Rattle.comp_validate.specs.Judged.{JudgedPart, JudgedTree};
 
 use crate::define_types;
 use crate::definitions::define_all;
 use crate::sections::{close_nested, define_module};
-use comp_outer::Scopes;
+use comp_defining::Scopes;
 use std::alloc::Global;
 use virt_base::NoMemory;
 use wasm_ast::{Component, Section};

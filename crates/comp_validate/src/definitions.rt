@@ -1,14 +1,13 @@
 ghost use Rattle.std.specs.Prelude.{List, IfOk, map};
 ghost use Rattle.comp_types.specs.Definitions.{ACanon, ACoreInstance, AnAlias, AnExport, AnImport, AnInstance};
 ghost use Rattle.comp_types.specs.Spaces.{Space};
-ghost use Rattle.comp_outer.specs.Around.{StandAll};
-ghost use Rattle.comp_outer.specs.Judged.{JudgedEach, JudgedIn};
+ghost use Rattle.comp_defining.specs.Around.{StandAll};
+ghost use Rattle.comp_defining.specs.Judged.{JudgedEach, JudgedIn};
 
 use crate::walks::{walked_by_alias, walked_by_export, walked_by_import, walked_by_instance};
-use comp_externs::{define_export, define_import};
-use comp_instances::{define_export_alias, define_instance};
+use comp_defining::{Scopes, define_outer_alias};
+use comp_instances::{define_export, define_export_alias, define_import, define_instance};
 use comp_lifting::define_canon;
-use comp_outer::{Scopes, define_outer_alias};
 use comp_scopes::{define_core_alias, define_core_instance};
 use std::alloc::Global;
 use virt_base::NoMemory;

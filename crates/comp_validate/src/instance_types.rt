@@ -3,10 +3,10 @@ ghost use Rattle.comp_types.specs.Added.{and_depth, instance_type};
 ghost use Rattle.comp_types.specs.Rules.{is_within_limits};
 ghost use Rattle.comp_types.specs.Spaces.{Space, TypeEntry, and_type};
 ghost use Rattle.comp_scopes.specs.Stands.{IsEntry, Stands};
-ghost use Rattle.comp_outer.specs.Around.{StandAll};
+ghost use Rattle.comp_defining.specs.Around.{StandAll};
 ghost use Rattle.comp_validate.specs.Closing.{Closes, ClosesIn};
 
-use comp_outer::Scopes;
+use comp_defining::Scopes;
 use comp_scopes::{KnownEntry, Scope};
 use comp_types::{DeclaredInstance, InstanceType, TypeItem};
 use std::alloc::Global;

@@ -4,7 +4,7 @@ ghost use Rattle.comp_types.specs.Spaces.{Space};
 ghost use Rattle.comp_scopes.specs.Stands.{IsNested, Stands};
 ghost use Rattle.type_table.specs.Covers.{Covers};
 
-use comp_externs::own_resources;
+use comp_instances::own_resources;
 use comp_scopes::{KnownComponent, Scope, Shared};
 use std::alloc::Global;
 use type_table::TypeTable;

@@ -30,7 +30,7 @@ impl OpenTypes {
     }
 
     /// Opens one in the innermost.
-    #[tactic(auto, using(comp_outer::proofs::AroundLemmas::rev_push))]
+    #[tactic(auto, using(comp_defining::proofs::AroundLemmas::rev_push))]
     pub fn push(&mut self, count: u32) -> Result<(), NoMemory>
         ensures { OnOk result (self.new ≡ count ∷ self.old) }
     {
@@ -39,7 +39,7 @@ impl OpenTypes {
     }
 
     /// Takes out the innermost.
-    #[tactic(auto, using(comp_outer::proofs::AroundLemmas::rev_push))]
+    #[tactic(auto, using(comp_defining::proofs::AroundLemmas::rev_push))]
     pub fn pop(&mut self) -> Option<u32>
         ensures { IsPopped self.old result self.new }
     {

@@ -3,11 +3,11 @@ ghost use Rattle.wasm_ast.specs.declared.component.Span.{Span};
 ghost use Rattle.comp_grammar.specs.Trees.{CoreModule};
 ghost use Rattle.comp_types.specs.Added.{and_nested};
 ghost use Rattle.comp_types.specs.Spaces.{Space};
-ghost use Rattle.comp_outer.specs.Around.{StandAll};
+ghost use Rattle.comp_defining.specs.Around.{StandAll};
 ghost use Rattle.comp_validate.specs.Judged.{JudgedPart};
 
 use crate::nested::add_nested;
-use comp_outer::Scopes;
+use comp_defining::Scopes;
 use comp_scopes::{Shared, valid_module};
 use std::alloc::Global;
 use virt_base::NoMemory;

@@ -2,15 +2,15 @@ ghost use Rattle.std.specs.Prelude.{◌≡◌, [], List, IfOk, None};
 ghost use Rattle.comp_types.specs.Declarations.{Declarations, Done, grouped};
 ghost use Rattle.comp_types.specs.Definitions.{types_in};
 ghost use Rattle.comp_types.specs.Spaces.{Space};
-ghost use Rattle.comp_outer.specs.Around.{StandAll};
-ghost use Rattle.comp_outer.specs.Judged.{JudgedEach};
+ghost use Rattle.comp_defining.specs.Around.{StandAll};
+ghost use Rattle.comp_defining.specs.Judged.{JudgedEach};
 ghost use Rattle.comp_validate.specs.Rest.{Rest, Step, in_front};
 ghost use Rattle.comp_validate.specs.Stack.{IsReady};
 
 use crate::declarations::{define_alone, item_count};
 use crate::instance_types::close_type;
 use crate::open_types::OpenTypes;
-use comp_outer::Scopes;
+use comp_defining::Scopes;
 use std::alloc::Global;
 use virt_base::NoMemory;
 use wasm_ast::TypeItem;

@@ -1,7 +1,7 @@
 //! How many entries and parameters, written out, a definition is judged by walking over, or makes anew. A value type counts as one: a
 //! walk over a table comes by each different part of it once. No clause speaks of them.
 
-use comp_outer::Scopes;
+use comp_defining::Scopes;
 use comp_scopes::{KnownComponent, Scope};
 use comp_types::{InstanceEntries, TypeItem};
 use wasm_ast::{

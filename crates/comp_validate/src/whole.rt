@@ -3,7 +3,7 @@ ghost use Rattle.comp_validate.specs.Answer.{Answers};
 
 use crate::components::judge_sections;
 use crate::fault::CompFault;
-use comp_outer::Scopes;
+use comp_defining::Scopes;
 use comp_scopes::Scope;
 use comp_signature::ComponentType;
 use std::alloc::Global;

@@ -118,7 +118,8 @@ fn judged(alloc: Global, module: &Module) -> Result<String, Fail> {
 }
 
 fn judge(alloc: Global, words: &str) -> Result<String, Fail> {
-    judged(alloc, &module_of(alloc, words)?)
+    let module = module_of(alloc, words)?;
+    judged(alloc, &module)
 }
 
 /// Bodies that no bytes spell: an `else` alone, a block without an end, and an end too many.

@@ -9,7 +9,7 @@ use Rattle.wit_types.specs.Plain.{Name, Parts}
 use Rattle.wit_types.specs.PlainValue.{PlainValues}
 use Rattle.wit_types.specs.HasType.{are_of}
 use Rattle.host_port.specs.Untyped.{Untyped, Items, Null, Truth, Number, Inexact, Text, Array, Object, NoItems, Item, parts_reading}
-use Rattle.script_values.specs.Json.{untyped}
+use Rattle.host_script.specs.Json.{untyped}
 use Rattle.host_script.specs.declared.script.Call.{Call}
 use Rattle.host_script.specs.Script.{Exports, PlainCall, IsTypedCall, AreTyped, or_bad, params_named, call_of, text_of, items_of, pair_of, two_in, pair_in, call_by, call_at, call_seen}
 use Rattle.host_script.proofs.Typed.{is_textual, are_textual, AllPass, parts_pass}

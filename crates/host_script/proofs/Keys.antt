@@ -3,7 +3,7 @@ use Rattle.std.proofs.Common.{◌≡◌, ◌∙◌, refl, ap, List, ℕ, ◌∷�
 use Rattle.std.specs.Prelude.{Some}
 use Rattle.serde_json.specs.View.{members_view}
 use Rattle.serde_json.specs.declared.value.Value.{Value as Json}
-use Rattle.script_values.specs.Json.{untyped_members}
+use Rattle.host_script.specs.Json.{untyped_members}
 use Rattle.host_script.specs.Script.{is_known, first_unknown}
 
 pub known_turn : (s t : List (String Global × Json)) (k : String Global) (j : Json) (key : List ℕ) → s ≡ (k, j) ∷ t → key ≡ string_bytes k → is_known key ≡ true

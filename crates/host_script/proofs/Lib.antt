@@ -1,3 +1,9 @@
+pub mod Chars
+pub mod Fields
+pub mod Flags
+pub mod Joins
+pub mod Only
+pub mod Views
 pub mod CallTypes
 pub mod HostLaws
 pub mod Keys

@@ -11,8 +11,8 @@ use Rattle.serde_json.specs.View.{view, items_view, members_view}
 use Rattle.serde_json.specs.declared.value.Value.{Value as Json}
 use Rattle.wit_types.specs.Plain.{Name}
 use Rattle.host_port.specs.Untyped.{Untyped, Items, Members}
-use Rattle.script_values.specs.Json.{untyped, untyped_items, untyped_members}
-use Rattle.script_values.proofs.Fields.{take_removed}
+use Rattle.host_script.specs.Json.{untyped, untyped_items, untyped_members}
+use Rattle.host_script.proofs.Fields.{take_removed}
 use Rattle.host_script.specs.declared.fault.ScriptFault.{ScriptFault}
 use Rattle.host_script.specs.declared.fault.ScriptFault.TheVariants.{BadScript, NoMemory}
 use Rattle.host_script.specs.Script.{Gives, and_then, each_at, value_at, only_value}

@@ -13,7 +13,7 @@ use Rattle.wit_types.specs.HasType.{is_of}
 use Rattle.host_port.specs.Hosts.{IsAnswerTo}
 use Rattle.host_port.specs.Scripts.{item_answer, read_as}
 use Rattle.host_port.specs.Untyped.{reading}
-use Rattle.script_values.specs.Json.{untyped, untyped_number, untyped_items, untyped_members}
+use Rattle.host_script.specs.Json.{untyped, untyped_number, untyped_items, untyped_members}
 use Rattle.host_script.specs.declared.script.ScriptItem.{ScriptItem}
 use Rattle.host_script.specs.declared.script.ScriptItem.TheVariants.{Traps, NoValue, Value}
 use Rattle.host_script.specs.Script.{item_seen}

@@ -8,7 +8,7 @@ use Rattle.serde_json.specs.Read.{read}
 use Rattle.serde_json.specs.Errors.{IsMemory}
 use Rattle.serde_json.specs.declared.error.Error.{Error}
 use Rattle.host_port.specs.Untyped.{Untyped, Members}
-use Rattle.script_values.specs.Json.{untyped}
+use Rattle.host_script.specs.Json.{untyped}
 use Rattle.host_script.specs.declared.fault.ScriptFault.{ScriptFault}
 use Rattle.host_script.specs.declared.fault.ScriptFault.TheVariants.{BadScript, NoMemory}
 use Rattle.host_script.specs.declared.script.Script.{Script}

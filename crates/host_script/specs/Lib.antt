@@ -1,2 +1,4 @@
+pub mod Json
+pub mod Reads
 pub mod Hosts
 pub mod Script

@@ -12,7 +12,7 @@ use Rattle.wit_types.specs.PlainValue.{PlainValues, plain_values}
 use Rattle.wit_types.specs.HasType.{are_of}
 use Rattle.host_port.specs.Untyped.{Untyped, Items, Members, Text, Array, Object, NoItems, Item, NoMembers, Member, take_member, parts_reading}
 use Rattle.host_port.specs.Scripts as port
-use Rattle.script_values.specs.Json.{untyped}
+use Rattle.host_script.specs.Json.{untyped}
 use Rattle.host_script.specs.declared.fault.ScriptFault.{ScriptFault}
 use Rattle.host_script.specs.declared.fault.ScriptFault.TheVariants.{BadScript, NoMemory}
 use Rattle.host_script.specs.declared.script.ScriptItem.{ScriptItem}

@@ -1,8 +1,8 @@
-#![tactic(auto, using(script_values::proofs::Views::untypeds))]
+#![tactic(auto, using(crate::proofs::Views::untypeds))]
 
 ghost use Rattle.std.specs.Prelude.{map, codes, string_bytes};
 ghost use Rattle.serde_json.specs.View.{view, items_view, members_view};
-ghost use Rattle.script_values.specs.Json.{untyped, untyped_items, untyped_members};
+ghost use Rattle.host_script.specs.Json.{untyped, untyped_items, untyped_members};
 ghost use Rattle.host_script.specs.Script.{Gives, Finds, IsBad, item_in, only_value, named_value, answer_at, each_at, item_seen, nth};
 
 use crate::fault::ScriptFault;

@@ -1,15 +1,15 @@
-#![tactic(auto, using(script_values::proofs::Views::untypeds))]
+#![tactic(auto, using(crate::proofs::Views::untypeds))]
 
 ghost use Rattle.std.specs.Prelude.{map, ◌≡◌, IfOk, option_map, string_bytes};
 ghost use Rattle.serde_json.specs.View.{view, items_view};
 ghost use Rattle.host_port.specs.Calls.{fields_in};
-ghost use Rattle.script_values.specs.Json.{untyped, untyped_items};
+ghost use Rattle.host_script.specs.Json.{untyped, untyped_items};
 ghost use Rattle.host_script.specs.Script.{Gives, Finds, text_of, items_of, two_in, pair_in, call_by, call_of, call_at, each_at, call_seen, exports_seen, params_named, AreTyped};
 
 use crate::answers::bad_item;
 use crate::fault::ScriptFault;
 use crate::script::{Call, Calls, ExportTypes};
-use script_values::{ReadValueFault, read_args};
+use crate::{ReadValueFault, read_args};
 use serde_json::Value as Json;
 use std::alloc::Global;
 use virt_base::{Items, Text};

@@ -6,8 +6,8 @@ ghost use Rattle.host_script.specs.Script.{item_seen};
 ghost use Rattle.host_script.specs.Hosts.{kept_by};
 
 use crate::script::{Answers, ScriptItem};
+use crate::{ReadValueFault, read_value};
 use host_port::{Answer, Host, HostCall, Observation, Observations, Resource, copy_resource};
-use script_values::{ReadValueFault, read_value};
 use std::alloc::Global;
 use std::vec::IntoIter;
 use virt_base::{Items, NoMemory};

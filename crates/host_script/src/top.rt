@@ -1,8 +1,8 @@
-#![tactic(auto, using(script_values::proofs::Views::untypeds, crate::proofs::Whole::bads))]
+#![tactic(auto, using(crate::proofs::Views::untypeds, crate::proofs::Whole::bads))]
 
 ghost use Rattle.std.specs.Prelude.{◌≡◌, ◌≢◌, [], List, ℕ, IfOk, option_map};
 ghost use Rattle.serde_json.specs.View.{view, items_view, members_view};
-ghost use Rattle.script_values.specs.Json.{untyped, untyped_items, untyped_members};
+ghost use Rattle.host_script.specs.Json.{untyped, untyped_items, untyped_members};
 ghost use Rattle.host_script.specs.Script.{Gives, IsBad, IsNoJson, array_in, value_at, is_known, first_unknown, unless_bad, made_of, script_in, script_of, due_script, script_seen, exports_seen, json_in, AreTyped};
 
 use crate::answers::read_answers;

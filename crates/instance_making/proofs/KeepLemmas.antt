@@ -6,8 +6,8 @@ use Rattle.wit_types.specs.Plain.{PlainFunc}
 use Rattle.comp_worlds.specs.Groups.{Target as GroupTarget, Mine}
 use Rattle.comp_link.specs.Plans.{Lifts}
 use Rattle.comp_link.specs.Linking.{Given as GroupGiven, Givens as GroupGivens, GivenFunc, GivenInstance, GivenResource, GivenType, Making as GroupMaking, Whole, and_item, and_bound, lifting_of, link_item}
-use Rattle.instance_values.specs.Targets.{target_of}
-use Rattle.instance_values.specs.declared.target.Target.{Target}
+use Rattle.instance_state.specs.Targets.{target_of}
+use Rattle.instance_state.specs.declared.target.Target.{Target}
 use Rattle.instance_making.specs.declared.making.Making.{Making}
 use Rattle.instance_making.specs.Made.{Holds}
 use Rattle.instance_making.specs.Shown.{some_target, SamePartners, Stands}

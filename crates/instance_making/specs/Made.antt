@@ -2,7 +2,7 @@
 use Rattle.std.specs.Prelude.{◌≡◌, ℕ, List, [], ◌∷◌, ◌++◌, Option, Some, None, slice_get}
 use Rattle.wit_types.specs.Plain.{Name}
 use Rattle.comp_link.specs.Linking.{Given as GroupGiven, Givens as GroupGivens, GivenFunc, GivenInstance, GivenResource, GivenType, find}
-use Rattle.instance_values.specs.Targets.{target_of}
+use Rattle.instance_state.specs.Targets.{target_of}
 use Rattle.instance_making.specs.declared.named.Named.{Named}
 use Rattle.instance_making.specs.declared.given.Given.{Given}
 use Rattle.instance_making.specs.declared.given.Given.TheVariants.{Func, Instance, Resource, «Type»}

@@ -6,8 +6,8 @@ use Rattle.core_instance.specs.declared.external.NamedExtern.{NamedExtern}
 use Rattle.comp_types.specs.Substitution.{partner_of}
 use Rattle.comp_worlds.specs.Groups.{Target as GroupTarget}
 use Rattle.comp_link.specs.Linking.{Givens as GroupGivens, Making as GroupMaking, core_find}
-use Rattle.instance_values.specs.Targets.{target_of}
-use Rattle.instance_values.specs.declared.target.Target.{Target}
+use Rattle.instance_state.specs.Targets.{target_of}
+use Rattle.instance_state.specs.declared.target.Target.{Target}
 use Rattle.instance_making.specs.declared.named.Named.{Named}
 use Rattle.instance_making.specs.declared.making.Making.{Making}
 use Rattle.instance_making.specs.Named.{found}

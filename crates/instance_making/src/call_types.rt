@@ -2,7 +2,7 @@ ghost use Rattle.std.specs.Prelude.{◌≡◌, IfOk};
 ghost use Rattle.comp_types.specs.Substitution.{partner_in, func_with};
 
 use comp_types::{KnownFunc, Substitution};
-use instance_values::CallType;
+use instance_state::CallType;
 use std::alloc::Global;
 use std::rc::Rc;
 use type_relations::func_alone;

@@ -2,15 +2,15 @@ ghost use Rattle.std.specs.Prelude.{◌≡◌, List, IfOk, OnOk, option_map, opt
 ghost use Rattle.comp_worlds.specs.Groups.{LoweredFunc};
 ghost use Rattle.comp_link.specs.Plans.{Lifts};
 ghost use Rattle.comp_link.specs.Linking.{Givens as GroupGivens, Making as GroupMaking, lifting_of as lifting_of_group, link_item, memory_in as memory_of_group, realloc_in as realloc_of_group, options_in as options_of_group, post_in as post_of_group};
-ghost use Rattle.instance_values.specs.Targets.{lifting_of, func_of};
-ghost use Rattle.instance_values.specs.Passed.{options_of};
+ghost use Rattle.instance_state.specs.Targets.{lifting_of, func_of};
+ghost use Rattle.instance_state.specs.Passed.{options_of};
 ghost use Rattle.instance_making.specs.Shown.{Stands};
 
 use crate::call_types::call_type_with;
 use crate::core_making::place_at;
 use crate::making::Making;
 use comp_types::KnownFunc;
-use instance_values::{CallOptions, Canon, Lifting, Target};
+use instance_state::{CallOptions, Canon, Lifting, Target};
 use std::alloc::Global;
 use std::rc::Rc;
 use virt_base::NoMemory;

@@ -5,7 +5,7 @@ ghost use Rattle.instance_making.specs.Bound.{number_of, resource_of};
 
 use crate::named::Named;
 use core_instance::Extern;
-use instance_values::Target;
+use instance_state::Target;
 use virt_base::NoMemory;
 
 /// What stands under a name: a function by where it leads, an instance by its number among those that are made, a resource by its

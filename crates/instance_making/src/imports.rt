@@ -2,7 +2,7 @@ ghost use Rattle.std.specs.Prelude.{◌≡◌, ◌+◌, ◌++◌, [], ◌∷◌,
 ghost use Rattle.comp_types.specs.Items.{KindItem};
 ghost use Rattle.comp_types.specs.Views.{item_of, kind_of, entries_of};
 ghost use Rattle.comp_worlds.specs.Groups.{Theirs};
-ghost use Rattle.instance_values.specs.Targets.{target_of};
+ghost use Rattle.instance_state.specs.Targets.{target_of};
 ghost use Rattle.comp_link.specs.Linking.{Givens as GroupGivens, Known, outside as given_outside, all_outside, known, all_known};
 ghost use Rattle.instance_making.specs.Made.{IsGiven, IsInstance, Holds, AreMade, AndMore};
 ghost use Rattle.instance_making.specs.Outside.{resource_at, first_known, AreKnown};
@@ -14,7 +14,7 @@ use crate::numbers::next_number;
 use comp_types::{InstanceEntries, InstanceEntry, ItemType, KnownFunc, TypeItem};
 use host_port::Resource;
 use indexmap::IndexMap;
-use instance_values::{Import, Target};
+use instance_state::{Import, Target};
 use std::alloc::Global;
 use std::rc::Rc;
 use virt_base::{NoMemory, Text};

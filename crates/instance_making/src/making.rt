@@ -10,7 +10,7 @@ use crate::given::{CoreItems, Given, Givens, MadeInstances};
 use crate::named::Named;
 use crate::numbers::next_number;
 use comp_types::Substitution;
-use instance_values::Target;
+use instance_state::Target;
 use std::alloc::Global;
 use virt_base::NoMemory;
 

@@ -5,3 +5,8 @@ pub mod Counting
 pub mod Exchanges
 pub mod Lent
 pub mod Laws
+pub mod Passing
+pub mod Lifted
+pub mod Forms
+pub mod Words
+pub mod Labels

@@ -7,3 +7,8 @@ pub mod Counted
 pub mod Loans
 pub mod Shown
 pub mod Exchanges
+pub mod Passed
+pub mod Functions
+pub mod Calls
+pub mod Imports
+pub mod Targets

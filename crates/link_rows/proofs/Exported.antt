@@ -6,8 +6,8 @@ use Rattle.wit_types.specs.Plain.{PlainFunc, BoolType, OwnType, BorrowType, End 
 use Rattle.comp_types.specs.Items.{Item, Entries, InstanceItem, KindItem, ValueKind, End, More, same_name, look_up}
 use Rattle.comp_types.specs.Added.{type_of}
 use Rattle.comp_link.specs.Linking.{GivenType, Nothing, Giving, find, instance_in, linked}
-use Rattle.comp_exports.specs.Exports.{Either, IsOf, Finds}
-use Rattle.comp_exports.proofs.Shapes.{Has, has_exports}
+use Rattle.comp_link.specs.Exports.{Either, IsOf, Finds}
+use Rattle.comp_link.proofs.Shapes.{Has, has_exports}
 use Rattle.link_rows.specs.WrapsTrees.{constant}
 use Rattle.link_rows.specs.WrapsRows.{ExportsExamples}
 

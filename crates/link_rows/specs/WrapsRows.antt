@@ -13,8 +13,8 @@ use Rattle.comp_worlds.specs.Observed.{Call}
 use Rattle.comp_link.specs.Components.{component_obs}
 use Rattle.comp_inside.specs.Wrapping.{Wraps}
 use Rattle.comp_inside.specs.Laws.{ImportsNone}
-use Rattle.comp_exports.specs.Sections.{DefinesTypes}
-use Rattle.comp_exports.specs.Exports.{IsOf, AreExportsOf}
+use Rattle.comp_link.specs.Sections.{DefinesTypes}
+use Rattle.comp_link.specs.Exports.{IsOf, AreExportsOf}
 use Rattle.link_rows.specs.WrapsTrees.{constant, wrapped, silent, silent_wrapped, silent_handed}
 
 -- a host that would count its calls

@@ -1,3 +1,5 @@
+pub mod Searching
+pub mod Stepping
 pub mod Follows
 pub mod MountLemmas
 pub mod OrderedLemmas
@@ -10,3 +12,4 @@ pub mod LimitLemmas
 pub mod TreeLemmas
 pub mod SpotLemmas
 pub mod BuiltTexts
+pub mod MapLaws

@@ -1,3 +1,5 @@
+pub mod Halves
+pub mod Steps
 pub mod Runs
 pub mod Legal
 pub mod Growing

@@ -21,9 +21,9 @@ use Rattle.comp_types.specs.Rules.{lengths_of, item_stands, exports_sort, is_of_
 use Rattle.comp_types.specs.Validity.{AllHold, AreValid}
 use Rattle.comp_types.specs.Faults.{first_failing}
 use Rattle.comp_types.proofs.FaultLaws.{all_hold}
-use Rattle.output_form.specs.declared.counts.Counts.{Counts}
-use Rattle.output_form.specs.Counts.{sort_of, count_of, and_one}
-use Rattle.output_form.specs.Output.{aliases_of, exports_from}
+use Rattle.virt_output.specs.declared.counts.Counts.{Counts}
+use Rattle.virt_output.specs.Counts.{sort_of, count_of, and_one}
+use Rattle.virt_output.specs.Output.{aliases_of, exports_from}
 use Rattle.output_same.proofs.Exported.{Fits, AllFit, joined, joined_first, joined_all}
 
 -- ---- an entry is found by its name

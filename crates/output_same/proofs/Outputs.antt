@@ -18,9 +18,9 @@ use Rattle.comp_types.specs.GivenResources.{is_among, named_in, numbered, given_
 use Rattle.comp_types.specs.Added.{after, after_all, and_nested, nested_of, after_tree, root, type_of}
 use Rattle.comp_types.specs.Validity.{AllHold, AreValid, IsValidTree, IsValidComponent}
 use Rattle.comp_types.proofs.FaultLaws.{all_hold}
-use Rattle.output_form.specs.declared.counts.Counts.{Counts}
-use Rattle.output_form.specs.Counts.{sort_of, count_of, and_one}
-use Rattle.output_form.specs.Output.{one_instance, aliases_of, exports_from, behind_instance, exports_of, exporting, output_tree}
+use Rattle.virt_output.specs.declared.counts.Counts.{Counts}
+use Rattle.virt_output.specs.Counts.{sort_of, count_of, and_one}
+use Rattle.virt_output.specs.Output.{one_instance, aliases_of, exports_from, behind_instance, exports_of, exporting, output_tree}
 use Rattle.output_same.proofs.Further.{tree_more}
 use Rattle.output_same.proofs.Exported.{AllFit, joined, joined_all, exports_fit}
 use Rattle.output_same.proofs.Imported.{nothing_imported}

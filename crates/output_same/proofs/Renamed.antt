@@ -12,7 +12,7 @@ use Rattle.comp_names.specs.Same.{is_same_name}
 use Rattle.comp_types.specs.Items.{Item, Entries, FuncItem, InstanceItem, KindItem, ResourceKind, ValueKind, FuncKind, InstanceKind, End, More, look_up, names, same_name, and_entry}
 use Rattle.comp_types.specs.Substitution.{parts_with, answer_with, item_with, entries_with}
 use Rattle.comp_types.specs.Rules.{is_own_of, begins_with_borrow_of, is_function_of, has_resource, resource_of, annotation_fits}
-use Rattle.output_form.specs.Counts.{sort_of}
+use Rattle.virt_output.specs.Counts.{sort_of}
 use Rattle.output_same.proofs.Exported.{Fits, AllFit}
 
 module _ (f : ℕ → ℕ) where

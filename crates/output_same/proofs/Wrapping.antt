@@ -12,11 +12,11 @@ use Rattle.comp_grammar.specs.Components.{no_span}
 use Rattle.comp_types.specs.Added.{type_of}
 use Rattle.comp_link.specs.Linking.{Given, Givens, GivenFunc, GivenInstance, GivenResource, GivenType, Nothing, Giving, find, linked}
 use Rattle.comp_inside.specs.Wrapping.{Handed, alias_of, export_at, exports_from, HandOn, is_of_sort, AreThere, IsNamed, AreExports}
-use Rattle.comp_exports.specs.Exports.{IsOf, AreExportsOf}
-use Rattle.comp_exports.proofs.Shapes.{Has, found, has_exports}
-use Rattle.comp_exports.proofs.Made.{exports_linked}
-use Rattle.output_form.specs.Counts.{sort_of}
-use Rattle.output_form.specs.Output.{aliases_of, exports_from as output_exports, exporting}
+use Rattle.comp_link.specs.Exports.{IsOf, AreExportsOf}
+use Rattle.comp_link.proofs.Shapes.{Has, found, has_exports}
+use Rattle.comp_link.proofs.Made.{exports_linked}
+use Rattle.virt_output.specs.Counts.{sort_of}
+use Rattle.virt_output.specs.Output.{aliases_of, exports_from as output_exports, exporting}
 use Rattle.output_same.proofs.Exported.{exports_fit}
 use Rattle.output_same.proofs.Added.{AllIn, all_in}
 use Rattle.output_same.specs.Laws.{OutputsWrap}

@@ -4,7 +4,7 @@ use Rattle.comp_grammar.specs.Trees.{Tree}
 use Rattle.comp_write.specs.Copying.{bare}
 use Rattle.comp_link.specs.Linking.{group_of}
 use Rattle.comp_inside.specs.Wrapping.{Wraps}
-use Rattle.comp_exports.specs.Sections.{DefinesTypes}
+use Rattle.comp_link.specs.Sections.{DefinesTypes}
 use Rattle.output_same.specs.ValidLaws.{StandsAlone, output_of}
 use Rattle.output_same.specs.Strategies.{DoesTheSame}
 

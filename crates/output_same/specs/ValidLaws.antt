@@ -6,7 +6,7 @@ use Rattle.comp_grammar.specs.Trees.{Tree}
 use Rattle.comp_types.specs.GivenResources.{is_among, named_in}
 use Rattle.comp_types.specs.Added.{type_of}
 use Rattle.comp_types.specs.Validity.{IsValidComponent}
-use Rattle.output_form.specs.Output.{output_tree}
+use Rattle.virt_output.specs.Output.{output_tree}
 
 -- a valid component that imports nothing
 pub record StandsAlone (app : Tree) : Type 0 where

@@ -4,10 +4,10 @@ use Rattle.std.proofs.lemmas.List.{map-set}
 use Rattle.std.proofs.lemmas.List.Sums.{sum_by-cons}
 use Rattle.tree_table.specs.Tables.{Forest}
 use Rattle.reference_step.specs.Handles as reference
-use Rattle.ref_live.specs.declared.content.Content.{Content}
-use Rattle.ref_live.specs.declared.content.Content.TheVariants.{Host, Node, FileAt, EmptyIn, Discard, Always, Entries, ScratchRoot, ScratchEntries, ScratchFile, ScratchIn, ScratchOut}
-use Rattle.ref_live.specs.declared.content.Handle.{Handle}
-use Rattle.ref_live.specs.Lives.{of_kind, count_of_kind, opens, is_open, standing_for}
+use Rattle.ref_rules.specs.declared.content.Content.{Content}
+use Rattle.ref_rules.specs.declared.content.Content.TheVariants.{Host, Node, FileAt, EmptyIn, Discard, Always, Entries, ScratchRoot, ScratchEntries, ScratchFile, ScratchIn, ScratchOut}
+use Rattle.ref_rules.specs.declared.content.Handle.{Handle}
+use Rattle.ref_rules.specs.Lives.{of_kind, count_of_kind, opens, is_open, standing_for}
 use Rattle.ref_answers.specs.Seen.{content_in, handle_in, live_in}
 
 module _ {A B : Type 0} (g : A → B) where

@@ -1,3 +1,4 @@
+pub mod Versions
 pub mod Seen
 pub mod Shown
 pub mod Found

@@ -5,9 +5,9 @@ use Rattle.tree_table.specs.Tables.{Forest, Row, tree_of, path_of}
 use Rattle.reference_step.specs.Nodes.{type_of}
 use Rattle.reference_step.specs.Handles as reference
 use Rattle.reference_step.specs.Handles.{DirectoryEntry, LiveHandle, Live}
-use Rattle.ref_live.specs.declared.content.Content.{Content}
-use Rattle.ref_live.specs.declared.content.Content.TheVariants.{Host, Node, FileAt, EmptyIn, Discard, Always, Entries, ScratchRoot, ScratchEntries, ScratchFile, ScratchIn, ScratchOut}
-use Rattle.ref_live.specs.declared.content.Handle.{Handle}
+use Rattle.ref_rules.specs.declared.content.Content.{Content}
+use Rattle.ref_rules.specs.declared.content.Content.TheVariants.{Host, Node, FileAt, EmptyIn, Discard, Always, Entries, ScratchRoot, ScratchEntries, ScratchFile, ScratchIn, ScratchOut}
+use Rattle.ref_rules.specs.declared.content.Handle.{Handle}
 
 abbrev pub entry_of_row : Row → DirectoryEntry
 entry_of_row row = record { ty = type_of (Some row.node); name = row.name }

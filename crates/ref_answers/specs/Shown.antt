@@ -4,7 +4,7 @@ use Rattle.tree_table.specs.Tables.{Forest}
 use Rattle.reference_step.specs.Handles.{Content as PlainContent}
 use Rattle.reference_step.specs.State.{Row as PlainRow, Traps, Does}
 use Rattle.host_port.specs.Calls.{plain_option}
-use Rattle.ref_live.specs.declared.content.Content.{Content}
+use Rattle.ref_rules.specs.declared.content.Content.{Content}
 use Rattle.ref_answers.specs.declared.row.Row.{Row}
 use Rattle.ref_answers.specs.declared.row.Row.TheVariants.{Traps as Traps', Does as Does'}
 use Rattle.ref_answers.specs.Seen.{content_in}

@@ -11,7 +11,7 @@ ghost use Rattle.ref_answers.specs.Found.{found};
 use crate::row::{Row, gives, returns};
 use crate::values::{number, pair};
 use policy_data::{MonotonicClock, Policy, WallClock};
-use ref_live::Content;
+use ref_rules::Content;
 use std::alloc::Global;
 use virt_base::NoMemory;
 use wit_types::Value;

@@ -3,12 +3,16 @@
 #![tactic(auto)]
 
 mod clocks;
+mod described;
 mod environment;
+mod names;
 mod nodes;
 mod passing;
 mod pollables;
+mod resources;
 mod row;
 mod stdio;
+mod table;
 mod values;
 
 pub use clocks::{monotonic_row, wall_row};
@@ -18,6 +22,7 @@ pub use passing::passed_variables;
 pub use pollables::{block, poll, ready};
 pub use row::{Effect, Row, fails, gives, gives_ok, moves, returns};
 pub use stdio::{stderr_row, stdin_row, stdout_row, terminal_row};
+pub use table::{Found, ListedTable};
 pub use values::{
     bytes, closed, done, error, error_code, label, list, none, number, ok, pair, record, some, text,
 };

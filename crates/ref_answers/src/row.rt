@@ -8,7 +8,7 @@ ghost use Rattle.ref_answers.specs.Seen.{content_in};
 ghost use Rattle.ref_answers.specs.Shown.{shown};
 
 use crate::values::{error_code, ok};
-use ref_live::Content;
+use ref_rules::Content;
 use std::alloc::Global;
 use virt_base::NoMemory;
 use wit_types::Value;

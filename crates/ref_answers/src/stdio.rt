@@ -10,7 +10,7 @@ ghost use Rattle.ref_answers.specs.Found.{found};
 
 use crate::row::{Row, gives, returns};
 use crate::values::none;
-use ref_live::Content;
+use ref_rules::Content;
 
 /// The row of a function of wasi:cli/stdin.
 pub fn stdin_row(function: &str) -> Row

@@ -11,7 +11,7 @@ ghost use Rattle.ref_answers.specs.Seen.{content_in, live_in};
 ghost use Rattle.ref_guards.specs.Noted.{shown, shown_all};
 
 use crate::atoms::Atom;
-use ref_live::{Content, LiveHandles};
+use ref_rules::{Content, LiveHandles};
 
 /// Whether the handle of a number is live and of a kind.
 fn is_of_kind(live: &LiveHandles, kind: u32, id: u32) -> bool

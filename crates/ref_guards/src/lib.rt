@@ -8,13 +8,22 @@
 mod alike;
 mod arguments;
 mod atoms;
+mod entering;
+mod entering_room;
 mod handles;
+mod numbers;
 mod room;
+mod standing;
+mod values;
 mod weight;
 
 pub use alike::alike_results;
 pub use arguments::are_arguments;
 pub use atoms::{Atom, note_arguments, note_atoms, note_result};
+pub use entering::enter_value;
+pub use entering_room::results_have_room;
 pub use handles::{are_host, are_live, is_host};
+pub use numbers::numbers_agree;
 pub use room::{has_places, owned_kinds};
+pub use standing::Standing;
 pub use weight::{left_behind, left_behind_elements};

@@ -9,7 +9,7 @@ ghost use Rattle.reference_step.specs.Rules.{owns, owns_in, same_kind, kinds, ha
 ghost use Rattle.ref_answers.specs.Seen.{live_in};
 ghost use Rattle.ref_guards.specs.Owned.{each_at_most, owned_at_most};
 
-use ref_live::LiveHandles;
+use ref_rules::LiveHandles;
 use std::rc::Rc;
 use wit_types::{Case, Field, WitType};
 

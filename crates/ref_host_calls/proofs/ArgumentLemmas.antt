@@ -5,9 +5,9 @@ use Rattle.wit_types.specs.Plain.{Parts}
 use Rattle.wit_types.specs.PlainValue.{PlainValues}
 use Rattle.abi_layout.specs.Handles.{field_handles, renumbered_fields}
 use Rattle.reference_step.specs.Atoms.{atoms_of, handles, renumbered_of}
-use Rattle.ref_entering.specs.Numbers.{seen}
-use Rattle.ref_entering.proofs.HandleLaws.{same_fields}
-use Rattle.ref_entering.proofs.NumberLaws.{fields_agree}
+use Rattle.ref_guards.specs.Numbers.{seen}
+use Rattle.ref_guards.proofs.HandleLaws.{same_fields}
+use Rattle.ref_guards.proofs.NumberLaws.{fields_agree}
 
 pub fields_count : (fields : Parts) (xs : PlainValues) → length (handles (atoms_of fields xs)) ≡ length (field_handles fields xs)
 fields_count fields xs = ap length (same_fields fields xs) ∙ length-map (field_handles fields xs) seen

@@ -14,11 +14,11 @@ use Rattle.reference_step.specs.Listed.{Listed}
 use Rattle.reference_step.specs.State.{Reference}
 use Rattle.reference_step.specs.Steps.{args_weight, elements_weight, entered, enters, environment_gave, from_host, host_gave, value_of}
 use Rattle.reference_step.specs.Values.{list}
-use Rattle.ref_live.specs.declared.content.Handle.{Handle}
+use Rattle.ref_rules.specs.declared.content.Handle.{Handle}
 use Rattle.ref_answers.specs.Seen.{live_in}
-use Rattle.ref_entering.specs.declared.standing.Standing.TheVariants.{Hosts}
-use Rattle.ref_entering.specs.Entering.{with_handles, numbers_for}
-use Rattle.ref_entering.proofs.SeenEntering.{hosts_entered}
+use Rattle.ref_guards.specs.declared.standing.Standing.TheVariants.{Hosts}
+use Rattle.ref_guards.specs.Entering.{with_handles, numbers_for}
+use Rattle.ref_guards.proofs.SeenEntering.{hosts_entered}
 
 if_true : {A : Type 0} (b : Bool) (x y : A) → b ≡ true → (if b then x else y) ≡ x
 if_true true x y e = refl

@@ -11,11 +11,11 @@ use Rattle.reference_step.specs.Handles as contents
 use Rattle.reference_step.specs.Handles.{Live, LiveHandle}
 use Rattle.reference_step.specs.State.{Reference}
 use Rattle.reference_step.specs.Steps.{dropped, lost}
-use Rattle.ref_listed.specs.Versions.{resource_in, version_in}
-use Rattle.ref_live.specs.declared.content.Content.{Content}
-use Rattle.ref_live.specs.declared.content.Content.TheVariants.{Host}
-use Rattle.ref_live.specs.declared.content.Handle.{Handle}
-use Rattle.ref_live.specs.Lives.{LiveTable}
+use Rattle.ref_answers.specs.Versions.{resource_in, version_in}
+use Rattle.ref_rules.specs.declared.content.Content.{Content}
+use Rattle.ref_rules.specs.declared.content.Content.TheVariants.{Host}
+use Rattle.ref_rules.specs.declared.content.Handle.{Handle}
+use Rattle.ref_rules.specs.Lives.{LiveTable}
 use Rattle.ref_answers.specs.Seen.{content_in, handle_in, live_in}
 use Rattle.ref_answers.proofs.SeenLaws.{seen_handle_at, seen_without_handle}
 use Rattle.ref_host_calls.specs.Losses.{IsLoss, listed_at}

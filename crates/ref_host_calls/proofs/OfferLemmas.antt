@@ -19,8 +19,8 @@ use Rattle.reference_step.specs.Access.{all_files}
 use Rattle.reference_step.specs.Handles as contents
 use Rattle.reference_step.specs.Steps as reference
 use Rattle.reference_step.specs.Values.{items}
-use Rattle.ref_live.specs.declared.content.Content.{Content}
-use Rattle.ref_live.specs.declared.content.Content.TheVariants.{Node}
+use Rattle.ref_rules.specs.declared.content.Content.{Content}
+use Rattle.ref_rules.specs.declared.content.Content.TheVariants.{Node}
 use Rattle.ref_answers.specs.Seen.{content_in}
 use Rattle.ref_host_calls.specs.declared.offers.Folder.{Folder}
 use Rattle.ref_host_calls.specs.declared.offers.Folder.TheVariants.{Theirs, Root, Scratch}

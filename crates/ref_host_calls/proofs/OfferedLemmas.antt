@@ -15,8 +15,8 @@ use Rattle.reference_step.specs.Handles as contents
 use Rattle.reference_step.specs.Handles.{first_free, with_entry, Live}
 use Rattle.reference_step.specs.State.{Reference}
 use Rattle.reference_step.specs.Steps as reference
-use Rattle.ref_listed.specs.Versions.{resource_in, version_in}
-use Rattle.ref_live.specs.Lives.{LiveTable, count_of_kind}
+use Rattle.ref_answers.specs.Versions.{resource_in, version_in}
+use Rattle.ref_rules.specs.Lives.{LiveTable, count_of_kind}
 use Rattle.ref_answers.specs.Seen.{content_in, live_in}
 use Rattle.ref_answers.proofs.SeenLaws.{seen_fresh_id, seen_of_kind, seen_with_handle}
 use Rattle.ref_host_calls.specs.declared.offers.Folder.{Folder}

@@ -5,8 +5,8 @@ use Rattle.tree_table.specs.Tables.{Forest}
 use Rattle.host_port.specs.Calls.{PlainObservation}
 use Rattle.host_port.specs.Hosts.{Loss}
 use Rattle.reference_step.specs.State.{Reference}
-use Rattle.ref_listed.specs.Versions.{version_in}
-use Rattle.ref_live.specs.Lives.{LiveTable}
+use Rattle.ref_answers.specs.Versions.{version_in}
+use Rattle.ref_rules.specs.Lives.{LiveTable}
 use Rattle.ref_answers.specs.Seen.{live_in}
 
 -- a state of the reference host with interfaces listed under these versions, these live handles and this state of the host that is asked

@@ -4,10 +4,10 @@ use Rattle.tree_table.specs.Tables.{Forest}
 use Rattle.host_port.specs.Hosts.{HostStep}
 use Rattle.reference_step.specs.State.{Reference}
 use Rattle.reference_step.specs.Steps as reference
-use Rattle.ref_listed.specs.Versions.{version_in}
-use Rattle.ref_live.specs.declared.content.Content.{Content}
-use Rattle.ref_live.specs.declared.content.Content.TheVariants.{Host, Node, ScratchRoot}
-use Rattle.ref_live.specs.Lives.{LiveTable}
+use Rattle.ref_answers.specs.Versions.{version_in}
+use Rattle.ref_rules.specs.declared.content.Content.{Content}
+use Rattle.ref_rules.specs.declared.content.Content.TheVariants.{Host, Node, ScratchRoot}
+use Rattle.ref_rules.specs.Lives.{LiveTable}
 use Rattle.ref_answers.specs.Seen.{content_in, live_in}
 use Rattle.ref_host_calls.specs.Places.{stands_for}
 use Rattle.ref_host_calls.specs.declared.offers.Folder.{Folder}

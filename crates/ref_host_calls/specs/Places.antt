@@ -1,6 +1,6 @@
 -- What the handle of a folder stands for. A root's number among the nodes is the place of its tree.
-use Rattle.ref_live.specs.declared.content.Content.{Content}
-use Rattle.ref_live.specs.declared.content.Content.TheVariants.{Host, Node, ScratchRoot}
+use Rattle.ref_rules.specs.declared.content.Content.{Content}
+use Rattle.ref_rules.specs.declared.content.Content.TheVariants.{Host, Node, ScratchRoot}
 use Rattle.ref_host_calls.specs.declared.offers.Folder.{Folder}
 use Rattle.ref_host_calls.specs.declared.offers.Folder.TheVariants.{Theirs, Root, Scratch}
 

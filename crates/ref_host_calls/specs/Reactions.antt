@@ -7,7 +7,7 @@ use Rattle.host_port.specs.Hosts.{HostStep, IsAnswerTo, Reaction}
 use Rattle.reference_step.specs.Listed.{Listed}
 use Rattle.reference_step.specs.State.{Reference}
 use Rattle.reference_step.specs.Steps.{to_host}
-use Rattle.ref_live.specs.Lives.{LiveTable}
+use Rattle.ref_rules.specs.Lives.{LiveTable}
 use Rattle.ref_answers.specs.Seen.{live_in}
 
 -- a state of the reference host with this policy, these live handles and this state of the host that is asked

@@ -4,7 +4,7 @@ use Rattle.wit_types.specs.PlainValue.{PlainValue}
 use Rattle.host_port.specs.Calls.{PlainCall, plain_call}
 use Rattle.reference_step.specs.Atoms.{atoms_of, result_atoms, weight, handles}
 use Rattle.reference_step.specs.Listed.{Listed}
-use Rattle.ref_listed.specs.Versions.{plain_found}
+use Rattle.ref_answers.specs.Versions.{plain_found}
 use Rattle.ref_guards.specs.Noted.{shown_all, parts_of_result}
 use Rattle.ref_host_calls.specs.declared.request.Request.{Request}
 

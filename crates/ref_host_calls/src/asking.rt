@@ -6,9 +6,9 @@ ghost use Rattle.host_port.specs.Hosts.{answer_of, reacts};
 ghost use Rattle.reference_step.specs.State.{Reference};
 ghost use Rattle.reference_step.specs.Steps.{asks, environment_gave, host_gave, to_host};
 ghost use Rattle.ref_answers.specs.Seen.{live_in};
-ghost use Rattle.ref_live.specs.Lives.{count_of_kind};
-ghost use Rattle.ref_entering.specs.RoomEntering.{are_kinds, count_kind};
-ghost use Rattle.ref_entering.specs.Contents.{KeepsContents, Hosts};
+ghost use Rattle.ref_rules.specs.Lives.{count_of_kind};
+ghost use Rattle.ref_guards.specs.RoomEntering.{are_kinds, count_kind};
+ghost use Rattle.ref_guards.specs.Contents.{KeepsContents, Hosts};
 ghost use Rattle.ref_host_calls.specs.Requests.{IsNoted, listed_of, call_of, handles_in};
 ghost use Rattle.ref_host_calls.specs.Reactions.{HostIsTyped, IsReaction, state_at};
 
@@ -17,7 +17,7 @@ use crate::giving::{give, give_variables};
 use crate::numbers::host_ids;
 use crate::request::Request;
 use host_port::{Answer, Host, HostCall, copy_call};
-use ref_live::LiveHandles;
+use ref_rules::LiveHandles;
 use std::alloc::Global;
 use virt_base::NoMemory;
 

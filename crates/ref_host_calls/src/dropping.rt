@@ -4,12 +4,12 @@ ghost use Rattle.reference_step.specs.State.{Reference};
 ghost use Rattle.reference_step.specs.Steps.{dropped, drops, lost};
 ghost use Rattle.reference_step.specs.Handles.{handle_at, is_host};
 ghost use Rattle.ref_answers.specs.Seen.{content_in, live_in};
-ghost use Rattle.ref_entering.specs.Contents.{KeepsContents, Nothing};
+ghost use Rattle.ref_guards.specs.Contents.{KeepsContents, Nothing};
 ghost use Rattle.ref_host_calls.specs.Losses.{IsLoss, listed_at};
 
 use host_port::{Host, Resource};
-use ref_listed::ListedTable;
-use ref_live::{Content, LiveHandles};
+use ref_answers::ListedTable;
+use ref_rules::{Content, LiveHandles};
 use std::alloc::Global;
 use virt_base::NoMemory;
 

@@ -7,19 +7,18 @@ ghost use Rattle.host_port.specs.Calls.{PlainObservation, plain_answer, plain_op
 ghost use Rattle.reference_step.specs.Atoms.{weight};
 ghost use Rattle.reference_step.specs.State.{Reference};
 ghost use Rattle.reference_step.specs.Steps.{host_gave, environment_gave, value_of};
-ghost use Rattle.ref_live.specs.Lives.{count_of_kind};
-ghost use Rattle.ref_entering.specs.RoomEntering.{are_kinds, count_kind};
+ghost use Rattle.ref_rules.specs.Lives.{count_of_kind};
+ghost use Rattle.ref_guards.specs.RoomEntering.{are_kinds, count_kind};
 ghost use Rattle.ref_guards.specs.Noted.{shown_all};
-ghost use Rattle.ref_entering.specs.Contents.{KeepsContents, Hosts};
+ghost use Rattle.ref_guards.specs.Contents.{KeepsContents, Hosts};
 ghost use Rattle.ref_host_calls.specs.Requests.{IsNoted, listed_of, call_of, handles_in};
 ghost use Rattle.ref_host_calls.specs.Reactions.{state_at};
 
 use crate::request::Request;
 use host_port::{Answer, Host};
 use ref_answers::{list, passed_variables};
-use ref_entering::{Standing, enter_value};
-use ref_guards::{Atom, left_behind, left_behind_elements, note_result};
-use ref_live::LiveHandles;
+use ref_guards::{Atom, Standing, enter_value, left_behind, left_behind_elements, note_result};
+use ref_rules::LiveHandles;
 use std::alloc::Global;
 use virt_base::NoMemory;
 use wit_types::Value;

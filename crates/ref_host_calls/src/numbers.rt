@@ -11,7 +11,7 @@ ghost use Rattle.ref_guards.specs.Noted.{shown, shown_all};
 
 use host_port::Host;
 use ref_guards::Atom;
-use ref_live::{Content, LiveHandles};
+use ref_rules::{Content, LiveHandles};
 use std::alloc::Global;
 use virt_base::NoMemory;
 

@@ -2,8 +2,8 @@ ghost use Rattle.std.specs.Prelude.{◌≡◌};
 ghost use Rattle.ref_host_calls.specs.Places.{stands_for};
 
 use policy_data::Policy;
-use ref_listed::ListedTable;
-use ref_live::Content;
+use ref_answers::ListedTable;
+use ref_rules::Content;
 use tree_table::Trees;
 
 /// What a folder is.

@@ -1,7 +1,7 @@
 use host_port::HostCall;
 use policy_data::Policy;
+use ref_answers::Found;
 use ref_guards::Atom;
-use ref_listed::Found;
 
 /// A call of a listed function under a policy: the texts, lists and handles of its arguments, and how many bytes it may weigh beside
 /// them.

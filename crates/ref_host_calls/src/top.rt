@@ -7,7 +7,7 @@ ghost use Rattle.reference_step.specs.Steps.{asks, folders_gave, own_offers};
 ghost use Rattle.reference_step.specs.Steps as reference;
 ghost use Rattle.ref_host_calls.specs.Requests.{IsNoted, listed_of, call_of};
 ghost use Rattle.ref_host_calls.specs.Reactions.{HostIsTyped, IsReaction};
-ghost use Rattle.ref_entering.specs.Contents.{KeepsContents};
+ghost use Rattle.ref_guards.specs.Contents.{KeepsContents};
 ghost use Rattle.ref_host_calls.specs.Offers.{HoldsOfFolders, folders_at};
 
 use crate::offering::{given_count, offer_all};
@@ -17,7 +17,7 @@ use crate::theirs::note_theirs;
 use crate::{Request, ask, is_light_list, value_of};
 use host_port::{Answer, Host};
 use ref_guards::note_result;
-use ref_live::LiveHandles;
+use ref_rules::LiveHandles;
 use std::alloc::Global;
 use virt_base::NoMemory;
 use wit_types::Value;

@@ -13,7 +13,7 @@ ghost use Rattle.ref_answers.specs.Shown.{shown};
 
 use crate::folder::Folder;
 use ref_answers::{Row, entry_value, moves, none, ok, returns, some};
-use ref_live::Content;
+use ref_rules::Content;
 use std::alloc::Global;
 use virt_base::{NoMemory, Text};
 

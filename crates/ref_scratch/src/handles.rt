@@ -10,7 +10,7 @@ ghost use Rattle.reference_step.specs.State.{View};
 ghost use Rattle.ref_answers.specs.Shown.{shown};
 
 use ref_answers::{Row, fails, gives_ok, label, ok, returns};
-use ref_live::Content;
+use ref_rules::Content;
 use std::alloc::Global;
 use virt_base::NoMemory;
 use wit_types::Value;

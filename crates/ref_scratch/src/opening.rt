@@ -16,7 +16,7 @@ use crate::finding::{Found, lead_in};
 use crate::folder::Folder;
 use crate::naming::{NewName, new_name};
 use ref_answers::{Row, fails, gives_ok, has_flag};
-use ref_live::Content;
+use ref_rules::Content;
 use std::alloc::Global;
 use virt_base::NoMemory;
 

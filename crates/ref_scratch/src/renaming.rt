@@ -7,14 +7,14 @@ ghost use Rattle.tree_table.specs.Scratches.{file_at};
 ghost use Rattle.reference_step.specs.Descriptors as descriptor;
 ghost use Rattle.reference_step.specs.Nodes.{lead_in, new_name};
 ghost use Rattle.reference_step.specs.State.{View};
-ghost use Rattle.ref_live.specs.Lives.{is_open};
+ghost use Rattle.ref_rules.specs.Lives.{is_open};
 ghost use Rattle.ref_scratch.specs.Told.{told, settled};
 
 use crate::finding::{Found, lead_in};
 use crate::folder::Folder;
 use crate::naming::{NewName, new_name};
 use ref_answers::{Row, done, fails, returns};
-use ref_live::LiveHandles;
+use ref_rules::LiveHandles;
 use std::alloc::Global;
 use virt_base::NoMemory;
 

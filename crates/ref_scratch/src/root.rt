@@ -10,14 +10,14 @@ ghost use Rattle.reference_step.specs.Codes.{busy};
 ghost use Rattle.reference_step.specs.Values.{done};
 ghost use Rattle.reference_step.specs.State.{View, fails, stores};
 ghost use Rattle.ref_answers.specs.Shown.{shown};
-ghost use Rattle.ref_live.specs.Lives.{is_open};
+ghost use Rattle.ref_rules.specs.Lives.{is_open};
 ghost use Rattle.ref_scratch.specs.Told.{told, settled};
 
 use crate::finding::{Found, lead_in};
 use crate::folder::Folder;
 use crate::rows::{hash_file_row, hash_root_row, stat_file_row, stat_root_row};
 use ref_answers::{Row, done, fails, returns};
-use ref_live::LiveHandles;
+use ref_rules::LiveHandles;
 use std::alloc::Global;
 use virt_base::NoMemory;
 

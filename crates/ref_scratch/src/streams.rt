@@ -13,7 +13,7 @@ ghost use Rattle.ref_scratch.specs.Told.{told, settled};
 
 use crate::folder::Folder;
 use ref_answers::{Row, bytes, closed, done, moves, number, ok, returns};
-use ref_live::Content;
+use ref_rules::Content;
 use std::alloc::Global;
 use virt_base::NoMemory;
 

@@ -4,8 +4,8 @@ use Rattle.tree_table.specs.Tables.{Forest}
 use Rattle.reference_step.specs.Descriptors as descriptor
 use Rattle.reference_step.specs.Descriptors.{with_root, with_file, same_file, link_pair, rename_pair}
 use Rattle.reference_step.specs.State.{View}
-use Rattle.ref_live.specs.declared.content.Content.{Content}
-use Rattle.ref_live.specs.declared.content.Content.TheVariants.{Host, Node, FileAt, EmptyIn, Discard, Always, Entries, ScratchRoot, ScratchEntries, ScratchFile, ScratchIn, ScratchOut}
+use Rattle.ref_rules.specs.declared.content.Content.{Content}
+use Rattle.ref_rules.specs.declared.content.Content.TheVariants.{Host, Node, FileAt, EmptyIn, Discard, Always, Entries, ScratchRoot, ScratchEntries, ScratchFile, ScratchIn, ScratchOut}
 use Rattle.ref_answers.specs.Seen.{content_in}
 use Rattle.ref_virtual.specs.declared.beside.Beside.{Beside}
 use Rattle.ref_virtual.specs.declared.beside.Beside.TheVariants.{Root, File, Elsewhere}

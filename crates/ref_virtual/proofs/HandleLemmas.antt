@@ -4,9 +4,9 @@ use Rattle.std.specs.Option.{option_map_or}
 use Rattle.tree_table.specs.Tables.{Forest}
 use Rattle.reference_step.specs.Handles as reference
 use Rattle.reference_step.specs.State.{View}
-use Rattle.ref_live.specs.declared.content.Content.{Content}
-use Rattle.ref_live.specs.declared.content.Content.TheVariants.{Always}
-use Rattle.ref_live.specs.declared.content.Handle.{Handle}
+use Rattle.ref_rules.specs.declared.content.Content.{Content}
+use Rattle.ref_rules.specs.declared.content.Content.TheVariants.{Always}
+use Rattle.ref_rules.specs.declared.content.Handle.{Handle}
 use Rattle.ref_answers.specs.Seen.{content_in, handle_in, live_in}
 use Rattle.ref_answers.proofs.SeenLaws.{seen_handle_at}
 use Rattle.ref_virtual.specs.Held.{content_held}

@@ -10,8 +10,8 @@ use Rattle.reference_step.specs.State.{View, Row as PlainRow}
 use Rattle.ref_answers.specs.declared.row.Row.{Row}
 use Rattle.ref_answers.specs.declared.row.Row.TheVariants.{Traps, Does}
 use Rattle.ref_answers.specs.Shown.{shown}
-use Rattle.ref_files.specs.Inside.{row_inside}
-use Rattle.ref_files.proofs.InsideLemmas.{becomes_in, effect_fixed, makes_in, row_fixed}
+use Rattle.ref_virtual.specs.Inside.{row_inside}
+use Rattle.ref_virtual.proofs.FilesInsideLemmas.{becomes_in, effect_fixed, makes_in, row_fixed}
 use Rattle.ref_virtual.specs.declared.methods.Method.{Method}
 use Rattle.ref_virtual.specs.declared.stream_methods.InputMethod.{InputMethod}
 use Rattle.ref_virtual.specs.declared.stream_methods.OutputMethod.{OutputMethod}

@@ -1,3 +1,12 @@
+mod PickLemmas
+pub mod TreeLaws
+mod FilesNodeLemmas
+mod SeenLemmas
+mod LedLemmas
+mod RangeLemmas
+mod SameLemmas
+mod ReadLemmas
+pub mod FilesInsideLemmas
 pub mod HandleLemmas
 mod NameLemmas
 pub mod MethodsOtherLemmas

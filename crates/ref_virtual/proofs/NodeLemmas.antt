@@ -6,11 +6,11 @@ use Rattle.tree_table.specs.Tables.{Forest}
 use Rattle.reference_step.specs.Descriptors as descriptor
 use Rattle.reference_step.specs.Descriptors.{with_node, same_node, link_pair, rename_pair, are_same}
 use Rattle.reference_step.specs.State.{View, fails}
-use Rattle.ref_live.specs.declared.content.Content.{Content}
-use Rattle.ref_live.specs.declared.content.Content.TheVariants.{Host, Node, FileAt, EmptyIn, Discard, Always, Entries, ScratchRoot, ScratchEntries, ScratchFile, ScratchIn, ScratchOut}
+use Rattle.ref_rules.specs.declared.content.Content.{Content}
+use Rattle.ref_rules.specs.declared.content.Content.TheVariants.{Host, Node, FileAt, EmptyIn, Discard, Always, Entries, ScratchRoot, ScratchEntries, ScratchFile, ScratchIn, ScratchOut}
 use Rattle.ref_answers.specs.Seen.{content_in}
-use Rattle.ref_files.specs.Views.{node_in}
-use Rattle.ref_files.specs.Inside.{node_inside}
+use Rattle.ref_virtual.specs.Views.{node_in}
+use Rattle.ref_virtual.specs.Inside.{node_inside}
 use Rattle.ref_virtual.specs.Others.{node_of, crossing, same_as}
 
 -- the node of a content is one of so many, where that of the content is

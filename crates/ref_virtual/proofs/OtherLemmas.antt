@@ -4,7 +4,7 @@ use Rattle.tree_table.specs.Scratches.{ScratchMap}
 use Rattle.tree_table.specs.Tables.{Forest}
 use Rattle.reference_step.specs.Handles.{Content}
 use Rattle.reference_step.specs.State.{View}
-use Rattle.ref_files.specs.Views.{HoldsTrees}
+use Rattle.ref_virtual.specs.Views.{HoldsTrees}
 use Rattle.ref_virtual.specs.declared.methods.Method.{Method}
 use Rattle.ref_virtual.specs.declared.methods.Method.TheVariants.{Looks, Changes, Pairs, Syncs, ReadDirectoryEntry}
 use Rattle.ref_virtual.specs.Others.{is_no_descriptor, is_no_listing, is_other}

@@ -9,9 +9,9 @@ use Rattle.reference_step.specs.Values.{nth, items}
 use Rattle.ref_answers.specs.declared.row.Row.{Row}
 use Rattle.ref_answers.specs.Seen.{live_in}
 use Rattle.ref_answers.specs.Shown.{shown}
-use Rattle.ref_files.specs.Inside.{row_inside}
-use Rattle.ref_files.proofs.InsideLemmas.{becomes_in, makes_in, row_plain}
-use Rattle.ref_live.specs.declared.content.Handle.{Handle}
+use Rattle.ref_virtual.specs.Inside.{row_inside}
+use Rattle.ref_virtual.proofs.FilesInsideLemmas.{becomes_in, makes_in, row_plain}
+use Rattle.ref_rules.specs.declared.content.Handle.{Handle}
 
 pub each_count : (vs : List Value) → length (items (values_of vs)) ≡ length vs
 each_count [] = refl

@@ -1,8 +1,8 @@
 -- What stands beside a descriptor of the scratch folder.
 use Rattle.std.specs.Prelude.{ℕ, ◌==◌, Bool, true, false}
 use Rattle.reference_step.specs.Descriptors.{Pair, BothRoots, WithFile, Mixed}
-use Rattle.ref_live.specs.declared.content.Content.{Content}
-use Rattle.ref_live.specs.declared.content.Content.TheVariants.{ScratchRoot, ScratchFile}
+use Rattle.ref_rules.specs.declared.content.Content.{Content}
+use Rattle.ref_rules.specs.declared.content.Content.TheVariants.{ScratchRoot, ScratchFile}
 use Rattle.ref_virtual.specs.declared.beside.Beside.{Beside}
 use Rattle.ref_virtual.specs.declared.beside.Beside.TheVariants.{Root, File, Elsewhere}
 

@@ -3,10 +3,10 @@ use Rattle.std.specs.Prelude.{◌≡◌, ℕ, ◌<◌, ◌^◌, true, List, slic
 use Rattle.std.specs.Option.{option_map_or}
 use Rattle.wit_types.specs.PlainValue.{PlainValues}
 use Rattle.reference_step.specs.Values.{nth, number_in}
-use Rattle.ref_live.specs.declared.content.Content.{Content}
-use Rattle.ref_live.specs.declared.content.Content.TheVariants.{Always}
-use Rattle.ref_live.specs.declared.content.Handle.{Handle}
-use Rattle.ref_files.specs.Inside.{node_inside}
+use Rattle.ref_rules.specs.declared.content.Content.{Content}
+use Rattle.ref_rules.specs.declared.content.Content.TheVariants.{Always}
+use Rattle.ref_rules.specs.declared.content.Handle.{Handle}
+use Rattle.ref_virtual.specs.Inside.{node_inside}
 
 -- of a number that is not live, a pollable that is ready
 abbrev pub content_held : List (Option Handle) → ℕ → Content

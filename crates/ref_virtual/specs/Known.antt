@@ -3,9 +3,9 @@ use Rattle.std.specs.Prelude.{ℕ, ◌<◌, All, List, Option, IfSome, IsSome}
 use Rattle.wit_types.specs.PlainValue.{PlainValues}
 use Rattle.tree_table.specs.Scratches.{ScratchMap, file_at}
 use Rattle.reference_step.specs.Values.{nth, numbers_in}
-use Rattle.ref_live.specs.Contents.{open_file}
-use Rattle.ref_live.specs.declared.content.Content.{Content}
-use Rattle.ref_live.specs.declared.content.Handle.{Handle}
+use Rattle.ref_rules.specs.Contents.{open_file}
+use Rattle.ref_rules.specs.declared.content.Content.{Content}
+use Rattle.ref_rules.specs.declared.content.Handle.{Handle}
 use Rattle.ref_virtual.specs.Held.{content_held}
 
 -- the scratch file that a content holds open, if it holds one, is there

@@ -1,3 +1,6 @@
+pub mod Agreeing
+pub mod Views
+pub mod Inside
 pub mod Methods
 pub mod Others
 pub mod Held

@@ -4,9 +4,9 @@ use Rattle.tree_table.specs.Tables.{Forest}
 use Rattle.reference_step.specs.Codes as code
 use Rattle.reference_step.specs.Descriptors.{are_same}
 use Rattle.reference_step.specs.Handles.{Content, Node, FileAt, ScratchRoot, ScratchFile, ScratchEntries, Entries, ScratchIn, ScratchOut}
-use Rattle.ref_live.specs.declared.content.Content.{Content as LiveContent}
-use Rattle.ref_live.specs.declared.content.Content.TheVariants.{Node as Node'}
-use Rattle.ref_files.specs.Views.{node_in}
+use Rattle.ref_rules.specs.declared.content.Content.{Content as LiveContent}
+use Rattle.ref_rules.specs.declared.content.Content.TheVariants.{Node as Node'}
+use Rattle.ref_virtual.specs.Views.{node_in}
 use Rattle.ref_virtual.specs.declared.methods.Method.{Method}
 use Rattle.ref_virtual.specs.declared.methods.Method.TheVariants.{Looks, Changes, Pairs, Syncs, ReadDirectoryEntry}
 

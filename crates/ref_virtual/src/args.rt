@@ -7,8 +7,7 @@ ghost use Rattle.reference_step.specs.Values.{nth, number_in, text_in, bits_in, 
 ghost use Rattle.ref_rules.specs.Parts.{shown};
 ghost use Rattle.ref_virtual.specs.Held.{content_held};
 
-use ref_live::{Content, LiveHandles};
-use ref_rules::{Part, bits_of, id_of, number_of, part_at, text_of};
+use ref_rules::{Content, LiveHandles, Part, bits_of, id_of, number_of, part_at, text_of};
 use wit_types::{Value, Values};
 
 /// The number at a place; 0 where another value stands.

@@ -2,7 +2,7 @@
 ghost use Rattle.std.specs.Prelude.{◌≡◌};
 ghost use Rattle.ref_virtual.specs.Besides.{beside_of, is_root, is_file};
 
-use ref_live::Content;
+use ref_rules::Content;
 
 /// The other one of two descriptors.
 #[derive(Debug, Clone, Copy, PartialEq, Eq)]

@@ -10,7 +10,7 @@ ghost use Rattle.reference_step.specs.Handles.{content_of, ScratchFile};
 ghost use Rattle.reference_step.specs.State.{View};
 ghost use Rattle.ref_answers.specs.Seen.{live_in};
 ghost use Rattle.ref_answers.specs.Shown.{shown};
-ghost use Rattle.ref_files.specs.Inside.{row_inside};
+ghost use Rattle.ref_virtual.specs.Inside.{row_inside};
 ghost use Rattle.ref_virtual.specs.Held.{AreWords};
 ghost use Rattle.ref_virtual.specs.Methods.{look_row, change_row, pair_row, method_row};
 ghost use Rattle.ref_scratch.specs.Told.{told, settled};
@@ -21,7 +21,7 @@ use crate::beside::{Beside, beside_of, is_file};
 use crate::bytes::written_bytes;
 use crate::{Change, Look, Method, Pair, content_at, number_at};
 use ref_answers::{Row, done, fails, none, ok, returns};
-use ref_live::LiveHandles;
+use ref_rules::LiveHandles;
 use ref_scratch::{
     Folder, append_row, file_flags_row, file_type_row, hash_file_row, input_row, output_row,
     read_row, set_size_row, stat_file_row, write_row,

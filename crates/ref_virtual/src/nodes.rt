@@ -9,20 +9,20 @@ ghost use Rattle.reference_step.specs.Handles.{content_of};
 ghost use Rattle.reference_step.specs.State.{View, fails};
 ghost use Rattle.ref_answers.specs.Seen.{content_in, live_in};
 ghost use Rattle.ref_answers.specs.Shown.{shown};
-ghost use Rattle.ref_files.specs.Inside.{row_inside};
-ghost use Rattle.ref_files.specs.Views.{AreTexts, HoldsTrees, node_in};
+ghost use Rattle.ref_virtual.specs.Inside.{row_inside};
+ghost use Rattle.ref_virtual.specs.Views.{AreTexts, HoldsTrees, node_in};
 ghost use Rattle.ref_virtual.specs.Held.{AreInside, AreWords};
 ghost use Rattle.ref_virtual.specs.Methods.{look_row, pair_row, method_row};
 ghost use Rattle.ref_virtual.specs.Others.{node_of, crossing, same_as};
 
 use crate::args::{bytes_at, content_at, flags_at, number_at};
 use crate::methods::{Look, Method, Pair};
-use ref_answers::{Row, done, fails, none, ok, returns};
-use ref_files::{
+use crate::{
     are_same_nodes, hash_at_row, hash_row, open_row, read_directory_row, read_row, readlink_row,
     stat_at_row, stat_row, stream_row, type_row,
 };
-use ref_live::{Content, LiveHandles};
+use ref_answers::{Row, done, fails, none, ok, returns};
+use ref_rules::{Content, LiveHandles};
 use std::alloc::Global;
 use tree_table::Table;
 use virt_base::NoMemory;

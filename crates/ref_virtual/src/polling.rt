@@ -12,13 +12,12 @@ ghost use Rattle.reference_step.specs.Values.{id_in, items, list_in};
 ghost use Rattle.ref_answers.specs.Found.{found};
 ghost use Rattle.ref_answers.specs.Seen.{live_in};
 ghost use Rattle.ref_answers.specs.Shown.{shown};
-ghost use Rattle.ref_files.specs.Inside.{row_inside};
+ghost use Rattle.ref_virtual.specs.Inside.{row_inside};
 ghost use Rattle.ref_rules.specs.Parts as parts;
 
 use ref_answers::{Row, block, poll, ready};
 use ref_guards::is_host;
-use ref_live::LiveHandles;
-use ref_rules::{Part, id_of, part_at};
+use ref_rules::{LiveHandles, Part, id_of, part_at};
 use std::alloc::Global;
 use virt_base::NoMemory;
 use wit_types::{Value, Values};

@@ -10,8 +10,8 @@ ghost use Rattle.reference_step.specs.Rows.{text};
 ghost use Rattle.reference_step.specs.State.{View};
 ghost use Rattle.ref_answers.specs.Seen.{live_in};
 ghost use Rattle.ref_answers.specs.Shown.{shown};
-ghost use Rattle.ref_files.specs.Inside.{row_inside};
-ghost use Rattle.ref_live.specs.Lives.{is_open};
+ghost use Rattle.ref_virtual.specs.Inside.{row_inside};
+ghost use Rattle.ref_rules.specs.Lives.{is_open};
 ghost use Rattle.ref_virtual.specs.Methods.{look_row, change_row, pair_row, method_row};
 ghost use Rattle.ref_scratch.specs.Told.{told, settled};
 ghost use Rattle.ref_virtual.specs.Besides.{root_pair};
@@ -19,7 +19,7 @@ ghost use Rattle.ref_virtual.specs.Besides.{root_pair};
 use crate::beside::{Beside, beside_of, is_root};
 use crate::{Change, Look, Method, Pair, content_at, flags_at, text_at};
 use ref_answers::{Row, done, fails, none, ok, returns};
-use ref_live::LiveHandles;
+use ref_rules::LiveHandles;
 use ref_scratch::{
     Folder, hash_at_row, hash_root_row, open_row, read_directory_row, readlink_at_row,
     remove_directory_row, rename_row, root_flags_row, root_type_row, set_times_at_row, stat_at_row,

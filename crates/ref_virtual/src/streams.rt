@@ -9,8 +9,8 @@ ghost use Rattle.reference_step.specs.State.{View};
 ghost use Rattle.ref_answers.specs.Found.{found};
 ghost use Rattle.ref_answers.specs.Seen.{content_in, live_in};
 ghost use Rattle.ref_answers.specs.Shown.{shown};
-ghost use Rattle.ref_files.specs.Inside.{node_inside, row_inside};
-ghost use Rattle.ref_files.specs.Views.{HoldsTrees};
+ghost use Rattle.ref_virtual.specs.Inside.{node_inside, row_inside};
+ghost use Rattle.ref_virtual.specs.Views.{HoldsTrees};
 ghost use Rattle.ref_virtual.specs.Held.{AreInside, AreWords};
 ghost use Rattle.ref_virtual.specs.Methods.{input_row, output_row, stream_row};
 ghost use Rattle.ref_scratch.specs.Told.{told, settled};
@@ -23,7 +23,7 @@ use crate::{
     file_input_row, number_at, stream_method_named,
 };
 use ref_answers::{Row, gives};
-use ref_live::{Content, LiveHandles};
+use ref_rules::{Content, LiveHandles};
 use ref_scratch::{Folder, read_stream_row, skip_stream_row, write_stream_row, write_zeroes_row};
 use std::alloc::Global;
 use tree_table::Table;

@@ -9,8 +9,8 @@ use Rattle.reference_step.specs.Steps as reference
 use Rattle.reference_step.specs.Steps.{reference_step}
 use Rattle.ref_host_calls.specs.Losses.{IsLoss}
 use Rattle.ref_host_calls.specs.Reactions.{IsReaction}
-use Rattle.ref_state.specs.declared.state.State.{State}
-use Rattle.ref_state.specs.States.{reference_of}
+use Rattle.reference_host.specs.declared.state.State.{State}
+use Rattle.reference_host.specs.States.{reference_of}
 
 pub ok_map : {A E : Type 0} (r : Result A E) (P Q : A → Type 0) → ((x : A) → P x → Q x) → IfOk r P → IfOk r Q
 ok_map (Ok x) P Q go p = go x p

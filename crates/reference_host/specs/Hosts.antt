@@ -5,9 +5,9 @@ use Rattle.tree_table.specs.declared.entries.NamedTree.{NamedTree}
 use Rattle.wasi_match.specs.declared.listed.ListedUse.{ListedUse}
 use Rattle.host_port.specs.Hosts.{Kept}
 use Rattle.reference_step.specs.State.{Reference, Setup}
-use Rattle.ref_listed.specs.Versions.{version_in}
-use Rattle.ref_state.specs.declared.state.State.{State}
-use Rattle.ref_state.specs.States.{reference_of}
+use Rattle.ref_answers.specs.Versions.{version_in}
+use Rattle.reference_host.specs.declared.state.State.{State}
+use Rattle.reference_host.specs.States.{reference_of}
 use Rattle.reference_host.specs.Versions.{versions_of}
 
 -- the reference host's own state, the host that is asked, and whether memory was wanting

@@ -1,2 +1,13 @@
+pub mod Keeping
+pub mod BytesTyped
+pub mod Sound
+pub mod Typed
+pub mod Words
+pub mod Views
 pub mod Versions
 pub mod Hosts
+pub mod Kept
+pub mod States
+pub mod Asked
+pub mod Made
+pub mod Reaching

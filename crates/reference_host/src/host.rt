@@ -3,13 +3,13 @@ ghost use Rattle.policy_data.specs.Limits.{KeepsLimits};
 ghost use Rattle.tree_table.specs.Trees.{AreTrees};
 ghost use Rattle.reference_step.specs.State.{Reference, opening};
 ghost use Rattle.reference_step.specs.Steps.{reference_step};
-ghost use Rattle.ref_state.specs.Kept.{LeadToTexts};
+ghost use Rattle.reference_host.specs.Kept.{LeadToTexts};
 ghost use Rattle.reference_host.specs.Hosts.{kept_by, setup_for};
 
 use crate::versions::versions_of;
+use crate::{State, answer_call, drop_handle};
 use host_port::{Answer, Host, HostCall, Observations, Resource};
 use policy_data::Policy;
-use ref_state::{State, answer_call, drop_handle};
 use std::alloc::Global;
 use std::marker::Model;
 use tree_table::Trees;
@@ -28,7 +28,7 @@ pub struct Referenced<H> {
 
 impl<H> Model for Referenced<H> {
     ghost use Rattle.std.specs.Prelude.{◌≡◌, false};
-    ghost use Rattle.ref_state.specs.States.{IsState};
+    ghost use Rattle.reference_host.specs.States.{IsState};
     ghost use Rattle.reference_host.specs.Hosts.{Hosting};
 
     ghost Value = { Hosting H };

@@ -5,9 +5,9 @@ use Rattle.std.specs.Str.{bytes_eq}
 use Rattle.wit_types.specs.Plain.{Name}
 use Rattle.wasi_table.specs.Types.{kind_of}
 use Rattle.wasi_table.specs.Plain.{PlainInterface, PlainNamedFunc}
-use Rattle.wasi_io.specs.Listed.{numbered as numbered_io, described as described_io}
-use Rattle.wasi_fs.specs.Listed.{numbered as numbered_fs, described as described_fs}
-use Rattle.wasi_net.specs.Listed.{numbered as numbered_net, described as described_net}
+use Rattle.wasi_listed.specs.IoListed.{numbered as numbered_io, described as described_io}
+use Rattle.wasi_listed.specs.FsListed.{numbered as numbered_fs, described as described_fs}
+use Rattle.wasi_listed.specs.NetListed.{numbered as numbered_net, described as described_net}
 use Rattle.host_port.specs.declared.call.Resource.{Resource}
 
 -- ---- interfaces by number

@@ -10,7 +10,7 @@ use Rattle.comp_types.specs.Items.{Signature}
 use Rattle.comp_read.specs.Answers.{IsTheComponent, Answers as ReadAnswers}
 use Rattle.comp_read.specs.declared.reading.CompReadFault.TheVariants as read_faults
 use Rattle.comp_types.specs.Added.{type_of}
-use Rattle.code_sizes.specs.Sizes.{tree_code, capped}
+use Rattle.run_judge.specs.Sizes.{tree_code, capped}
 use Rattle.run_judge.specs.declared.refusal.RunRefusal.{RunRefusal}
 use Rattle.run_judge.specs.declared.refusal.RunRefusal.TheVariants.{Refused, OverLimit, BadScript, NoMemory}
 use Rattle.run_judge.specs.declared.component.Judged.{Judged}

@@ -1,3 +1,4 @@
+pub mod Counting
 pub mod Gathering
 pub mod Applications
 pub mod Judging

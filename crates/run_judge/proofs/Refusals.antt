@@ -11,7 +11,7 @@ use Rattle.comp_types.specs.Items.{Signature}
 use Rattle.comp_types.specs.Added.{type_of}
 use Rattle.comp_types.specs.Validity.{BreaksComponent, IsValidComponent}
 use Rattle.comp_types.proofs.VerdictLaws.{fault_is_one, valid_breaks_nothing}
-use Rattle.code_sizes.specs.Sizes.{tree_code, capped}
+use Rattle.run_judge.specs.Sizes.{tree_code, capped}
 use Rattle.wasi_match.specs.declared.fault.Cause.TheVariants as causes
 use Rattle.wasi_match.specs.Verdicts.{Verdict, Accepted, Refused as RefusedFor, IsVerdict}
 use Rattle.wasi_match.proofs.VerdictLaws.{one_verdict}

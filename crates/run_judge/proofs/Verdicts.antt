@@ -9,7 +9,7 @@ use Rattle.comp_types.specs.Added.{type_of}
 use Rattle.comp_types.specs.Items.{Signature}
 use Rattle.comp_types.specs.Validity.{BreaksComponent}
 use Rattle.comp_types.proofs.VerdictLaws.{valid_breaks_nothing}
-use Rattle.code_sizes.specs.Sizes.{tree_code}
+use Rattle.run_judge.specs.Sizes.{tree_code}
 use Rattle.wasi_match.specs.declared.listed.ListedUse.{ListedUse}
 use Rattle.wasi_match.specs.declared.fault.Cause.{Cause}
 use Rattle.wasi_match.specs.declared.fault.Cause.TheVariants as causes

@@ -12,7 +12,7 @@ use Rattle.comp_types.specs.Added.{type_of}
 use Rattle.comp_types.specs.Validity.{IsValidComponent, BreaksComponent}
 use Rattle.comp_signature.specs.declared.ComponentType.{ComponentType}
 use Rattle.comp_signature.specs.Signatures.{component_signature}
-use Rattle.code_sizes.specs.Sizes.{tree_code, capped}
+use Rattle.run_judge.specs.Sizes.{tree_code, capped}
 use Rattle.run_judge.specs.declared.refusal.RunRefusal.{RunRefusal}
 use Rattle.run_judge.specs.declared.refusal.RunRefusal.TheVariants.{Refused, OverLimit, BadScript, NoMemory}
 use Rattle.run_judge.specs.declared.component.Judged.{Judged}

@@ -1,3 +1,4 @@
+pub mod Sizes
 pub mod Callable
 pub mod Applications
 pub mod Components

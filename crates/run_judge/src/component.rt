@@ -4,10 +4,10 @@ ghost use Rattle.comp_grammar.specs.Trees.{plain};
 ghost use Rattle.run_judge.specs.Components.{Reads, HasFewCode, Validates, Judges, JudgesSound};
 ghost use Rattle.run_judge.specs.Types.{Fits};
 
+use crate::code_bytes;
 use crate::limits::{too_nested, within};
 use crate::refusal::RunRefusal;
 use crate::types::test_type;
-use code_sizes::code_bytes;
 use comp_read::{CompReadFault, read_component};
 use comp_signature::ComponentType;
 use comp_validate::{CompFault, validate};

@@ -13,7 +13,7 @@ use Rattle.table_bytes.specs.declared.entry.Entry.{Entry}
 use Rattle.table_bytes.specs.declared.entry.Entry.TheVariants.{Host, Node, FileAt, EmptyIn, Discard, Always, Entries, ScratchRoot, ScratchEntries, ScratchFile, ScratchIn, ScratchOut}
 use Rattle.table_bytes.specs.Entries.{tag_of, word_of, long_of, IsShort}
 use Rattle.table_bytes.specs.Table.{upto, link_of, spot, place_of, place_at, places_of, first_of, table_len, IsTable, Changed}
-use Rattle.table_bytes.proofs.Places.{length-places, slice_get-places, place_words, places-put, places-kept, upto_some, link-suc, chain_small, free_word, used_place}
+use Rattle.table_bytes.proofs.PlaceLaws.{length-places, slice_get-places, place_words, places-put, places-kept, upto_some, link-suc, chain_small, free_word, used_place}
 
 -- the bytes of an entry stand for it
 pub entry_same : (capacity at : ℕ) (e : Entry) → place_of capacity at (tag_of e) (word_of e) (long_of e) ≡ Used e

@@ -14,7 +14,7 @@ use Rattle.adapter_code.proofs.Enough.{enough_runs}
 use Rattle.table_bytes.specs.declared.entry.Entry.{Entry}
 use Rattle.table_bytes.specs.Table.{spot, places_of, IsTable}
 use Rattle.table_bytes.specs.Routines.{free_code, locals_of, state_of, FreeEnds}
-use Rattle.table_bytes.proofs.Places.{used_place}
+use Rattle.table_bytes.proofs.PlaceLaws.{used_place}
 use Rattle.table_bytes.proofs.Bytes.{IsOldHead, free-bytes}
 
 -- the three stores

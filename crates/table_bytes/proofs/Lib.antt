@@ -1,4 +1,7 @@
-pub mod Places
+pub mod Fine
+pub mod Own
+pub mod Placing
+pub mod PlaceLaws
 pub mod Bytes
 pub mod Takes
 pub mod Frees

@@ -17,7 +17,7 @@ use Rattle.table_bytes.specs.declared.entry.Entry.{Entry}
 use Rattle.table_bytes.specs.Entries.{tag_of, word_of, long_of, IsShort}
 use Rattle.table_bytes.specs.Table.{upto, spot, places_of, first_of, IsTable}
 use Rattle.table_bytes.specs.Routines.{take_code, found_code, locals_of, state_of, TakeEnds}
-use Rattle.table_bytes.proofs.Places.{length-places, upto_some, upto_none, link-zero, link-suc, chain_small}
+use Rattle.table_bytes.proofs.PlaceLaws.{length-places, upto_some, upto_none, link-zero, link-suc, chain_small}
 use Rattle.table_bytes.proofs.Bytes.{IsNext, first-place, head_small, take-bytes}
 
 pub lt_flag : (a b : ℕ) → from_bool (nat_lt a b) ≢ 0 → a < b

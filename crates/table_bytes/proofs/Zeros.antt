@@ -12,7 +12,7 @@ use Rattle.adapter_code.specs.Number.{word}
 use Rattle.adapter_code.proofs.Words.{word_suc, word_none}
 use Rattle.table_bytes.specs.declared.entry.Entry.{Entry}
 use Rattle.table_bytes.specs.Table.{upto, link_of, spot, places_of, first_of, table_len, IsTable}
-use Rattle.table_bytes.proofs.Places.{length-places, slice_get-places, place_words, upto_some, upto_none}
+use Rattle.table_bytes.proofs.PlaceLaws.{length-places, slice_get-places, place_words, upto_some, upto_none}
 
 word_zero : (width : ℕ) (m : List ℕ) (at : ℕ) → ((k : ℕ) → at ≤ k → k < at + width → get_or m k 0 ≡ 0) → word m at width ≡ 0
 word_zero zero m at z = word_none m at

@@ -6,8 +6,8 @@ ghost use Rattle.adapter_code.specs.Code.{Stop, Then, code_of};
 ghost use Rattle.adapter_code.specs.Placed.{placed};
 ghost use Rattle.table_bytes.specs.Routines.{own_places, to_spot, enter_code, take_code, free_code};
 
+use crate::{element, minus, placed_at, plus, unless, when};
 use adapter_code::{Field, Statements, append, constant, less, load, store};
-use routine_forms::{element, minus, placed_at, plus, unless, when};
 use std::alloc::Global;
 use virt_base::NoMemory;
 

@@ -1,3 +1,10 @@
+pub mod OnceLemmas
+pub mod SearchLaws
+pub mod ValueLemmas
+pub mod ItemLemmas
+pub mod SearchLemmas
+pub mod SlotLemmas
+pub mod HasLemmas
 pub mod SameTables
 pub mod EntrySteps
 pub mod MakingSteps

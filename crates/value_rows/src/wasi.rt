@@ -8,13 +8,13 @@ use wasi_table::{Interface, KINDS};
 
 pub fn number_of(name: &str) -> Option<u32> {
     let name = name.as_bytes();
-    if let Some(number) = wasi_io::interface_of(name) {
+    if let Some(number) = wasi_listed::io::interface_of(name) {
         return Some(number);
     }
-    if let Some(number) = wasi_fs::interface_of(name) {
+    if let Some(number) = wasi_listed::fs::interface_of(name) {
         return Some(number);
     }
-    wasi_net::interface_of(name)
+    wasi_listed::net::interface_of(name)
 }
 
 fn described(alloc: Global, number: &str) -> Result<Interface, Fail> {
@@ -152,7 +152,7 @@ fn has_the_parts_of_wit(rt: HostRuntime) -> Result<(), Fail> {
 #[test]
 fn hands_on_what_is_known(rt: HostRuntime) -> Result<(), Fail> {
     let alloc = rt.alloc();
-    let known = wasi_io::known_types(alloc)?;
+    let known = wasi_listed::io::known_types(alloc)?;
     let counts = (INTERFACES, FUNCTIONS, known.len(), KINDS[13]);
     let wanted = "(27, 122, 10, \"outgoing-datagram-stream\")";
     is_printed(alloc, "counts", &counts, wanted)
@@ -161,7 +161,7 @@ fn hands_on_what_is_known(rt: HostRuntime) -> Result<(), Fail> {
 /// The tables say what is written in the notation of WIT, and know each word.
 #[test]
 fn laws() {
-    wasi_io::table_is_wit();
-    wasi_fs::table_is_wit();
-    wasi_net::table_is_wit();
+    wasi_listed::io::table_is_wit();
+    wasi_listed::fs::table_is_wit();
+    wasi_listed::net::table_is_wit();
 }

@@ -5,8 +5,8 @@ use Rattle.host_port.specs.Calls.{PlainObservation, Spent as IsSpent, plain_opti
 use Rattle.host_port.specs.Hosts.{HostStep}
 use Rattle.comp_worlds.specs.Acts.{End, Trapped, ScriptEnded, BadAnswer, TooDeep, end_item, Out, Next, Over, Spent, seen_before}
 use Rattle.comp_worlds.specs.Groups.{World}
-use Rattle.call_frames.specs.declared.end.RunEnd.{RunEnd as CallEnd}
-use Rattle.call_frames.specs.declared.end.RunEnd.TheVariants as calls
+use Rattle.call_moments.specs.declared.end.RunEnd.{RunEnd as CallEnd}
+use Rattle.call_moments.specs.declared.end.RunEnd.TheVariants as calls
 use Rattle.run_judge.specs.declared.ends.RunEnd.{RunEnd}
 use Rattle.run_judge.specs.declared.ends.RunEnd.TheVariants as ends
 use Rattle.call_moments.specs.Configs.{world_of}

@@ -18,8 +18,8 @@ use Rattle.host_port.specs.Hosts.{HostStep, Kept}
 use Rattle.comp_worlds.specs.Groups.{Target, Group, type_of as type_of_target}
 use Rattle.comp_worlds.specs.Observed.{Call, obs_deep}
 use Rattle.comp_link.specs.Linking.{group_of, linked}
-use Rattle.comp_exports.proofs.Made.{exports_linked}
-use Rattle.comp_exports.proofs.Spelled.{spelled_define}
+use Rattle.comp_link.proofs.Made.{exports_linked}
+use Rattle.comp_link.proofs.Spelled.{spelled_define}
 use Rattle.comp_link.specs.declared.linked.Linked.{Linked}
 use Rattle.comp_link.specs.Groups.{linked_group}
 use Rattle.host_script.specs.declared.script.Call.{Call as ScriptCall}

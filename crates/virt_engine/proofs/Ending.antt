@@ -4,8 +4,8 @@ use Rattle.std.specs.Prelude.{All, Option}
 use Rattle.std.proofs.lemmas.List.Elements.{All-push}
 use Rattle.wit_types.specs.Plain.{Plain}
 use Rattle.host_port.specs.Calls.{PlainObservation}
-use Rattle.call_frames.specs.declared.end.RunEnd.{RunEnd as CallEnd}
-use Rattle.call_frames.specs.declared.end.RunEnd.TheVariants as calls
+use Rattle.call_moments.specs.declared.end.RunEnd.{RunEnd as CallEnd}
+use Rattle.call_moments.specs.declared.end.RunEnd.TheVariants as calls
 use Rattle.run_judge.specs.declared.ends.RunEnd.{RunEnd}
 use Rattle.script_lines.specs.Lines.{line_text}
 use Rattle.virt_engine.specs.Lines.{IsLine, Adds, EndsBy, end_by, seen_by}

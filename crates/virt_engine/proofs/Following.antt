@@ -18,8 +18,8 @@ use Rattle.comp_worlds.proofs.Fair.{host_fair}
 use Rattle.comp_frames.specs.Running.{running}
 use Rattle.comp_frames.proofs.Unfolding.{meets_without_fuel}
 use Rattle.comp_link.specs.declared.linked.Linked.{Linked}
-use Rattle.call_frames.specs.declared.end.RunEnd.{RunEnd as CallEnd}
-use Rattle.call_frames.specs.declared.end.RunEnd.TheVariants as calls
+use Rattle.call_moments.specs.declared.end.RunEnd.{RunEnd as CallEnd}
+use Rattle.call_moments.specs.declared.end.RunEnd.TheVariants as calls
 use Rattle.call_moments.specs.Configs.{configs_of, world_of}
 use Rattle.host_script.specs.declared.script.Call.{Call as ScriptCall}
 use Rattle.host_script.specs.Script.{PlainCall, Exports, call_seen}

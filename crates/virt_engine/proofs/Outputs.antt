@@ -5,11 +5,11 @@ use Rattle.comp_types.specs.Items.{Entries, Signature, End, More}
 use Rattle.comp_grammar.specs.Trees.{Part, Tree, CoreModule, Nested, CoreInstances, Instances, Aliases, Types, Canons, Imports, Exports, Custom, End as NoSection, More as Section}
 use Rattle.comp_write.specs.Copying.{bare_part, bare, SpellsBare}
 use Rattle.comp_types.specs.Added.{type_of}
-use Rattle.output_form.specs.Output.{exporting, output_tree}
+use Rattle.virt_output.specs.Output.{exporting, output_tree}
 use Rattle.output_same.specs.Holding.{and_inner, components_in}
 use Rattle.output_same.proofs.Bare.{same_valid, same_type}
 use Rattle.output_same.proofs.Outputs.{output_stands, same_types}
-use Rattle.comp_exports.proofs.Spelled.{spelled_define}
+use Rattle.comp_link.proofs.Spelled.{spelled_define}
 use Rattle.output_same.proofs.Same.{outputs_same}
 use Rattle.virt_output.specs.Bytes.{back_bytes}
 use Rattle.virt_app.specs.Apps.{IsApp}

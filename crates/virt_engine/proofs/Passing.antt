@@ -9,7 +9,7 @@ use Rattle.value_handles.proofs.Laws.{no_handles}
 use Rattle.comp_facts.specs.Handles.{has_handle, has_handle_in, answer_has_handle, func_has_handle}
 use Rattle.comp_types.specs.Substitution.{value_with, parts_with, answer_with}
 use Rattle.comp_worlds.specs.Passing.{answer_parts, params_tuple, answer_tuple}
-use Rattle.comp_exports.specs.Exports.{no_number, nameless, passing}
+use Rattle.comp_link.specs.Exports.{no_number, nameless, passing}
 use Rattle.call_moments.specs.Waiting.{HoldsNone}
 
 -- ---- the same values are of a type, whatever the numbers of its resources are

@@ -3,8 +3,8 @@ use Rattle.std.specs.Prelude.{ℕ, ◌≡◌, List, [], ◌∷◌, ◌++◌, All
 use Rattle.wit_types.specs.Plain.{Plain}
 use Rattle.host_port.specs.Calls as port
 use Rattle.host_port.specs.Calls.{PlainObservation, plain_option}
-use Rattle.call_frames.specs.declared.end.RunEnd.{RunEnd as CallEnd}
-use Rattle.call_frames.specs.declared.end.RunEnd.TheVariants as calls
+use Rattle.call_moments.specs.declared.end.RunEnd.{RunEnd as CallEnd}
+use Rattle.call_moments.specs.declared.end.RunEnd.TheVariants as calls
 use Rattle.run_judge.specs.declared.ends.RunEnd.{RunEnd}
 use Rattle.run_judge.specs.declared.ends.RunEnd.TheVariants.{Done, Trapped, ScriptEnded, StepsSpent, BadAnswer, TooDeep}
 use Rattle.script_lines.specs.Lines.{line_text}

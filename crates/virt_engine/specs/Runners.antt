@@ -5,7 +5,7 @@ use Rattle.host_port.specs.Calls.{PlainObservation}
 use Rattle.host_port.specs.Hosts.{HostStep, Kept}
 use Rattle.comp_worlds.specs.Groups.{Target, Group}
 use Rattle.comp_link.specs.declared.linked.Linked.{Linked}
-use Rattle.call_frames.specs.declared.end.RunEnd.{RunEnd as CallEnd}
+use Rattle.call_moments.specs.declared.end.RunEnd.{RunEnd as CallEnd}
 use Rattle.call_moments.specs.Configs.{world_of}
 use Rattle.host_script.specs.Script.{PlainCall, Exports}
 use Rattle.run_judge.specs.declared.ends.RunEnd.{RunEnd}

@@ -6,7 +6,7 @@ ghost use Rattle.virt_engine.specs.Output.{output_bytes};
 ghost use Rattle.virt_engine.specs.Plan.{Plans, written_by};
 ghost use Rattle.comp_grammar.specs.Trees.{Tree};
 ghost use Rattle.comp_write.specs.Copying.{SpellsBare};
-ghost use Rattle.output_form.specs.Output.{output_tree};
+ghost use Rattle.virt_output.specs.Output.{output_tree};
 
 use crate::app::{App, fetch_app};
 use crate::command::Names;

@@ -14,7 +14,7 @@ use Rattle.virt_output.specs.declared.piece.Piece.TheVariants as pieces
 use Rattle.virt_output.specs.Pieces.{id_of, content_of, ItemsFit, IsPieceOf}
 use Rattle.virt_output.proofs.Adding.{begun}
 use Rattle.virt_output.proofs.PieceLaws.{piece_added, head_added}
-use Rattle.output_form.specs.Output.{one_instance, aliases_of, exports_of, output_tree}
+use Rattle.virt_output.specs.Output.{one_instance, aliases_of, exports_of, output_tree}
 use Rattle.virt_output.specs.Bytes.{front_bytes, section_bytes, alias_content, export_content, exporting_bytes, back_bytes, CanBeSized}
 use Rattle.virt_output.proofs.FitLemmas.{instance_fits}
 

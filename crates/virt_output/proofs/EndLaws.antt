@@ -15,7 +15,7 @@ use Rattle.comp_types.specs.declared.types.InstanceEntry.{InstanceEntry}
 use Rattle.virt_output.specs.Pieces.{Adds}
 use Rattle.virt_output.specs.declared.fault.PieceFault.{PieceFault}
 use Rattle.virt_output.specs.declared.fault.PieceFault.TheVariants.{NoMemory, TooLong}
-use Rattle.output_form.specs.Output.{one_instance, aliases_of, exports_of}
+use Rattle.virt_output.specs.Output.{one_instance, aliases_of, exports_of}
 use Rattle.virt_output.specs.Bytes.{section_bytes, alias_content, export_content, exporting_bytes, AreShort, CanBeNamed, CanBeSized, AreWritable, AddsExports, Ends}
 use Rattle.virt_output.proofs.AroundLaws.{instance_content}
 

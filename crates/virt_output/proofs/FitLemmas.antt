@@ -13,9 +13,9 @@ use Rattle.wasm_ast.specs.declared.component.Alias.{Alias}
 use Rattle.wasm_ast.specs.declared.component.Alias.TheVariants.{Export}
 use Rattle.wasm_ast.specs.declared.component.ComponentExport.{ComponentExport}
 use Rattle.comp_types.specs.Items.{Entries, End, More, names}
-use Rattle.output_form.specs.declared.counts.Counts.{Counts}
-use Rattle.output_form.specs.Counts.{sort_of, count_of, and_one}
-use Rattle.output_form.specs.Output.{one_instance, aliases_of, exports_from, behind_instance, exports_of}
+use Rattle.virt_output.specs.declared.counts.Counts.{Counts}
+use Rattle.virt_output.specs.Counts.{sort_of, count_of, and_one}
+use Rattle.virt_output.specs.Output.{one_instance, aliases_of, exports_from, behind_instance, exports_of}
 use Rattle.comp_types.specs.Views.{item_of, entries_of}
 use Rattle.comp_types.specs.declared.types.InstanceEntry.{InstanceEntry}
 use Rattle.virt_output.specs.Bytes.{AreShort, CanBeNamed}

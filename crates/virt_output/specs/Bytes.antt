@@ -10,7 +10,7 @@ use Rattle.virt_output.specs.Pieces.{head_of_component}
 use Rattle.virt_output.specs.declared.fault.PieceFault.{PieceFault}
 use Rattle.virt_output.specs.declared.fault.PieceFault.TheVariants.{NoMemory, TooLong}
 use Rattle.virt_output.specs.declared.around.Around.{Around}
-use Rattle.output_form.specs.Output.{one_instance, aliases_of, exports_of}
+use Rattle.virt_output.specs.Output.{one_instance, aliases_of, exports_of}
 
 -- before so many bytes of a component
 abbrev pub front_bytes : ℕ → List ℕ

@@ -1,7 +1,7 @@
 ghost use Rattle.std.specs.Prelude.{◌≡◌, ◌≤◌, ◌++◌, ℕ, List, length, IfOk};
 ghost use Rattle.comp_grammar.specs.Trees.{Tree};
 ghost use Rattle.comp_write.specs.Copying.{SpellsBare};
-ghost use Rattle.output_form.specs.Output.{output_tree};
+ghost use Rattle.virt_output.specs.Output.{output_tree};
 ghost use Rattle.virt_output.specs.Bytes.{front_bytes, Surrounds};
 
 use crate::back::back;

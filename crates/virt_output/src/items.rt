@@ -2,11 +2,11 @@ ghost use Rattle.std.specs.Prelude.{◌≡◌, ◌↔◌, IfOk, IsTrue};
 ghost use Rattle.wasm_format.specs.Format.{vec};
 ghost use Rattle.wasm_ast.specs.ComponentItems.{alias, component_export, instance};
 ghost use Rattle.comp_types.specs.Views.{entries_of};
-ghost use Rattle.output_form.specs.Output.{one_instance as the_instance, aliases_of as all_aliases, exports_of as all_exports};
+ghost use Rattle.virt_output.specs.Output.{one_instance as the_instance, aliases_of as all_aliases, exports_of as all_exports};
 ghost use Rattle.virt_output.specs.Bytes.{AreShort, CanBeNamed};
 
+use crate::{Counts, sort_of};
 use comp_types::InstanceEntry;
-use output_form::{Counts, sort_of};
 use std::alloc::Global;
 use virt_base::{Items, NoMemory, Text};
 use wasm_ast::{Alias, ComponentExport, Instance};

@@ -1,9 +1,10 @@
-//! The output of an application that imports nothing, written section by section: what stands before the application's bytes and what
-//! stands behind them. What is written is a component at every moment.
+//! The sections of an output, and the output of an application that imports nothing, written section by section: what stands before
+//! the application's bytes and what stands behind them. What is written is a component at every moment.
 #![tactic(auto)]
 
 mod around;
 mod back;
+mod counts;
 mod fault;
 mod items;
 mod piece;
@@ -11,6 +12,7 @@ mod pieces;
 mod put;
 
 pub use around::{Around, write_around};
+pub use counts::{Counts, sort_of};
 pub use fault::PieceFault;
 pub use piece::Piece;
 pub use pieces::what_is_written_is_read;

@@ -2,9 +2,9 @@
 use Rattle.std.specs.Prelude.{◌≡◌, ℕ, zero, suc, ◌+◌, ◌-◌, ◌<◌, List, [], ◌∷◌, ◌++◌, Option, Some, length, slice_get, get_or, if◌then◌else◌, nat_lt}
 use Rattle.wit_types.specs.Plain.{Name}
 use Rattle.wasi_table.specs.Plain.{PlainInterface, PlainNamedFunc, plain_named_func}
-use Rattle.wasi_io.specs.Listed.{described as described_io}
-use Rattle.wasi_fs.specs.Listed.{described as described_fs}
-use Rattle.wasi_net.specs.Listed.{described as described_net}
+use Rattle.wasi_listed.specs.IoListed.{described as described_io}
+use Rattle.wasi_listed.specs.FsListed.{described as described_fs}
+use Rattle.wasi_listed.specs.NetListed.{described as described_net}
 use Rattle.wasi_listed.specs.declared.ListedFunction.{ListedFunction}
 
 -- the interface with a number

@@ -1,5 +1,16 @@
-//! The listed interfaces together: an interface, and a function, by its number.
+//! The listed interfaces of WASI 0.2: an interface, and a function, by its number. `io` holds those of `wasi:io`, `wasi:cli`,
+//! `wasi:clocks` and `wasi:random`, `fs` those of `wasi:filesystem`, `net` those of `wasi:sockets`.
 #![tactic(auto)]
+
+pub mod fs;
+mod fs_table;
+mod fs_wit;
+pub mod io;
+mod io_table;
+mod io_wit;
+pub mod net;
+mod net_table;
+mod net_wit;
 
 ghost use Rattle.std.specs.Prelude.{◌≡◌, ◌<◌, IfOk, Some};
 ghost use Rattle.wasi_table.specs.Plain.{plain_interface};
@@ -34,12 +45,12 @@ pub fn describe(alloc: Global, number: u32) -> Result<Interface, NoMemory>
     requires { number < INTERFACES }
     ensures { IfOk result (λ i. plain_interface i ≡ described number) }
 {
-    if number < wasi_fs::FIRST {
-        wasi_io::describe(alloc, number)
-    } else if number < wasi_net::FIRST {
-        wasi_fs::describe(alloc, number)
+    if number < crate::fs::FIRST {
+        crate::io::describe(alloc, number)
+    } else if number < crate::net::FIRST {
+        crate::fs::describe(alloc, number)
     } else {
-        wasi_net::describe(alloc, number)
+        crate::net::describe(alloc, number)
     }
 }
 

@@ -4,12 +4,12 @@ use Rattle.std.specs.Str.{bytes_eq}
 use Rattle.wit_types.specs.Plain.{Name}
 use Rattle.wasi_table.specs.Texts.{table_of}
 use Rattle.wasi_table.specs.Tables.{Items, name_in, numbered}
-use Rattle.wasi_io.specs.declared.table.TheConstants.{TABLE as IO}
-use Rattle.wasi_fs.specs.declared.table.TheConstants.{TABLE as FS}
-use Rattle.wasi_net.specs.declared.table.TheConstants.{TABLE as NET}
-use Rattle.wasi_io.specs.Listed.{numbered as numbered_io}
-use Rattle.wasi_fs.specs.Listed.{numbered as numbered_fs}
-use Rattle.wasi_net.specs.Listed.{numbered as numbered_net}
+use Rattle.wasi_listed.specs.declared.io_table.TheConstants.{TABLE as IO}
+use Rattle.wasi_listed.specs.declared.fs_table.TheConstants.{TABLE as FS}
+use Rattle.wasi_listed.specs.declared.net_table.TheConstants.{TABLE as NET}
+use Rattle.wasi_listed.specs.IoListed.{numbered as numbered_io}
+use Rattle.wasi_listed.specs.FsListed.{numbered as numbered_fs}
+use Rattle.wasi_listed.specs.NetListed.{numbered as numbered_net}
 
 found_here : (b : Bool) (number n most : ℕ) (o : Option ℕ) → number < most → (o ≡ Some n → n < most) → cond b (Some number) o ≡ Some n → n < most
 found_here true number n most o h g e = let same : number ≡ n = cc in omega (arith, same, h)

@@ -10,9 +10,9 @@ use Rattle.wasi_table.specs.Plain.{PlainInterface}
 use Rattle.wasi_table.specs.Forms.{form_named}
 use Rattle.wasi_table.specs.Types.{kind_of}
 use Rattle.wasi_table.specs.Tables.{described as described_by}
-use Rattle.wasi_io.specs.Listed.{described as described_io, known_types}
-use Rattle.wasi_fs.specs.Listed.{described as described_fs}
-use Rattle.wasi_net.specs.Listed.{described as described_net}
+use Rattle.wasi_listed.specs.IoListed.{described as described_io, known_types}
+use Rattle.wasi_listed.specs.FsListed.{described as described_fs}
+use Rattle.wasi_listed.specs.NetListed.{described as described_net}
 use Rattle.wasi_listed.specs.Listed.{described}
 
 abbrev is_good : PlainInterface → Bool

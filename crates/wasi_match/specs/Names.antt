@@ -4,9 +4,9 @@ use Rattle.std.specs.List.{list_all, position_or_len, before_first, after_first}
 use Rattle.wit_types.specs.Plain.{Name}
 use Rattle.comp_names.specs.Labels.{is_digit}
 use Rattle.comp_names.specs.Names.{behind}
-use Rattle.wasi_io.specs.Listed.{numbered as numbered_io}
-use Rattle.wasi_fs.specs.Listed.{numbered as numbered_fs}
-use Rattle.wasi_net.specs.Listed.{numbered as numbered_net}
+use Rattle.wasi_listed.specs.IoListed.{numbered as numbered_io}
+use Rattle.wasi_listed.specs.FsListed.{numbered as numbered_fs}
+use Rattle.wasi_listed.specs.NetListed.{numbered as numbered_net}
 
 abbrev pub or_else : Option ℕ → Option ℕ → Option ℕ
 or_else None other = other

@@ -21,13 +21,13 @@ pub fn interface_named(name: &[u8]) -> Option<u32>
     ensures value { result ≡ interface_named name.now }
     ensures bound { IfSome result (λ number. number < INTERFACES) }
 {
-    if let Some(number) = wasi_io::interface_of(name) {
+    if let Some(number) = wasi_listed::io::interface_of(name) {
         return Some(number);
     }
-    if let Some(number) = wasi_fs::interface_of(name) {
+    if let Some(number) = wasi_listed::fs::interface_of(name) {
         return Some(number);
     }
-    wasi_net::interface_of(name)
+    wasi_listed::net::interface_of(name)
 }
 
 fn is_digit(byte: u8) -> bool

@@ -1,7 +1,7 @@
 use Rattle.std.proofs.Common.{◌≡◌, sym, subst}
 use Rattle.core_validate.specs.Validity.{IsValidModule}
 use Rattle.core_write.specs.Written.{IsShortestOf, IsWritable}
-use Rattle.adapter_bytes.proofs.Emitted.{emitted_writable}
+use Rattle.adapter_bytes.proofs.EmittedLaws.{emitted_writable}
 use Rattle.adapter_bytes.proofs.bytes.emit_light.Goals as goal
 
 pub write_both-requires-clause-state : goal.write_both-requires-clause-state

@@ -1,4 +1,4 @@
-use Rattle.adapter_bytes.proofs.Emitted.{emitted_writable}
+use Rattle.adapter_bytes.proofs.EmittedLaws.{emitted_writable}
 use Rattle.adapter_bytes.proofs.laws.emitted_are_writable.Goals as goal
 
 pub returns : goal.returns

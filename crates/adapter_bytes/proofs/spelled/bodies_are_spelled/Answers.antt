@@ -1,4 +1,4 @@
-use Rattle.adapter_bytes.proofs.Routines.{body_spelled}
+use Rattle.adapter_bytes.proofs.RoutineLaws.{body_spelled}
 use Rattle.adapter_bytes.proofs.spelled.bodies_are_spelled.Goals as goal
 
 pub returns : goal.returns

@@ -1,4 +1,4 @@
-use Rattle.adapter_bytes.proofs.Routines.{routine_spelled}
+use Rattle.adapter_bytes.proofs.RoutineLaws.{routine_spelled}
 use Rattle.adapter_bytes.proofs.spelled.routines_are_spelled.Goals as goal
 
 pub returns : goal.returns

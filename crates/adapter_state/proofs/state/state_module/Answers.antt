@@ -2,9 +2,9 @@ use Rattle.std.proofs.Common.{◌≡◌, ◌+◌, ◌≤◌, ◌++◌, List, Res
 use Rattle.virt_base.specs.declared.fault.NoMemory.{NoMemory}
 use Rattle.wasm_ast.specs.declared.module.Module.{Module}
 use Rattle.core_validate.specs.Validity.{IsValidModule}
-use Rattle.adapter_module.specs.declared.module.Defined.{Defined}
-use Rattle.adapter_module.specs.declared.module.Parts.{Parts}
-use Rattle.adapter_module.specs.Module.{module_of}
+use Rattle.adapter_transfer.specs.declared.module.Defined.{Defined}
+use Rattle.adapter_transfer.specs.declared.module.Parts.{Parts}
+use Rattle.adapter_transfer.specs.Module.{module_of}
 use Rattle.adapter_state.specs.State.{each_kind, drop_import, destructor_of, posts_of, state_functions, state_parts, state_of}
 use Rattle.adapter_state.proofs.EachKind.{each_length, one_import, one_destructor, three_posts}
 use Rattle.adapter_state.proofs.Fitting.{state_valid}

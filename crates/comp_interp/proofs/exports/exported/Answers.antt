@@ -1,6 +1,6 @@
 use Rattle.std.proofs.Common.{◌∙◌, ap, sym}
 use Rattle.std.specs.Option.{option_map}
-use Rattle.instance_values.specs.Targets.{target_of}
+use Rattle.instance_state.specs.Targets.{target_of}
 use Rattle.comp_interp.proofs.Exported.{inside_answer, nothing_answer, not_empty}
 use Rattle.comp_interp.proofs.exports.exported.Goals as goal
 

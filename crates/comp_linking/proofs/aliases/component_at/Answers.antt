@@ -1,6 +1,6 @@
 use Rattle.std.proofs.Common.{◌≡◌, ◌∙◌, ap, sym, subst, slice_get, ◌∷◌, ◌++◌, ℕ, Option, Some, None, Bor}
 use Rattle.std.specs.Prelude.{option_map}
-use Rattle.comp_drafts.specs.declared.draft.Draft.{Draft}
+use Rattle.comp_linking.specs.declared.draft.Draft.{Draft}
 use Rattle.comp_linking.specs.Walks.{made}
 use Rattle.comp_linking.specs.Names.{AreNamed, AreOne, outer_plan, outer_known}
 use Rattle.comp_linking.proofs.PartLemmas.{one_named}

@@ -1,8 +1,8 @@
 use Rattle.std.proofs.Common.{◌≡◌, ◌∙◌, ap, sym, subst, slice_get, ◌∷◌, ℕ, Some, None, Bor}
 use Rattle.std.specs.Prelude.{option_map}
 use Rattle.wasm_ast.specs.declared.module.Module.{Module}
-use Rattle.comp_drafts.specs.declared.draft.Draft.{Draft}
-use Rattle.comp_drafts.specs.Drafts.{module_at}
+use Rattle.comp_linking.specs.declared.draft.Draft.{Draft}
+use Rattle.comp_linking.specs.Drafts.{module_at}
 use Rattle.comp_linking.specs.Walks.{made}
 use Rattle.comp_linking.specs.Names.{AreNamed}
 use Rattle.comp_linking.proofs.PartLemmas.{numbers_module, outer_module_is}

@@ -5,7 +5,7 @@ use Rattle.comp_types.specs.Spaces.{NestedComponent}
 use Rattle.comp_types.specs.Definitions.{AnAlias}
 use Rattle.comp_link.specs.Plans.{Plan, End, and_module, followed}
 use Rattle.comp_link.proofs.Earlier.{followed-end}
-use Rattle.comp_drafts.specs.Drafts.{IsDraft}
+use Rattle.comp_linking.specs.Drafts.{IsDraft}
 use Rattle.comp_linking.specs.Walks.{spaces, made}
 use Rattle.comp_linking.specs.Names.{outer_module}
 use Rattle.comp_linking.proofs.NameLemmas.{outer_module_stays}

@@ -1,7 +1,7 @@
 use Rattle.std.proofs.Common.{◌∙◌, ap, subst, List, []}
 use Rattle.wasm_ast.specs.declared.component.Section.{Section}
 use Rattle.comp_grammar.specs.Trees.{plain, plain_sections}
-use Rattle.comp_drafts.specs.Modules.{modules_in}
+use Rattle.comp_linking.specs.Modules.{modules_in}
 use Rattle.comp_linking.specs.Walks.{at_root, at_tree}
 use Rattle.comp_linking.specs.Goes.{PlansTree}
 use Rattle.comp_linking.proofs.LeadLemmas.{tree_space}

@@ -1,6 +1,6 @@
 use Rattle.std.proofs.Common.{sym, subst, []}
 use Rattle.comp_link.specs.Plans.{End, no_scope}
-use Rattle.comp_drafts.specs.Drafts.{IsDraft}
+use Rattle.comp_linking.specs.Drafts.{IsDraft}
 use Rattle.comp_linking.specs.Walks.{spaces, made}
 use Rattle.comp_linking.proofs.NestLemmas.{fresh, draft_pushed}
 use Rattle.comp_linking.proofs.nested.enter.Goals as goal

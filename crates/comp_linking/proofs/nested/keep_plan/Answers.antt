@@ -3,9 +3,9 @@ use Rattle.comp_types.specs.Added.{nested_of}
 use Rattle.comp_link.specs.Plans.{and_plan}
 use Rattle.comp_link.specs.declared.linked.ComponentPlan.{ComponentPlan}
 use Rattle.comp_link.specs.Planned.{PlannedComponent}
-use Rattle.comp_drafts.specs.declared.draft.Draft.{Draft}
-use Rattle.comp_drafts.specs.Drafts.{IsDraft}
-use Rattle.comp_outer.proofs.AroundLemmas.{empty_is}
+use Rattle.comp_linking.specs.declared.draft.Draft.{Draft}
+use Rattle.comp_linking.specs.Drafts.{IsDraft}
+use Rattle.comp_defining.proofs.AroundLemmas.{empty_is}
 use Rattle.comp_linking.specs.Walks.{AreDrafts, made}
 use Rattle.comp_linking.proofs.DraftLemmas.{components_behind}
 use Rattle.comp_linking.proofs.NestLemmas.{no_draft, draft_popped, with_plan, with_component}

@@ -7,7 +7,7 @@ use Rattle.comp_grammar.specs.Trees.{Part, Tree, CoreModule, plain, plain_sectio
 use Rattle.comp_grammar.proofs.PlainLemmas.{plain-Nested, plain-CoreInstances, plain-Instances, plain-Aliases, plain-Types, plain-Canons, plain-Imports, plain-Exports, plain-CoreModule, plain-Custom}
 use Rattle.comp_types.specs.Declarations.{grouped}
 use Rattle.comp_types.specs.Definitions.{ACoreInstance, AnInstance, AnAlias, ACanon, AnImport, AnExport, types_in}
-use Rattle.comp_drafts.specs.Modules.{modules_in}
+use Rattle.comp_linking.specs.Modules.{modules_in}
 use Rattle.comp_linking.specs.Walks.{at_entered, at_tree}
 use Rattle.comp_linking.specs.Goes.{PlansAll, PlansPart, PlansTree}
 use Rattle.comp_linking.proofs.RestLemmas.{SectionsLeft, sections_left, section_planned, no_section_left, next_section}

@@ -3,7 +3,7 @@ use Rattle.wasm_ast.specs.Boxed.{Held}
 use Rattle.wasm_ast.specs.declared.module.Module.{Module}
 use Rattle.comp_grammar.specs.Trees.{plain_sections}
 use Rattle.comp_types.specs.Validity.{IsValidTree}
-use Rattle.comp_drafts.specs.Modules.{modules_in}
+use Rattle.comp_linking.specs.Modules.{modules_in}
 use Rattle.comp_linking.specs.Walks.{At, spaces, Walks}
 use Rattle.comp_linking.proofs.RestLemmas.{SectionsLeft}
 use Rattle.comp_linking.proofs.sections.+plan_sections.Given as goal

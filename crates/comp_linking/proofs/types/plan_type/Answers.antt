@@ -3,7 +3,7 @@ use Rattle.comp_types.specs.Declarations.{Declarations}
 use Rattle.comp_types.specs.Definitions.{AType, types_in}
 use Rattle.comp_types.specs.Added.{after_all}
 use Rattle.comp_types.specs.Validity.{AreValid}
-use Rattle.comp_outer.specs.Around.{StandAll}
+use Rattle.comp_defining.specs.Around.{StandAll}
 use Rattle.comp_linking.specs.Walks.{spaces, made}
 use Rattle.comp_linking.proofs.PartLemmas.{types_stand}
 use Rattle.comp_linking.proofs.StepLemmas.{behind_item}

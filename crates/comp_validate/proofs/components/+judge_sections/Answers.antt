@@ -9,7 +9,7 @@ use Rattle.comp_grammar.proofs.PlainLemmas.{plain-Nested, plain-CoreInstances, p
 use Rattle.comp_types.specs.Added.{entered, after_tree}
 use Rattle.comp_types.specs.Declarations.{grouped}
 use Rattle.comp_types.specs.Definitions.{ACoreInstance, AnInstance, AnAlias, ACanon, AnImport, AnExport, types_in}
-use Rattle.comp_outer.specs.Judged.{JudgedEach}
+use Rattle.comp_defining.specs.Judged.{JudgedEach}
 use Rattle.comp_validate.specs.Judged.{JudgedPart, JudgedTree}
 use Rattle.comp_validate.proofs.PartLemmas.{part_core_instances, part_instances, part_aliases, part_types, part_canons, part_imports, part_exports, part_custom, nested_breaks, nested_valid}
 use Rattle.comp_validate.proofs.TreeLemmas.{LeadsTree, leads_tree, next_section, section_more, section_breaks, tree_led}

@@ -1,7 +1,7 @@
 use Rattle.std.proofs.Common.{◌≡◌, List, drop}
 use Rattle.comp_grammar.specs.Trees.{plain_sections}
 use Rattle.comp_types.specs.Spaces.{Space}
-use Rattle.comp_outer.specs.Around.{StandAll}
+use Rattle.comp_defining.specs.Around.{StandAll}
 use Rattle.comp_validate.proofs.TreeLemmas.{LeadsTree}
 use Rattle.comp_validate.proofs.components.+judge_sections.Given as goal
 

@@ -3,8 +3,8 @@ use Rattle.std.proofs.lemmas.Result.{IfOk-weaker}
 use Rattle.wasm_ast.specs.declared.component.TypeItem.{TypeItem}
 use Rattle.comp_types.specs.Declarations.{ATypeDef, ATypeExport}
 use Rattle.comp_types.specs.Definitions.{AType}
-use Rattle.comp_outer.specs.Judged.{JudgedIn}
-use Rattle.comp_outer.proofs.Inner.{judged_inner}
+use Rattle.comp_defining.specs.Judged.{JudgedIn}
+use Rattle.comp_defining.proofs.Inner.{judged_inner}
 use Rattle.comp_validate.specs.Rest.{alone}
 use Rattle.comp_validate.proofs.declarations.add_alone.Goals as goal
 

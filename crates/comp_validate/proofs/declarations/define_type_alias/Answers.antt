@@ -4,7 +4,7 @@ use Rattle.wasm_ast.specs.declared.component.TypeAlias.{TypeAlias}
 use Rattle.wasm_ast.specs.declared.component.TypeAlias.TheVariants.{Export}
 use Rattle.comp_types.specs.Declarations.{ATypeAlias}
 use Rattle.comp_types.specs.Definitions.{AType}
-use Rattle.comp_outer.specs.Judged.{JudgedIn}
+use Rattle.comp_defining.specs.Judged.{JudgedIn}
 use Rattle.comp_validate.proofs.InnerLemmas.{judged_shared}
 use Rattle.comp_validate.proofs.declarations.define_type_alias.Goals as goal
 

@@ -1,7 +1,7 @@
 use Rattle.std.proofs.Common.{◌≡◌, ap, subst, map, List, ◌∷◌, []}
 use Rattle.std.proofs.lemmas.List.{nil_from_length}
 use Rattle.comp_types.specs.Definitions.{Definition}
-use Rattle.comp_outer.specs.Judged.{JudgedIn}
+use Rattle.comp_defining.specs.Judged.{JudgedIn}
 use Rattle.comp_validate.proofs.EachLemmas.{LeadsAll, leads_all, one_more, one_breaks, all_led}
 use Rattle.comp_validate.proofs.definitions.define_all.Goals as goal
 

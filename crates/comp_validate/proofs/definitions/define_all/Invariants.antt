@@ -1,6 +1,6 @@
 use Rattle.std.proofs.Common.{List, map, length}
 use Rattle.comp_types.specs.Spaces.{Space}
-use Rattle.comp_outer.specs.Around.{StandAll}
+use Rattle.comp_defining.specs.Around.{StandAll}
 use Rattle.comp_validate.proofs.EachLemmas.{LeadsAll}
 use Rattle.comp_validate.proofs.definitions.define_all.Given as goal
 

@@ -2,7 +2,7 @@ use Rattle.std.proofs.Common.{refl}
 use Rattle.std.proofs.lemmas.Result.{on_ok_weaker}
 use Rattle.std.specs.Prelude.{Result, Ok, Err, OnOk}
 use Rattle.comp_types.specs.Added.{and_nested}
-use Rattle.comp_outer.proofs.Inner.{inner_stands}
+use Rattle.comp_defining.proofs.Inner.{inner_stands}
 use Rattle.type_table.proofs.ScopeLaws.{covers_nested}
 use Rattle.comp_validate.proofs.sections.add_closed.Goals as goal
 

@@ -3,7 +3,7 @@ use Rattle.core_validate.specs.Typed.{type_of}
 use Rattle.comp_scopes.specs.Found.{IsKnownModule}
 use Rattle.comp_scopes.specs.CoreJudged.{IsJudged}
 use Rattle.comp_types.specs.Added.{and_module}
-use Rattle.comp_outer.proofs.Inner.{inner_stands}
+use Rattle.comp_defining.proofs.Inner.{inner_stands}
 use Rattle.type_table.proofs.ScopeLaws.{covers_module}
 use Rattle.comp_validate.proofs.sections.define_module.Goals as goal
 

@@ -1,7 +1,7 @@
 use Rattle.std.proofs.Common.{List, [], length}
 use Rattle.comp_types.specs.Declarations.{grouped}
 use Rattle.comp_types.specs.Spaces.{Space}
-use Rattle.comp_outer.specs.Around.{StandAll}
+use Rattle.comp_defining.specs.Around.{StandAll}
 use Rattle.comp_validate.specs.Rest.{Rest, Leads}
 use Rattle.comp_validate.proofs.type_sections.define_types.Given as goal
 

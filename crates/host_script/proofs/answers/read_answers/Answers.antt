@@ -1,7 +1,7 @@
 use Rattle.std.proofs.Common.{◌≡◌, ◌∙◌, map, length, sym, rules}
 use Rattle.std.specs.Vec.Iter.{into_iter_items}
 use Rattle.serde_json.specs.View.{view, items_view}
-use Rattle.script_values.specs.Json.{untyped, untyped_items}
+use Rattle.host_script.specs.Json.{untyped, untyped_items}
 use Rattle.host_script.specs.Script.{answer_at, each_at, item_seen}
 use Rattle.host_script.proofs.Parts.{each_next, each_wrong, each_done, fault_kept}
 use Rattle.host_script.proofs.answers.read_answers.Goals as goal

@@ -1,7 +1,7 @@
 use Rattle.std.proofs.Common.{◌≡◌, ◌++◌, map, length, Ok}
 use Rattle.std.specs.Vec.Iter.{into_iter_items}
 use Rattle.serde_json.specs.View.{items_view}
-use Rattle.script_values.specs.Json.{untyped_items}
+use Rattle.host_script.specs.Json.{untyped_items}
 use Rattle.host_script.specs.Script.{and_then, each_at, answer_at, item_seen}
 use Rattle.host_script.proofs.answers.read_answers.Given as goal
 

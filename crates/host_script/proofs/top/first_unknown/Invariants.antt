@@ -1,6 +1,6 @@
 use Rattle.std.proofs.Common.{◌≡◌}
 use Rattle.serde_json.specs.View.{members_view}
-use Rattle.script_values.specs.Json.{untyped_members}
+use Rattle.host_script.specs.Json.{untyped_members}
 use Rattle.host_script.specs.Script.{first_unknown}
 use Rattle.host_script.proofs.top.first_unknown.Given as goal
 

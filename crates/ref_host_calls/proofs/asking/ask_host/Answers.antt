@@ -1,8 +1,8 @@
 use Rattle.std.proofs.Common.{refl, sym, ap, ◌∙◌}
 use Rattle.host_port.specs.Calls.{Gives, Trap, Ended, Bad, plain_answer, plain_option}
 use Rattle.reference_step.specs.Steps.{host_gave, to_host}
-use Rattle.ref_entering.specs.Contents.{Hosts}
-use Rattle.ref_entering.proofs.KeepLaws.{keeps-same, on_always}
+use Rattle.ref_guards.specs.Contents.{Hosts}
+use Rattle.ref_guards.proofs.KeepLaws.{keeps-same, on_always}
 use Rattle.ref_host_calls.specs.Requests.{listed_of, call_of}
 use Rattle.ref_host_calls.specs.Reactions.{state_at}
 use Rattle.ref_host_calls.proofs.AskLemmas.{ok_map, reacts_as}

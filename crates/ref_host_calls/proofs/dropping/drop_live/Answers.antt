@@ -1,8 +1,8 @@
 use Rattle.std.proofs.Common.{ℕ, Option, refl, subst}
 use Rattle.reference_step.specs.Steps.{dropped_as}
 use Rattle.ref_host_calls.specs.Losses.{IsLoss, listed_at}
-use Rattle.ref_entering.specs.Contents.{Nothing}
-use Rattle.ref_entering.proofs.KeepLaws.{keeps-same}
+use Rattle.ref_guards.specs.Contents.{Nothing}
+use Rattle.ref_guards.proofs.KeepLaws.{keeps-same}
 use Rattle.ref_host_calls.proofs.LossLemmas.{on_map}
 use Rattle.ref_host_calls.proofs.dropping.drop_live.Goals as goal
 

@@ -1,7 +1,7 @@
 use Rattle.std.proofs.Common.{refl}
 use Rattle.ref_host_calls.specs.Losses.{listed_at}
-use Rattle.ref_entering.specs.Contents.{Nothing}
-use Rattle.ref_entering.proofs.KeepLaws.{keeps-same}
+use Rattle.ref_guards.specs.Contents.{Nothing}
+use Rattle.ref_guards.proofs.KeepLaws.{keeps-same}
 use Rattle.ref_host_calls.proofs.LossLemmas.{on_map, same_kind}
 use Rattle.ref_host_calls.proofs.dropping.drop_of_kind.Goals as goal
 

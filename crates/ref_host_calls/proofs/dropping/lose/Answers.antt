@@ -1,8 +1,8 @@
 use Rattle.std.proofs.Common.{ap, ◌∙◌}
 use Rattle.host_port.specs.declared.call.Resource.{Resource}
 use Rattle.host_port.specs.Hosts.{drops}
-use Rattle.ref_entering.specs.Contents.{Nothing}
-use Rattle.ref_entering.proofs.KeepLaws.{on_always, keeps-free}
+use Rattle.ref_guards.specs.Contents.{Nothing}
+use Rattle.ref_guards.proofs.KeepLaws.{on_always, keeps-free}
 use Rattle.ref_host_calls.proofs.LossLemmas.{on_map, loses_theirs, loses_ours}
 use Rattle.ref_host_calls.proofs.dropping.lose.Goals as goal
 

@@ -3,13 +3,13 @@ use Rattle.wit_types.specs.PlainValue.{PlainValue}
 use Rattle.host_port.specs.Calls.{Gives, plain_option}
 use Rattle.reference_step.specs.Atoms.{handles, result_atoms, weight}
 use Rattle.ref_answers.specs.Seen.{live_in}
-use Rattle.ref_live.specs.Lives.{LiveTable}
+use Rattle.ref_rules.specs.Lives.{LiveTable}
 use Rattle.ref_guards.specs.declared.atoms.Atom.{Atom}
 use Rattle.ref_guards.specs.Noted.{shown_all}
-use Rattle.ref_entering.specs.declared.standing.Standing.TheVariants.{Hosts as Entering}
-use Rattle.ref_entering.specs.Entering.{with_handles}
-use Rattle.ref_entering.specs.Contents.{Hosts}
-use Rattle.ref_entering.proofs.KeepLaws.{keeps-handles, keeps-same}
+use Rattle.ref_guards.specs.declared.standing.Standing.TheVariants.{Hosts as Entering}
+use Rattle.ref_guards.specs.Entering.{with_handles}
+use Rattle.ref_guards.specs.Contents.{Hosts}
+use Rattle.ref_guards.proofs.KeepLaws.{keeps-handles, keeps-same}
 use Rattle.ref_host_calls.specs.Requests.{listed_of, call_of}
 use Rattle.ref_host_calls.specs.Reactions.{state_at}
 use Rattle.ref_host_calls.proofs.GiveLemmas.{gave_light}

@@ -3,7 +3,7 @@ use Rattle.reference_step.specs.Atoms.{handle_in, handles}
 use Rattle.ref_answers.specs.Seen.{live_in}
 use Rattle.ref_guards.specs.declared.atoms.Atom.TheVariants.{Text}
 use Rattle.ref_guards.specs.Noted.{shown, shown_all}
-use Rattle.ref_entering.proofs.EnterLemmas.{next_handles, no_more_handles}
+use Rattle.ref_guards.proofs.EnterLemmas.{next_handles, no_more_handles}
 use Rattle.ref_host_calls.proofs.AskLemmas.{ids_next, ids_end}
 use Rattle.ref_host_calls.proofs.numbers.host_ids.Goals as goal
 

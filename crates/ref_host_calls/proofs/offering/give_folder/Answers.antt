@@ -6,8 +6,8 @@ use Rattle.wit_types.proofs.ValueLemmas.{plain_value-Handle, plain_value-Str}
 use Rattle.reference_step.specs.Handles.{first_free}
 use Rattle.reference_step.specs.Steps.{folder_value}
 use Rattle.reference_step.specs.Values.{record_of}
-use Rattle.ref_live.specs.Lives.{count_of_kind}
-use Rattle.ref_entering.proofs.KeepLaws.{keeps-entry}
+use Rattle.ref_rules.specs.Lives.{count_of_kind}
+use Rattle.ref_guards.proofs.KeepLaws.{keeps-entry}
 use Rattle.ref_host_calls.specs.Offers.{HoldsOfFolders}
 use Rattle.ref_host_calls.proofs.OfferLemmas.{folder_holds}
 use Rattle.ref_host_calls.proofs.offering.give_folder.Goals as goal

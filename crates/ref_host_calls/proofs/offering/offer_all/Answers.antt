@@ -8,7 +8,7 @@ use Rattle.reference_step.specs.State.{Reference}
 use Rattle.reference_step.specs.Steps.{offers}
 use Rattle.ref_host_calls.specs.Reactions.{IsReaction}
 use Rattle.ref_host_calls.specs.declared.offers.Offer.{Offer}
-use Rattle.ref_entering.proofs.KeepLaws.{keeps-same, keeps-then}
+use Rattle.ref_guards.proofs.KeepLaws.{keeps-same, keeps-then}
 use Rattle.ref_host_calls.specs.Offers.{folders_at, offer_inside, shown_all}
 use Rattle.ref_host_calls.proofs.OfferLemmas.{next_of, none_left}
 use Rattle.ref_host_calls.proofs.offering.offer_all.Goals as goal

@@ -3,7 +3,7 @@ use Rattle.wit_types.specs.PlainValue.{plain_value}
 use Rattle.tree_table.specs.Tables.{Forest}
 use Rattle.host_port.specs.Calls.{PlainObservation}
 use Rattle.reference_step.specs.State.{Reference}
-use Rattle.ref_entering.specs.Contents.{KeepsContents}
+use Rattle.ref_guards.specs.Contents.{KeepsContents}
 use Rattle.ref_host_calls.specs.Offers.{HoldsOfFolders, folders_at, shown_all}
 use Rattle.ref_host_calls.specs.Offered.{GoesOn}
 use Rattle.ref_host_calls.proofs.offering.offer_all.Given as goal

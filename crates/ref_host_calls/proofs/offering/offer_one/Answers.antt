@@ -4,7 +4,7 @@ use Rattle.host_port.specs.Calls.{Trap}
 use Rattle.host_port.specs.Hosts.{Reaction}
 use Rattle.reference_step.specs.State.{Reference}
 use Rattle.reference_step.specs.Steps.{offers}
-use Rattle.ref_live.specs.Lives.{LiveTable, count_of_kind}
+use Rattle.ref_rules.specs.Lives.{LiveTable, count_of_kind}
 use Rattle.ref_host_calls.specs.Reactions.{IsReaction}
 use Rattle.ref_host_calls.specs.declared.offers.Offer.{Offer}
 use Rattle.ref_host_calls.specs.Offers.{folders_at, offer_inside, shown}

@@ -1,7 +1,7 @@
 use Rattle.std.proofs.Common.{refl, sym, ap, ◌∙◌}
 use Rattle.host_port.specs.Calls.{Gives, Trap, Ended, Bad, plain_answer, plain_option}
 use Rattle.reference_step.specs.Steps.{folders_gave, to_host}
-use Rattle.ref_entering.proofs.KeepLaws.{on_always}
+use Rattle.ref_guards.proofs.KeepLaws.{on_always}
 use Rattle.ref_host_calls.specs.Requests.{listed_of, call_of}
 use Rattle.ref_host_calls.proofs.AskLemmas.{reacts_as, reacts_on, seen_then}
 use Rattle.ref_host_calls.specs.Offers.{folders_at}

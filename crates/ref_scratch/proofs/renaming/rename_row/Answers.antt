@@ -4,7 +4,7 @@ use Rattle.reference_step.specs.Codes as code
 use Rattle.reference_step.specs.Descriptors.{in_scratch, rename_to}
 use Rattle.reference_step.specs.Nodes.{TheFile, lead_in}
 use Rattle.reference_step.specs.State.{fails}
-use Rattle.ref_live.specs.Lives.{is_open}
+use Rattle.ref_rules.specs.Lives.{is_open}
 use Rattle.ref_scratch.specs.Told.{settled}
 use Rattle.ref_scratch.proofs.renaming.rename_row.Goals as goal
 

@@ -5,7 +5,7 @@ use Rattle.reference_step.specs.Codes as code
 use Rattle.reference_step.specs.Descriptors.{rename_to, rename_new}
 use Rattle.reference_step.specs.Nodes.{TheFile, Missing, lead_in, new_name}
 use Rattle.reference_step.specs.State.{fails}
-use Rattle.ref_live.specs.Lives.{is_open}
+use Rattle.ref_rules.specs.Lives.{is_open}
 use Rattle.ref_scratch.specs.Told.{settled}
 use Rattle.ref_scratch.proofs.RowLemmas.{told_same, if_so, if_not, equal_numbers, other_numbers}
 use Rattle.ref_scratch.proofs.renaming.rename_to.Goals as goal

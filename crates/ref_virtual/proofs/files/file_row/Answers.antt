@@ -3,7 +3,7 @@ use Rattle.std.proofs.lemmas.Result.{IfOk-weaker}
 use Rattle.reference_step.specs.State.{returns as returning}
 use Rattle.reference_step.specs.Values.{ok}
 use Rattle.ref_virtual.proofs.ToldLemmas.{told_same}
-use Rattle.ref_files.proofs.InsideLemmas.{row_fixed}
+use Rattle.ref_virtual.proofs.FilesInsideLemmas.{row_fixed}
 use Rattle.ref_virtual.proofs.InsideLemmas.{told_fixed}
 use Rattle.ref_virtual.proofs.files.file_row.Goals as goal
 

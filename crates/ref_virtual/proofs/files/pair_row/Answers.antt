@@ -8,7 +8,7 @@ use Rattle.reference_step.specs.Values.{nth, id_in, text_in}
 use Rattle.ref_virtual.proofs.HandleLemmas.{looked}
 use Rattle.ref_virtual.specs.Besides.{is_file, file_pair}
 use Rattle.ref_virtual.proofs.BesideLemmas.{file_with, file_same, rename_file}
-use Rattle.ref_files.proofs.InsideLemmas.{row_fixed}
+use Rattle.ref_virtual.proofs.FilesInsideLemmas.{row_fixed}
 use Rattle.ref_virtual.proofs.files.pair_row.Goals as goal
 
 pub returns-in-LinkAt-clause-row : goal.returns-in-LinkAt-clause-row

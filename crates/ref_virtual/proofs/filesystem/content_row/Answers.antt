@@ -1,11 +1,11 @@
 use Rattle.std.proofs.Common.{refl}
 use Rattle.std.proofs.lemmas.Result.{IfOk-weaker}
 use Rattle.wit_types.specs.PlainValue.{plain_values, End}
-use Rattle.ref_live.specs.Lives.{is_open}
+use Rattle.ref_rules.specs.Lives.{is_open}
 use Rattle.ref_virtual.proofs.ToldLemmas.{told_same}
 use Rattle.ref_virtual.proofs.OtherLemmas.{other_of, held_trees}
 use Rattle.tree_table.specs.Tables.{count_of}
-use Rattle.ref_files.proofs.InsideLemmas.{row_fixed}
+use Rattle.ref_virtual.proofs.FilesInsideLemmas.{row_fixed}
 use Rattle.ref_virtual.proofs.InsideLemmas.{other_inside}
 use Rattle.ref_virtual.proofs.filesystem.content_row.Goals as goal
 

@@ -3,7 +3,7 @@ use Rattle.std.proofs.lemmas.Result.{IfOk-weaker}
 use Rattle.wit_types.specs.PlainValue.{plain_values}
 use Rattle.reference_step.specs.Values.{nth, id_in}
 use Rattle.ref_answers.specs.Seen.{content_in}
-use Rattle.ref_live.specs.Lives.{is_open}
+use Rattle.ref_rules.specs.Lives.{is_open}
 use Rattle.ref_virtual.specs.Methods.{method_row}
 use Rattle.ref_virtual.proofs.HandleLemmas.{looked}
 use Rattle.ref_scratch.specs.Told.{settled}

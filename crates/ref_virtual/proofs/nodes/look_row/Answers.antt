@@ -2,9 +2,9 @@ use Rattle.std.proofs.Common.{ap, ◌∙◌}
 use Rattle.std.proofs.Math.Path.{ap₂}
 use Rattle.std.proofs.lemmas.Result.{IfOk-weaker}
 use Rattle.reference_step.specs.Descriptors as descriptor
-use Rattle.ref_files.specs.Views.{node_in}
+use Rattle.ref_virtual.specs.Views.{node_in}
 use Rattle.tree_table.specs.Tables.{count_of}
-use Rattle.ref_files.proofs.InsideLemmas.{row_fixed}
+use Rattle.ref_virtual.proofs.FilesInsideLemmas.{row_fixed}
 use Rattle.ref_virtual.proofs.nodes.look_row.Goals as goal
 
 pub returns-in-ReadViaStream-clause-row : goal.returns-in-ReadViaStream-clause-row

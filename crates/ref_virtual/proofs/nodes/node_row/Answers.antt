@@ -3,7 +3,7 @@ use Rattle.std.proofs.lemmas.Result.{IfOk-weaker}
 use Rattle.tree_table.specs.Tables.{tree_of, path_of, count_of}
 use Rattle.wit_types.specs.PlainValue.{plain_values}
 use Rattle.ref_virtual.proofs.MethodsOtherLemmas.{node_change}
-use Rattle.ref_files.proofs.InsideLemmas.{row_fixed, fixed_inside}
+use Rattle.ref_virtual.proofs.FilesInsideLemmas.{row_fixed, fixed_inside}
 use Rattle.ref_virtual.proofs.nodes.node_row.Goals as goal
 
 pub returns-in-Looks-clause-row : goal.returns-in-Looks-clause-row

@@ -4,7 +4,7 @@ use Rattle.std.proofs.lemmas.Result.{IfOk-weaker}
 use Rattle.wit_types.specs.PlainValue.{plain_values}
 use Rattle.reference_step.specs.Descriptors as descriptor
 use Rattle.reference_step.specs.Rows.{flags, text}
-use Rattle.ref_files.specs.Views.{node_in}
+use Rattle.ref_virtual.specs.Views.{node_in}
 use Rattle.ref_virtual.proofs.nodes.open_at_row.Goals as goal
 
 pub returns-clause-row : goal.returns-clause-row

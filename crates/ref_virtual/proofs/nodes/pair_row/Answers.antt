@@ -5,12 +5,12 @@ use Rattle.reference_step.specs.Values.{nth, id_in, text_in}
 use Rattle.reference_step.specs.State.{fails, returns as returning}
 use Rattle.wit_types.specs.PlainValue.{BoolValue, plain_values}
 use Rattle.wit_types.proofs.ValueLemmas.{plain_value-Bool}
-use Rattle.ref_files.specs.Views.{node_in}
+use Rattle.ref_virtual.specs.Views.{node_in}
 use Rattle.ref_virtual.specs.Others.{crossing, same_as}
 use Rattle.ref_virtual.proofs.HandleLemmas.{looked}
 use Rattle.ref_virtual.proofs.NodeLemmas.{link_is, rename_is, same_is}
 use Rattle.tree_table.specs.Tables.{count_of}
-use Rattle.ref_files.proofs.InsideLemmas.{row_fixed, fixed_inside}
+use Rattle.ref_virtual.proofs.FilesInsideLemmas.{row_fixed, fixed_inside}
 use Rattle.ref_virtual.proofs.nodes.pair_row.Goals as goal
 
 pub returns-in-LinkAt-clause-row : goal.returns-in-LinkAt-clause-row

@@ -1,10 +1,10 @@
 use Rattle.std.proofs.Common.{refl, sym, ◌∙◌}
 use Rattle.std.proofs.lemmas.Result.{IfOk-weaker}
 use Rattle.ref_answers.specs.Seen.{content_in}
-use Rattle.ref_live.specs.declared.content.Content.TheVariants.{Entries}
+use Rattle.ref_rules.specs.declared.content.Content.TheVariants.{Entries}
 use Rattle.ref_virtual.proofs.MethodsOtherLemmas.{next_is, other_next}
 use Rattle.tree_table.specs.Tables.{count_of}
-use Rattle.ref_files.proofs.InsideLemmas.{row_fixed}
+use Rattle.ref_virtual.proofs.FilesInsideLemmas.{row_fixed}
 use Rattle.wit_types.specs.PlainValue.{End}
 use Rattle.ref_virtual.proofs.others.listing_row.Goals as goal
 

@@ -1,6 +1,6 @@
 use Rattle.std.proofs.lemmas.Result.{IfOk-weaker}
 use Rattle.reference_step.specs.Values.{list_in}
-use Rattle.ref_files.proofs.InsideLemmas.{row_fixed}
+use Rattle.ref_virtual.proofs.FilesInsideLemmas.{row_fixed}
 use Rattle.ref_rules.specs.Parts.{shown}
 use Rattle.ref_virtual.proofs.PollLemmas.{poll_inside}
 use Rattle.ref_virtual.proofs.polling.poll_row.Goals as goal

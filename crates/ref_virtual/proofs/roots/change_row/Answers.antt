@@ -3,7 +3,7 @@ use Rattle.std.proofs.lemmas.Result.{IfOk-weaker}
 use Rattle.reference_step.specs.Descriptors as descriptor
 use Rattle.reference_step.specs.Handles.{ScratchRoot}
 use Rattle.reference_step.specs.State.{returns as returning}
-use Rattle.ref_live.specs.Lives.{is_open}
+use Rattle.ref_rules.specs.Lives.{is_open}
 use Rattle.ref_scratch.specs.Told.{settled}
 use Rattle.ref_virtual.proofs.ToldLemmas.{told_same}
 use Rattle.ref_virtual.proofs.roots.change_row.Goals as goal

@@ -6,13 +6,13 @@ use Rattle.reference_step.specs.Descriptors as descriptor
 use Rattle.reference_step.specs.Descriptors.{link_pair, rename_pair, with_root}
 use Rattle.reference_step.specs.State.{returns as returning}
 use Rattle.reference_step.specs.Values.{nth, id_in, text_in}
-use Rattle.ref_live.specs.Lives.{is_open}
+use Rattle.ref_rules.specs.Lives.{is_open}
 use Rattle.ref_virtual.proofs.HandleLemmas.{looked}
 use Rattle.ref_scratch.specs.Told.{settled}
 use Rattle.ref_virtual.specs.Besides.{is_root, root_pair}
 use Rattle.ref_virtual.proofs.BesideLemmas.{root_with, root_same}
 use Rattle.ref_virtual.proofs.ToldLemmas.{told_same}
-use Rattle.ref_files.proofs.InsideLemmas.{row_fixed}
+use Rattle.ref_virtual.proofs.FilesInsideLemmas.{row_fixed}
 use Rattle.ref_virtual.proofs.InsideLemmas.{told_fixed}
 use Rattle.ref_virtual.proofs.roots.pair_row.Goals as goal
 

@@ -2,7 +2,7 @@ use Rattle.std.proofs.Common.{◌∙◌}
 use Rattle.std.proofs.Math.Path.{ap₂}
 use Rattle.std.proofs.lemmas.Result.{IfOk-weaker}
 use Rattle.reference_step.specs.Descriptors.{BothRoots, rename_pair}
-use Rattle.ref_live.specs.Lives.{is_open}
+use Rattle.ref_rules.specs.Lives.{is_open}
 use Rattle.ref_scratch.specs.Told.{settled}
 use Rattle.ref_virtual.proofs.ToldLemmas.{told_same}
 use Rattle.ref_virtual.proofs.roots.rename_beside.Goals as goal

@@ -2,9 +2,9 @@ use Rattle.std.proofs.Common.{ap, ◌∙◌}
 use Rattle.std.proofs.lemmas.Result.{IfOk-weaker}
 use Rattle.reference_step.specs.State.{returns as returning}
 use Rattle.reference_step.specs.Values.{ok}
-use Rattle.ref_live.specs.Lives.{is_open}
+use Rattle.ref_rules.specs.Lives.{is_open}
 use Rattle.ref_virtual.proofs.ToldLemmas.{told_same}
-use Rattle.ref_files.proofs.InsideLemmas.{row_fixed}
+use Rattle.ref_virtual.proofs.FilesInsideLemmas.{row_fixed}
 use Rattle.ref_virtual.proofs.InsideLemmas.{told_fixed}
 use Rattle.ref_virtual.proofs.roots.root_row.Goals as goal
 

@@ -8,11 +8,11 @@ use Rattle.reference_step.specs.State.{View}
 use Rattle.ref_answers.specs.Found.{found}
 use Rattle.ref_answers.specs.Seen.{live_in}
 use Rattle.ref_answers.proofs.SeenLaws.{seen_is_held}
-use Rattle.ref_files.specs.Views.{HoldsTrees}
+use Rattle.ref_virtual.specs.Views.{HoldsTrees}
 use Rattle.ref_scratch.specs.Told.{settled}
 use Rattle.ref_virtual.proofs.ToldLemmas.{told_same, same_stays}
 use Rattle.tree_table.specs.Tables.{count_of}
-use Rattle.ref_files.proofs.InsideLemmas.{row_fixed}
+use Rattle.ref_virtual.proofs.FilesInsideLemmas.{row_fixed}
 use Rattle.ref_virtual.proofs.rows.row_of.Goals as goal
 
 pub returns-in-Rowless-clause-row : goal.returns-in-Rowless-clause-row

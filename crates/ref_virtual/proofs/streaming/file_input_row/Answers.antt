@@ -2,9 +2,9 @@ use Rattle.std.proofs.Common.{ap, ◌∙◌}
 use Rattle.std.proofs.lemmas.Result.{IfOk-weaker}
 use Rattle.reference_step.specs.InputStreams as input
 use Rattle.ref_answers.specs.Seen.{content_in}
-use Rattle.ref_live.specs.declared.content.Content.TheVariants.{FileAt}
+use Rattle.ref_rules.specs.declared.content.Content.TheVariants.{FileAt}
 use Rattle.tree_table.specs.Tables.{count_of}
-use Rattle.ref_files.proofs.InsideLemmas.{row_fixed}
+use Rattle.ref_virtual.proofs.FilesInsideLemmas.{row_fixed}
 use Rattle.reference_step.specs.Handles.{Always}
 use Rattle.reference_step.specs.State.{gives as giving}
 use Rattle.ref_virtual.proofs.streaming.file_input_row.Goals as goal

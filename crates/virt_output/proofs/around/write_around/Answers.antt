@@ -1,7 +1,7 @@
 use Rattle.std.proofs.Common.{◌∙◌, ◌≤◌, sym, ap, subst, List, ℕ, length, ◌++◌, arith}
 use Rattle.comp_types.specs.Items.{Entries}
 use Rattle.comp_write.specs.Copying.{SpellsBare}
-use Rattle.output_form.specs.Output.{output_tree}
+use Rattle.virt_output.specs.Output.{output_tree}
 use Rattle.virt_output.specs.Bytes.{front_bytes, back_bytes, CanBeNamed, CanBeSized, AreWritable}
 use Rattle.virt_output.proofs.AroundLaws.{output_spelled, few_before}
 use Rattle.virt_output.proofs.around.write_around.Goals as goal

@@ -2,7 +2,7 @@ use Rattle.std.proofs.Common.{◌∙◌, subst}
 use Rattle.std.specs.Prelude.{IsUtf8}
 use Rattle.wasm_ast.specs.declared.component.Alias.TheVariants.{Export}
 use Rattle.comp_types.specs.Views.{entries_of}
-use Rattle.output_form.specs.Output.{aliases_of}
+use Rattle.virt_output.specs.Output.{aliases_of}
 use Rattle.virt_output.proofs.FitLemmas.{alias_more, aliases_whole}
 use Rattle.virt_output.proofs.items.aliases_of.Goals as goal
 

@@ -1,7 +1,7 @@
 use Rattle.std.proofs.Common.{length}
 use Rattle.wasm_ast.specs.ComponentItems.{alias}
 use Rattle.comp_types.specs.Views.{entries_of}
-use Rattle.output_form.specs.Output.{aliases_of}
+use Rattle.virt_output.specs.Output.{aliases_of}
 use Rattle.virt_output.proofs.FitLemmas.{SoFar}
 use Rattle.virt_output.proofs.items.aliases_of.Given as goal
 

@@ -2,8 +2,8 @@ use Rattle.std.proofs.Common.{◌∙◌, ap, subst, None}
 use Rattle.std.specs.Prelude.{IsUtf8}
 use Rattle.wasm_ast.specs.declared.component.ComponentExport.{ComponentExport}
 use Rattle.comp_types.specs.Views.{entries_of}
-use Rattle.output_form.specs.Counts.{count_of, and_one}
-use Rattle.output_form.specs.Output.{exports_of}
+use Rattle.virt_output.specs.Counts.{count_of, and_one}
+use Rattle.virt_output.specs.Output.{exports_of}
 use Rattle.virt_output.proofs.FitLemmas.{export_more, exports_whole}
 use Rattle.virt_output.proofs.items.exports_of.Goals as goal
 

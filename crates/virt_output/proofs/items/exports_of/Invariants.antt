@@ -2,7 +2,7 @@ use Rattle.std.proofs.Common.{length}
 use Rattle.wasm_ast.specs.ComponentItems.{component_export}
 use Rattle.comp_types.specs.Views.{entries_of}
 use Rattle.comp_types.specs.Items.{names}
-use Rattle.output_form.specs.Output.{exports_from, exports_of}
+use Rattle.virt_output.specs.Output.{exports_from, exports_of}
 use Rattle.virt_output.proofs.FitLemmas.{SoFar, Room}
 use Rattle.virt_output.proofs.items.exports_of.Given as goal
 

@@ -1,8 +1,8 @@
 use Rattle.std.proofs.Common.{◌∙◌, Some, Err, sym, ap}
 use Rattle.std.specs.Prelude.{option_map}
-use Rattle.instance_values.specs.Targets.{func_of}
-use Rattle.instance_values.specs.declared.canon.Canon.TheVariants as canons
-use Rattle.call_frames.specs.declared.end.Stop.TheVariants as stops
+use Rattle.instance_state.specs.Targets.{func_of}
+use Rattle.instance_state.specs.declared.canon.Canon.TheVariants as canons
+use Rattle.call_moments.specs.declared.end.Stop.TheVariants as stops
 use Rattle.call_moments.specs.Shown.{depth_of}
 use Rattle.comp_calls.specs.Moments.{at}
 use Rattle.call_moments.proofs.Ending.{answer_stops, answer_none, answer_leads}

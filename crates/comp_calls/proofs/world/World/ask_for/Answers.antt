@@ -1,6 +1,6 @@
 use Rattle.std.proofs.Common.{ap}
 use Rattle.comp_calls.specs.Moments.{at}
-use Rattle.call_moments.proofs.Asking.{asking_none, asking_fails, asking_goes, asking_stops}
+use Rattle.call_moments.proofs.AskingLaws.{asking_none, asking_fails, asking_goes, asking_stops}
 use Rattle.comp_calls.proofs.world.World.ask_for.Goals as goal
 
 pub returns-in_default-clause-leads : goal.returns-in_default-clause-leads

@@ -2,7 +2,7 @@ use Rattle.std.proofs.Common.{◌≡◌, length, Some, refl}
 use Rattle.std.specs.Prelude.{slice_get}
 use Rattle.std.proofs.lemmas.Option.{slice_get_read}
 use Rattle.comp_worlds.specs.Acts.{◌>>◌}
-use Rattle.call_frames.specs.Stops.{stop_of_store}
+use Rattle.call_moments.specs.Stops.{stop_of_store}
 use Rattle.call_moments.specs.Shown.{depth_of, purpose_of}
 use Rattle.call_moments.specs.Leads.{so_far}
 use Rattle.comp_calls.specs.Moments.{at}

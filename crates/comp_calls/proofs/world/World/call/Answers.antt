@@ -2,9 +2,9 @@ use Rattle.std.proofs.Common.{◌≡◌, length, Some, Ok, Err, refl, ap, ◌∙
 use Rattle.std.specs.Prelude.{Result, slice_get}
 use Rattle.std.proofs.lemmas.Option.{slice_get_read}
 use Rattle.wit_types.specs.declared.value.Value.{Value}
-use Rattle.call_frames.specs.Words.{word_in}
-use Rattle.call_frames.specs.declared.end.Stop.{Stop}
-use Rattle.call_frames.specs.declared.end.Stop.TheVariants as stops
+use Rattle.call_moments.specs.Words.{word_in}
+use Rattle.call_moments.specs.declared.end.Stop.{Stop}
+use Rattle.call_moments.specs.declared.end.Stop.TheVariants as stops
 use Rattle.comp_calls.specs.Moments.{at}
 use Rattle.comp_calls.proofs.Begun.{LiftsArgs, call_wants, args_stop, own_asked, host_ends, host_asked}
 use Rattle.call_moments.proofs.Following.{with_instance}

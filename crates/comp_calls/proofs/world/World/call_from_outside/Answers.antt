@@ -2,7 +2,7 @@ use Rattle.std.proofs.Common.{Ok, Err, ap, subst}
 use Rattle.wit_types.specs.PlainValue.{plain_value, plain_values}
 use Rattle.wit_types.specs.declared.value.Value.TheVariants.{Record}
 use Rattle.wit_types.proofs.ValueLemmas.{plain_value-Record}
-use Rattle.instance_values.specs.declared.target.Target.TheVariants.{Mine, Theirs}
+use Rattle.instance_state.specs.declared.target.Target.TheVariants.{Mine, Theirs}
 use Rattle.comp_calls.specs.Moments.{at}
 use Rattle.comp_calls.proofs.Hosts.{runs_call_at}
 use Rattle.call_moments.specs.Canonical.{AsksHost}

@@ -1,7 +1,7 @@
 use Rattle.std.proofs.Common.{◌==◌, ◌≡◌, Ok, false, inl, inr, refl, sym, ap, subst, arith}
 use Rattle.std.proofs.lemmas.Bool.Decides.{nat_tests}
 use Rattle.comp_worlds.specs.Locals.{enter}
-use Rattle.call_frames.specs.declared.frames.Flow.TheVariants as flows
+use Rattle.call_moments.specs.declared.frame.Flow.TheVariants as flows
 use Rattle.comp_calls.specs.Moments.{at}
 use Rattle.call_moments.specs.Functions.{IsChanged}
 use Rattle.call_moments.proofs.Dropping.{destroys_refused, none_runs, begin_stops, code_runs, code_stops}

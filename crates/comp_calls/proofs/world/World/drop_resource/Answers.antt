@@ -4,7 +4,7 @@ use Rattle.std.proofs.lemmas.Option.{slice_get_read}
 use Rattle.comp_worlds.specs.Groups.{ResourceDrop}
 use Rattle.comp_worlds.specs.Locals.{gives_in}
 use Rattle.instance_state.specs.Shown.{config_of}
-use Rattle.call_frames.specs.declared.end.Stop.TheVariants as stops
+use Rattle.call_moments.specs.declared.end.Stop.TheVariants as stops
 use Rattle.call_moments.specs.Shown.{depth_of}
 use Rattle.comp_calls.specs.Moments.{at}
 use Rattle.call_moments.proofs.Following.{with_instance}

@@ -1,5 +1,5 @@
 use Rattle.std.proofs.Common.{Err, refl}
-use Rattle.call_frames.specs.declared.end.Stop.TheVariants as stops
+use Rattle.call_moments.specs.declared.end.Stop.TheVariants as stops
 use Rattle.comp_calls.specs.Moments.{at}
 use Rattle.comp_calls.proofs.Popped.{none_left}
 use Rattle.call_moments.proofs.Ending.{start_ends, served_ends, granted_ends, returned_ends, destroyed_ends, no_frame}

@@ -2,7 +2,7 @@ use Rattle.std.proofs.Common.{◌≡◌, ◌∙◌, length, Some, Err, refl, ap,
 use Rattle.std.specs.Prelude.{slice_get}
 use Rattle.std.proofs.lemmas.Option.{slice_get_read}
 use Rattle.instance_state.specs.declared.instance.Instance.{Instance}
-use Rattle.call_frames.specs.declared.end.Stop.TheVariants as stops
+use Rattle.call_moments.specs.declared.end.Stop.TheVariants as stops
 use Rattle.comp_calls.specs.Moments.{at}
 use Rattle.call_moments.specs.Canonical.{AnswersCode}
 use Rattle.call_moments.proofs.Following.{with_instance}

@@ -6,8 +6,8 @@ use Rattle.wit_types.specs.PlainValue.{plain_value}
 use Rattle.wit_types.specs.HasType.{is_of}
 use Rattle.instance_state.specs.Shown.{config_of}
 use Rattle.instance_state.specs.Loans.{indexes_of}
-use Rattle.instance_values.specs.Passed.{options_of, IsInStore}
-use Rattle.instance_values.specs.Targets.{lifting_of}
+use Rattle.instance_state.specs.Passed.{options_of, IsInStore}
+use Rattle.instance_state.specs.Targets.{lifting_of}
 use Rattle.comp_calls.specs.Moments.{at}
 use Rattle.comp_calls.proofs.Lifting.{result_lifts, lift_stops, lends_some, lends_none, holds_some}
 use Rattle.call_moments.proofs.Following.{with_instance}

@@ -2,7 +2,7 @@ use Rattle.std.proofs.Common.{◌≡◌, length, Some, Err, refl}
 use Rattle.std.specs.Prelude.{slice_get}
 use Rattle.std.proofs.lemmas.Option.{slice_get_read}
 use Rattle.wit_types.specs.PlainValue.{plain_value}
-use Rattle.call_frames.specs.declared.end.Stop.TheVariants as stops
+use Rattle.call_moments.specs.declared.end.Stop.TheVariants as stops
 use Rattle.comp_calls.specs.Moments.{at}
 use Rattle.comp_calls.proofs.Begun.{result_stop, result_go}
 use Rattle.call_moments.proofs.Following.{with_instance}

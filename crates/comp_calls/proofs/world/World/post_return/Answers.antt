@@ -1,7 +1,7 @@
 use Rattle.std.proofs.Common.{◌≡◌, ◌≤◌, ap, length, Some, Ok, refl, subst}
 use Rattle.std.specs.Prelude.{slice_get}
 use Rattle.std.proofs.lemmas.Option.{slice_get_read}
-use Rattle.call_frames.specs.declared.frames.Flow.TheVariants as flows
+use Rattle.call_moments.specs.declared.frame.Flow.TheVariants as flows
 use Rattle.comp_calls.specs.Moments.{at}
 use Rattle.call_moments.proofs.Following.{with_instance}
 use Rattle.call_moments.proofs.Serves.{ends_as, post_leads, post_fails, post_there}

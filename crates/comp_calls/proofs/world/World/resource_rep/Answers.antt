@@ -3,7 +3,7 @@ use Rattle.std.specs.Prelude.{slice_get}
 use Rattle.std.proofs.lemmas.Option.{slice_get_read}
 use Rattle.comp_worlds.specs.Groups.{ResourceRep}
 use Rattle.instance_state.specs.declared.instance.Instance.{Instance}
-use Rattle.call_frames.specs.declared.end.Stop.TheVariants as stops
+use Rattle.call_moments.specs.declared.end.Stop.TheVariants as stops
 use Rattle.comp_calls.specs.Moments.{at}
 use Rattle.call_moments.proofs.Dropping.{reads_none, performs_there, reads_fails, reads_leads}
 use Rattle.comp_calls.proofs.world.World.resource_rep.Goals as goal

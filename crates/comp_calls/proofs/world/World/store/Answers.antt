@@ -3,11 +3,11 @@ use Rattle.std.specs.Prelude.{slice_get}
 use Rattle.std.proofs.lemmas.Option.{slice_get_read}
 use Rattle.comp_calls.specs.Moments.{at}
 use Rattle.comp_calls.proofs.Begun.{ends_so, store_stops}
-use Rattle.call_frames.specs.Stops.{stop_of_store}
-use Rattle.call_frames.specs.declared.end.Stop.TheVariants as stops
+use Rattle.call_moments.specs.Stops.{stop_of_store}
+use Rattle.call_moments.specs.declared.end.Stop.TheVariants as stops
 use Rattle.call_moments.specs.Functions.{Stores}
 use Rattle.call_moments.proofs.Following.{with_instance}
-use Rattle.call_moments.proofs.Storing.{storing_there, storing_reaches, step_traps, step_done, step_asks}
+use Rattle.call_moments.proofs.StoringLaws.{storing_there, storing_reaches, step_traps, step_done, step_asks}
 use Rattle.comp_calls.proofs.world.World.store.Goals as goal
 
 pub returns-in_default-clause-leads : goal.returns-in_default-clause-leads

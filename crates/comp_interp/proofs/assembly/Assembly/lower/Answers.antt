@@ -2,7 +2,7 @@ use Rattle.std.proofs.Common.{ap, sym, subst, append-nil, ◌∙◌}
 use Rattle.std.specs.Option.{option_map}
 use Rattle.comp_link.specs.Plans.{Lowers}
 use Rattle.comp_link.specs.Linking.{Making, with_canon, link_item}
-use Rattle.instance_values.specs.Targets.{func_of}
+use Rattle.instance_state.specs.Targets.{func_of}
 use Rattle.instance_making.specs.Made.{AreMade}
 use Rattle.instance_making.specs.Shown.{Stands}
 use Rattle.comp_calls.specs.Moments.{at}

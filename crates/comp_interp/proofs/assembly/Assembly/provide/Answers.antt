@@ -1,7 +1,7 @@
 use Rattle.std.proofs.Common.{◌≡◌, length, refl, Some, slice_get}
 use Rattle.std.proofs.lemmas.Option.{slice_get_read}
-use Rattle.instance_values.specs.Targets.{func_of}
-use Rattle.call_frames.specs.Stops.{stop_of_store}
+use Rattle.instance_state.specs.Targets.{func_of}
+use Rattle.call_moments.specs.Stops.{stop_of_store}
 use Rattle.comp_link.specs.Linking.{with_canon}
 use Rattle.comp_calls.specs.Moments.{at}
 use Rattle.comp_interp.proofs.Gathering.{provided_so}

@@ -1,7 +1,7 @@
 use Rattle.std.proofs.Common.{ap, sym}
 use Rattle.comp_types.specs.Added.{takes_one}
 use Rattle.comp_link.specs.Linking.{Making, with_canon}
-use Rattle.instance_values.specs.Targets.{func_of}
+use Rattle.instance_state.specs.Targets.{func_of}
 use Rattle.comp_interp.proofs.Failing.{makes_as}
 use Rattle.comp_interp.proofs.assembly.Assembly.provide_drop.Goals as goal
 

@@ -3,7 +3,7 @@ use Rattle.std.specs.Option.{option_map}
 use Rattle.wit_types.specs.PlainValue.{plain_values}
 use Rattle.call_moments.specs.Outside.{RunsCall}
 use Rattle.comp_link.specs.Groups.{making_of}
-use Rattle.instance_values.specs.Targets.{target_of}
+use Rattle.instance_state.specs.Targets.{target_of}
 use Rattle.comp_calls.specs.Moments.{at}
 use Rattle.comp_interp.proofs.Coming.{if_ok}
 use Rattle.comp_interp.proofs.Serving.{call_left, nothing_left}

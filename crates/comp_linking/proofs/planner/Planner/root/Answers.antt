@@ -1,8 +1,8 @@
 use Rattle.std.proofs.Common.{refl, sym, subst, List, [], reverse}
 use Rattle.comp_link.specs.Plans.{End, no_scope}
 use Rattle.comp_link.specs.declared.linked.ComponentPlan.{ComponentPlan}
-use Rattle.comp_drafts.specs.declared.draft.Draft.{Draft}
-use Rattle.comp_drafts.specs.Drafts.{IsDraft}
+use Rattle.comp_linking.specs.declared.draft.Draft.{Draft}
+use Rattle.comp_linking.specs.Drafts.{IsDraft}
 use Rattle.comp_linking.specs.Walks.{AreDrafts, made}
 use Rattle.comp_linking.proofs.NestLemmas.{fresh}
 use Rattle.comp_linking.proofs.planner.Planner.root.Goals as goal

@@ -3,7 +3,7 @@ use Rattle.std.proofs.lemmas.Result.{IfOk-weaker}
 use Rattle.wasm_ast.specs.declared.component.Alias.{Alias}
 use Rattle.wasm_ast.specs.declared.component.Alias.TheVariants.{Export, CoreExport}
 use Rattle.comp_types.specs.Definitions.{AnAlias}
-use Rattle.comp_outer.specs.Judged.{JudgedIn}
+use Rattle.comp_defining.specs.Judged.{JudgedIn}
 use Rattle.comp_validate.proofs.InnerLemmas.{judged_shared}
 use Rattle.comp_validate.proofs.definitions.AliasDefines.define.Goals as goal
 

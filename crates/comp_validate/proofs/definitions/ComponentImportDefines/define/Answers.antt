@@ -1,6 +1,6 @@
 use Rattle.std.proofs.lemmas.Result.{IfOk-weaker}
 use Rattle.comp_types.specs.Definitions.{AnImport}
-use Rattle.comp_outer.proofs.Inner.{judged_inner}
+use Rattle.comp_defining.proofs.Inner.{judged_inner}
 use Rattle.comp_validate.proofs.definitions.ComponentImportDefines.define.Goals as goal
 
 pub returns : goal.returns

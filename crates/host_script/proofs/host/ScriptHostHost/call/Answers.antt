@@ -4,7 +4,7 @@ use Rattle.std.specs.Vec.Iter.{into_iter_items}
 use Rattle.wit_types.specs.Plain.{plain_result}
 use Rattle.host_port.specs.declared.answer.Observation.TheVariants as observations
 use Rattle.host_port.specs.Calls.{plain_call}
-use Rattle.script_values.proofs.Joins.{nothing_left}
+use Rattle.host_script.proofs.Joins.{nothing_left}
 use Rattle.host_script.proofs.HostLaws.{by_func, takes_item, takes_none, next_item, next_none, answer_typed, on_ok}
 use Rattle.host_script.proofs.host.ScriptHostHost.call.Goals as goal
 

@@ -1,7 +1,7 @@
 use Rattle.std.proofs.Common.{◌≡◌, ◌∙◌, ap, refl}
 use Rattle.comp_worlds.specs.Groups.{Mine as ItsOwn}
-use Rattle.instance_values.specs.Targets.{lifting_of, target_of}
-use Rattle.instance_values.specs.declared.target.Target.TheVariants.{Mine}
+use Rattle.instance_state.specs.Targets.{lifting_of, target_of}
+use Rattle.instance_state.specs.declared.target.Target.TheVariants.{Mine}
 use Rattle.comp_link.specs.Linking.{lifting_of as lifting_in}
 use Rattle.instance_making.proofs.KeepLemmas.{lift_one}
 use Rattle.instance_making.proofs.making.Making.lift.Goals as goal

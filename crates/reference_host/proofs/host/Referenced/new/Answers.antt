@@ -1,7 +1,7 @@
 use Rattle.std.proofs.Common.{List, length, ap, ◌∙◌}
 use Rattle.wit_types.specs.Plain.{Name}
 use Rattle.reference_step.specs.State.{Reference, Setup, opening}
-use Rattle.ref_listed.specs.Versions.{version_in}
+use Rattle.ref_answers.specs.Versions.{version_in}
 use Rattle.reference_host.proofs.HostLemmas.{opening_over}
 use Rattle.reference_host.proofs.VersionLemmas.{as_many}
 use Rattle.reference_host.proofs.host.Referenced.new.Goals as goal

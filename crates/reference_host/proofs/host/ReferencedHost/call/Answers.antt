@@ -3,7 +3,7 @@ use Rattle.host_port.specs.Calls.{plain_answer, plain_call}
 use Rattle.host_port.specs.Hosts.{Kept, answer_of, reacts}
 use Rattle.reference_step.specs.State.{Reference}
 use Rattle.reference_step.specs.Steps.{reference_step}
-use Rattle.ref_state.specs.States.{reference_of}
+use Rattle.reference_host.specs.States.{reference_of}
 use Rattle.reference_host.specs.Hosts.{kept_by}
 use Rattle.reference_host.proofs.HostLemmas.{answers_as, next_as}
 use Rattle.reference_host.proofs.host.ReferencedHost.call.Goals as goal

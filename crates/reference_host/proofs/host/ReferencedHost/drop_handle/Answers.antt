@@ -2,7 +2,7 @@ use Rattle.std.proofs.Common.{◌≡◌, refl, ap, ◌∙◌}
 use Rattle.host_port.specs.Hosts.{Kept, drops}
 use Rattle.reference_step.specs.State.{Reference}
 use Rattle.reference_step.specs.Steps.{reference_step}
-use Rattle.ref_state.specs.States.{reference_of}
+use Rattle.reference_host.specs.States.{reference_of}
 use Rattle.reference_host.specs.Hosts.{kept_by}
 use Rattle.reference_host.proofs.HostLemmas.{drops_as}
 use Rattle.reference_host.proofs.host.ReferencedHost.drop_handle.Goals as goal

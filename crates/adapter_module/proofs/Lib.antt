@@ -1,4 +1,0 @@
-pub mod Lists
-pub mod Holding
-pub mod Whole
-pub mod Exporting

@@ -1,6 +1,0 @@
-ghost use Rattle.adapter_module.specs.Valid.{ModulesAreValid};
-
-/// A module is valid (WebAssembly Core 2.0, section 3.4.10) whose parts fit each other and whose bodies are valid.
-pub fn modules_are_valid()
-    ensures { ModulesAreValid }
-{}

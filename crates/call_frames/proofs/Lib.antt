@@ -1,3 +1,0 @@
-pub mod Plans
-pub mod Faults
-pub mod Firsts

@@ -1,6 +1,0 @@
-pub mod ItemCauses
-pub mod TypeCauses
-pub mod TypeSectionCauses
-pub mod ComponentCauses
-pub mod SameReads
-pub mod AnyDepth

@@ -1,0 +1,33 @@
+use Rattle.std.proofs.Common.{◌∙◌, ap, refl, sym, subst, slice_get, ◌∷◌}
+use Rattle.std.proofs.lemmas.Result.{on_ok_weaker}
+use Rattle.std.specs.Option.{option_and_then}
+use Rattle.wasm_ast.specs.declared.component.Alias.TheVariants.{Outer}
+use Rattle.wasm_ast.specs.declared.component.OuterSort.TheVariants as sorts
+use Rattle.comp_scopes.specs.Found.{EachSome}
+use Rattle.comp_scopes.proofs.EachLemmas.{none_of, some_of}
+use Rattle.comp_scopes.specs.Stands.{IsEntry}
+use Rattle.comp_types.specs.Spaces.{Space, and_type}
+use Rattle.comp_types.specs.Added.{and_some_type}
+use Rattle.type_table.specs.Covers.{Covers}
+use Rattle.type_table.proofs.ScopeLaws.{covers_alias}
+use Rattle.comp_defining.specs.Around.{StandAll}
+use Rattle.comp_defining.proofs.Inner.{inner_stands}
+use Rattle.comp_defining.proofs.OuterLemmas.{added_type}
+use Rattle.comp_defining.proofs.outer.add_type.Goals as goal
+
+pub returns-in-None : goal.returns-in-None
+returns-in-None c = λ around s h.
+    let o = slice_get (s ∷ around) c.args.count in
+    let none = none_of IsEntry (option_and_then (λ (t : Space). slice_get t.types c.args.index) o) (subst (EachSome IsEntry (option_and_then (λ (t : Space). slice_get t.types c.args.index) o)) c.in-None.is (c.in_ok-type_at.ensures around s h)) in
+    subst (λ (t : Space). StandAll around t c.args.scopes.now) (sym (added_type s o c.args.index ∙ ap (and_some_type s) none)) h
+
+pub returns-in-Some : goal.returns-in-Some
+returns-in-Some c =
+    on_ok_weaker c.add_entry.result (λ k around s h.
+    let o = slice_get (s ∷ around) c.args.count in
+    let e = some_of IsEntry (option_and_then (λ (t : Space). slice_get t.types c.args.index) o) c.in-Some.entry (subst (EachSome IsEntry (option_and_then (λ (t : Space). slice_get t.types c.args.index) o)) c.in-Some.is (c.in_ok-type_at.ensures around s h)) in
+    let x = c.args.scopes.now in
+    let same = added_type s o c.args.index ∙ ap (and_some_type s) e.1 in
+    let covers = subst (Covers x.types) same (covers_alias x.types around s (Outer sorts.Type c.args.count c.args.index) h.covered.0 h.covered.1) in
+    subst (λ (t : Space). StandAll around t (record x { inner = c.add_entry.new.self })) (sym same)
+    (inner_stands around s (and_type s e.0) x c.add_entry.new.self x.types h (k s e.0 h.inner e.2) refl (covers, h.covered.1))) c.add_entry.ensures

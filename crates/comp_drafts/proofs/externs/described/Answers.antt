@@ -1,6 +1,0 @@
-use Rattle.comp_drafts.proofs.externs.described.Goals as goal
-
-pub returns : goal.returns
-returns c = λ s h covers.
-    let d = c.in_ok-described.ensures s h covers in
-    (d.is.item, d.grew)

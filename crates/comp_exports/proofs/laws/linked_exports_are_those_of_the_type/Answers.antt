@@ -1,5 +1,0 @@
-use Rattle.comp_exports.proofs.Made.{exports_linked}
-use Rattle.comp_exports.proofs.laws.linked_exports_are_those_of_the_type.Goals as goal
-
-pub returns : goal.returns
-returns c = exports_linked

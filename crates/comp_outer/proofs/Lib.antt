@@ -1,3 +1,0 @@
-pub mod AroundLemmas
-pub mod Inner
-pub mod OuterLemmas

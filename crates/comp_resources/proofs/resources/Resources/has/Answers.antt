@@ -1,7 +1,0 @@
-use Rattle.std.proofs.Common.{◌∙◌, ap}
-use Rattle.comp_types.specs.GivenResources.{is_among}
-use Rattle.comp_resources.proofs.OnceLemmas.{set-has}
-use Rattle.comp_resources.proofs.resources.Resources.has.Goals as goal
-
-pub returns : goal.returns
-returns c = set-has _ c.args.resource _ c.contains.ensures ∙ ap (λ ks. is_among ks c.args.resource) c.self.view_is

@@ -1,6 +1,0 @@
-use Rattle.std.proofs.Common.{◌≡◌, [], drop}
-use Rattle.comp_resources.specs.Once.{and_each}
-use Rattle.comp_resources.proofs.resources.Resources.of.Given as goal
-
-abbrev pub invariant-loop-resource : goal.invariant-loop-resource
-invariant-loop-resource l = and_each [] l.list ≡ and_each l.all (drop l.resource-index l.list)

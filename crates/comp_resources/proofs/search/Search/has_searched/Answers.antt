@@ -1,5 +1,0 @@
-use Rattle.comp_resources.proofs.OnceLemmas.{set-has}
-use Rattle.comp_resources.proofs.search.Search.has_searched.Goals as goal
-
-pub returns : goal.returns
-returns c = set-has _ c.args.at _ c.contains.ensures

@@ -1,5 +1,0 @@
-use Rattle.comp_resources.proofs.OnceLemmas.{once-set}
-use Rattle.comp_resources.proofs.search.Search.mark.Goals as goal
-
-pub returns-clause-searched : goal.returns-clause-searched
-returns-clause-searched c = once-set _ _ c.args.at c.in_ok-insert.ensures.keys

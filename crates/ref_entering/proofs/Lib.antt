@@ -1,8 +1,0 @@
-pub mod HandleLaws
-pub mod NumberLaws
-pub mod Bounds
-pub mod KindBounds
-pub mod ListedLaw
-pub mod EnterLemmas
-pub mod SeenEntering
-pub mod KeepLaws

@@ -1,4 +1,0 @@
-pub mod Numbers
-pub mod RoomEntering
-pub mod Entering
-pub mod Contents

@@ -1,4 +1,0 @@
-use Rattle.ref_files.proofs.leading.lead.Given as goal
-
-abbrev pub ghosts-lead_counted : goal.ghosts-lead_counted
-ghosts-lead_counted a = record { name = a.blank.name; parts = a.blank.parts }

@@ -1,6 +1,0 @@
-use Rattle.tree_table.specs.Tables.{count_of}
-use Rattle.ref_files.proofs.InsideLemmas.{row_fixed}
-use Rattle.ref_files.proofs.rows.type_row.Goals as goal
-
-pub returns-clause-inside : goal.returns-clause-inside
-returns-clause-inside c = row_fixed c.returns.result _ (count_of c.args.table.now) c.returns.ensures

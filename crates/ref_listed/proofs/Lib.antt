@@ -1,5 +1,0 @@
-mod NumberLaws
-mod NameLaws
-mod KindLaws
-mod SmallLaw
-mod TableLaws

@@ -1,5 +1,0 @@
-use Rattle.ref_listed.specs.Versions.{AreFirst}
-use Rattle.ref_listed.proofs.described.described.Given as goal
-
-abbrev pub invariant-loop-number : goal.invariant-loop-number
-invariant-loop-number l = AreFirst l.number l.interfaces.items

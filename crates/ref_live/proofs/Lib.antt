@@ -1,5 +1,0 @@
-mod NumberLemmas
-mod KeptLemmas
-mod CountLemmas
-mod HoldingLemmas
-mod LiveLemmas

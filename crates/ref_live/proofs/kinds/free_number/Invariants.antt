@@ -1,4 +1,0 @@
-use Rattle.ref_live.proofs.kinds.free_number.Given as goal
-
-abbrev pub ghosts-free_counted : goal.ghosts-free_counted
-ghosts-free_counted a = record { name = a.blank.name; parts = a.blank.parts }

@@ -1,4 +1,0 @@
-pub mod Contents
-pub mod Numbers
-pub mod Lives
-pub mod Holding

@@ -1,6 +1,0 @@
-use Rattle.std.proofs.Common.{◌≡◌, rules}
-use Rattle.script_values.proofs.Only.{more_than_one}
-use Rattle.script_values.proofs.members.only_member.Goals as goal
-
-pub returns : goal.returns
-returns c = rw c.in-Some.ensures.removal (more_than_one c.in-Some.member c.pop_first.new.self.entries (λ e. search (rules, c.if-is_empty.ensures, c.if-is_empty.false, c.is_empty.ensures, e)))
