@@ -1,4 +1,5 @@
-//! Rows of typed values: laid out and read in memory by the Canonical ABI, and in scripts and lines.
+//! Rows of typed values: laid out and read in memory by the Canonical ABI, in scripts and lines, and with handles that an instance
+//! gives and takes.
 #![tactic(auto)]
 
 #[cfg(test)]
@@ -21,6 +22,8 @@ mod rows;
 mod scripts;
 #[cfg(test)]
 mod storing;
+#[cfg(test)]
+mod tables;
 #[cfg(test)]
 mod texts;
 #[cfg(test)]
