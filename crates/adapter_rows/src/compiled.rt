@@ -21,7 +21,7 @@ const OTHERS: &str = "\nasks 0 > 0 | answer\n0 > 0w | load 2 0 0 8";
 
 /// A world whose first stub is that of a line in two parts.
 pub fn world_with(alloc: Global, head: &str, routine: &str) -> Result<World, Fail>
-    ensures { IfOk result (λ w. IsFine (scene_of w.store)) }
+    ensures { IfOk result (λ w. IsFine (scene_of w.store.value)) }
 {
     let mut lines = String::from_str(alloc, head)?;
     lines.push_str(routine)?;
@@ -31,7 +31,7 @@ pub fn world_with(alloc: Global, head: &str, routine: &str) -> Result<World, Fai
 
 /// Adds what the memory begins with, as four numbers of 64 bits.
 fn read_front(alloc: Global, world: &mut World, ran: &mut Ran) -> Result<(), Fail>
-    requires { IsFine (scene_of world.old.store) }
+    requires { IsFine (scene_of world.old.store.value) }
 {
     for place in ["0", "8", "16", "24"] {
         let word = call_by_name(alloc, world, "2", place, &[])?;

@@ -40,8 +40,8 @@ fn answers(alloc: Global, words: &str) -> Result<Vec<CoreValues>, Fail> {
 
 /// `NAME ARGUMENTS < ANSWER`: calls a function of a stub by its place, or one of the state module by its name.
 fn called(alloc: Global, world: &mut World, work: &str) -> Result<Ran, Fail>
-    requires { IsFine (scene_of world.old.store) }
-    ensures { IfOk result (λ _. IsFine (scene_of world.new.store)) }
+    requires { IsFine (scene_of world.old.store.value) }
+    ensures { IfOk result (λ _. IsFine (scene_of world.new.store.value)) }
 {
     let (call, answer) = halves(work, " < ");
     let (name, args) = halves(call, " ");
@@ -51,8 +51,8 @@ fn called(alloc: Global, world: &mut World, work: &str) -> Result<Ran, Fail>
 
 /// `CALL => WANTED in STEPS`. What is asked stands behind what is wanted.
 fn row_holds(rt: &impl Abort, alloc: Global, world: &mut World, row: &str) -> Result<(), Fail>
-    requires { IsFine (scene_of world.old.store) }
-    ensures { IfOk result (λ _. IsFine (scene_of world.new.store)) }
+    requires { IsFine (scene_of world.old.store.value) }
+    ensures { IfOk result (λ _. IsFine (scene_of world.new.store.value)) }
 {
     let (work, wanted) = halves(row, " => ");
     let (wanted, steps) = halves(wanted, " in ");
@@ -64,8 +64,8 @@ fn row_holds(rt: &impl Abort, alloc: Global, world: &mut World, row: &str) -> Re
 
 /// The rows below a line behind `-- `, which says what they are about, call a world of their own.
 fn line_holds(rt: &impl Abort, alloc: Global, world: &mut World, line: &str) -> Result<(), Fail>
-    requires { IsFine (scene_of world.old.store) }
-    ensures { IfOk result (λ _. IsFine (scene_of world.new.store)) }
+    requires { IsFine (scene_of world.old.store.value) }
+    ensures { IfOk result (λ _. IsFine (scene_of world.new.store.value)) }
 {
     if line.starts_with("-- ") {
         *world = world_of(alloc, FIVE)?;

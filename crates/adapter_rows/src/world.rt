@@ -43,10 +43,10 @@ const DROPS: u32 = 200;
 
 const ASKED: u32 = 300;
 
-/// Both modules in one store.
+/// Both modules in one store. What is large is boxed, since each function that owns it as it is costs its check ten seconds more.
 #[derive(Drop)]
 pub struct World {
-    pub store: Store,
+    pub store: Box<Store>,
     state: CoreInstance,
     stubs: CoreInstance,
 }
@@ -131,11 +131,11 @@ fn import(store: &Store, imports: &mut Externs, at: u32) -> Result<(), Fail>
 }
 
 /// Both modules of the stubs of these lines.
-fn emitted(alloc: Global, lines: &str) -> Result<Emitted, Fail>
-    ensures valid { IfOk result (λ e. IsValidModule e.state) }
-    ensures counts { IfOk result (λ e. HasCounts e.state) }
-    ensures valid_stubs { IfOk result (λ e. IsValidModule e.stubs) }
-    ensures counts_stubs { IfOk result (λ e. HasCounts e.stubs) }
+fn emitted(alloc: Global, lines: &str) -> Result<Box<Emitted>, Fail>
+    ensures valid { IfOk result (λ e. IsValidModule e.value.state) }
+    ensures counts { IfOk result (λ e. HasCounts e.value.state) }
+    ensures valid_stubs { IfOk result (λ e. IsValidModule e.value.stubs) }
+    ensures counts_stubs { IfOk result (λ e. HasCounts e.value.stubs) }
 {
     let routines = Routines {
         stubs: stubs(alloc, lines)?,
@@ -143,7 +143,8 @@ fn emitted(alloc: Global, lines: &str) -> Result<Emitted, Fail>
         image: copy_bytes(alloc, &[1, 2, 3, 4])?,
         layout: LAYOUT,
     };
-    Ok(emit(alloc, &routines)?)
+    let emitted = emit(alloc, &routines)?;
+    Ok(Box::new(alloc, emitted)?)
 }
 
 /// The functions of the embedder, by their places.
@@ -210,10 +211,10 @@ fn imports(
 
 /// Both modules of the stubs of these lines in one store. One of the stubs asks a function of the host.
 pub fn world_of(alloc: Global, lines: &str) -> Result<World, Fail>
-    ensures { IfOk result (λ w. IsFine (scene_of w.store)) }
+    ensures { IfOk result (λ w. IsFine (scene_of w.store.value)) }
 {
     let emitted = emitted(alloc, lines)?;
-    let mut store = Store::new(alloc);
+    let mut store = Box::new(alloc, Store::new(alloc))?;
     let hosts = add_hosts(alloc, &mut store)?;
     let state = state_of(alloc, &mut store, &emitted.state, hosts)?;
     let given = imports(alloc, &store, &state, hosts)?;
@@ -233,8 +234,8 @@ pub fn call_by_name(
     args: &str,
     answers: &[CoreValues],
 ) -> Result<Ran, Fail>
-    requires { IsFine (scene_of world.old.store) }
-    ensures { IfOk result (λ _. IsFine (scene_of world.new.store)) }
+    requires { IsFine (scene_of world.old.store.value) }
+    ensures { IfOk result (λ _. IsFine (scene_of world.new.store.value)) }
 {
     let args = Items::new(values(alloc, args)?);
     match export_of(&world.stubs, name).or(export_of(&world.state, name)) {

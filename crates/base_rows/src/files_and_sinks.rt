@@ -35,12 +35,14 @@ fn places(a: Global, numbers: &[u64]) -> Result<Places, Fail> {
     Ok(Items::new(Vec::from_slice(a, numbers)?))
 }
 
-fn files_with(a: Global, failing: &[u64]) -> Result<MemFiles, Fail> {
+/// They are boxed, since each function that owns them as they are costs its check ten seconds more.
+fn files_with(a: Global, failing: &[u64]) -> Result<Box<MemFiles>, Fail> {
     let contents = contents(a)?;
     if !contents.is_in_order() {
         return Err(Fail::new("not in order"));
     }
-    Ok(MemFiles::new(a, contents, places(a, failing)?)?)
+    let files = MemFiles::new(a, contents, places(a, failing)?)?;
+    Ok(Box::new(a, files)?)
 }
 
 const SEVENS: [u8; 30] = [7; 30];
@@ -161,7 +163,7 @@ fn put(a: Global, sink: &mut MemSink, text: &str) -> Result<String, Fail> {
 #[test]
 fn keeps_what_is_put(rt: HostRuntime) -> Result<(), Fail> {
     let a = rt.alloc();
-    let mut sink = MemSink::new(a, places(a, &[1])?);
+    let mut sink = Box::new(a, MemSink::new(a, places(a, &[1])?))?;
     sink.reserve(a, 3)?;
     for row in PUTS.lines() {
         let (text, wanted) = parts(row, " => ")?;

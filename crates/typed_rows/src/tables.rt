@@ -15,12 +15,12 @@ use std::test::Fail;
 use value_handles::{ValueHandle, has_handles};
 use wit_types::{Types, Value, Values, WitType};
 
-/// What the steps of a row go over.
+/// What the steps of a row go over. The instance is boxed, since each function that owns it as it is costs its check more.
 #[derive(Drop)]
 struct Desk {
     table: Handles,
     owners: Owners,
-    instance: Instance,
+    instance: Box<Instance>,
 }
 
 fn told(alloc: Global, value: &impl Debug) -> Result<String, Fail> {
@@ -219,7 +219,7 @@ fn desk_of(alloc: Global, resources: &str) -> Result<Desk, Fail> {
     Ok(Desk {
         table: table(alloc, resources)?,
         owners,
-        instance: Instance::new(alloc),
+        instance: Box::new(alloc, Instance::new(alloc))?,
     })
 }
 

@@ -3,4 +3,4 @@ use Rattle.core_store.specs.Fine.{IsFine}
 use Rattle.adapter_rows.proofs.compiled.read_front.Given as goal
 
 abbrev pub invariant-loop-place : goal.invariant-loop-place
-invariant-loop-place l = IsFine (scene_of l.world.store)
+invariant-loop-place l = IsFine (scene_of l.world.store.value)

@@ -3,4 +3,4 @@ use Rattle.core_store.specs.Fine.{IsFine}
 use Rattle.adapter_rows.proofs.emitted.rows_hold.Given as goal
 
 abbrev pub invariant-loop-line : goal.invariant-loop-line
-invariant-loop-line g l = IsFine (scene_of l.both.store)
+invariant-loop-line g l = IsFine (scene_of l.both.store.value)
