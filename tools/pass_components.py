@@ -1,7 +1,7 @@
 #!/usr/bin/env python3
 """Writes the components of crates/engine_rows that pass each call on to WASI, so that a script says what a program asks for.
 
-usage: tools/pass_components.py FOLDER: the interfaces are read from the tables of crates/wasi_io, wasi_fs and wasi_net.
+usage: tools/pass_components.py FOLDER: the interfaces are read from the tables of crates/wasi_listed.
 
 Each listed function is exported under its name: a method as RESOURCE-METHOD, a function of a clock as CLOCK-FUNCTION. In its type each
 handle is a u32: what stands there is the index in the component's own table of handles. `drop-RESOURCE` drops such an index. Of the
@@ -111,8 +111,8 @@ def read_item(item, home, known, functions):
 def read_tables():
     """Of each interface its resources and its functions; of a function its name there, its parameters and its result."""
     found, known = {}, {}
-    for crate in ["wasi_io", "wasi_fs", "wasi_net"]:
-        with open(os.path.join(CRATES, crate, "src", "table.rt"), encoding="utf-8") as file:
+    for group in ["io", "fs", "net"]:
+        with open(os.path.join(CRATES, "wasi_listed", "src", f"{group}_table.rt"), encoding="utf-8") as file:
             table = file.read().split('"')[1]
         for interface in re.sub(r"\\\n *", "", table).split("."):
             name, *items = interface.split(";")
