@@ -2,7 +2,6 @@
 use Rattle.std.proofs.Common.{◌≡◌, ℕ, ap, refl, sym, ◌∙◌, Option, Some, None, Global, List as Lst, [], ◌∷◌, ◌++◌}
 use Rattle.std.specs.declared.rc.Rc.{Rc}
 use Rattle.wit_types.specs.declared.types.Field.{Field, out-Field}
-use Rattle.wit_types.specs.declared.types.Case.{Case, out-Case}
 use Rattle.wit_types.specs.declared.types.WitType.{WitType, Row_of-WitType, end_of-WitType, more_of-WitType, items-the_row-WitType, items_hidden-the_row-WitType-0, Held-WitType-Result-0, None', Some', view-WitType-Result-0}
 use Rattle.wit_types.specs.declared.types.WitType.TheVariants.{Bool, S8, U8, S16, U16, S32, U32, S64, U64, Char, Str, Record, Record', Variant, Variant', Tuple, List, Flags, Enum, Option as Optional, Result, Own, Borrow}
 use Rattle.wit_types.specs.declared.types.Types.{Types}
@@ -11,7 +10,7 @@ use Rattle.virt_base.specs.declared.text.Text.{Text}
 use Rattle.wit_types.specs.declared.types.WitType.TheBlock.{hidden-the_row-WitType-0}
 use Rattle.wit_types.specs.declared.types.Fields.{Fields, Fields', out-Fields, outs-Fields', items_shown-the_row-Field-2, Row_of-Field, end_of-Field, more_of-Field, items-the_row-Field}
 use Rattle.wit_types.specs.declared.types.Cases.{Cases, Cases', out-Cases, outs-Cases', items_shown-the_row-Case-1, Row_of-Case, end_of-Case, more_of-Case, items-the_row-Case}
-use Rattle.wit_types.specs.Plain.{Name, OneByte, TwoBytes, FourBytes, EightBytes, AsRecord, AsTuple, AsVariant, AsEnum, AsOption, AsResult, Plain, Parts, BoolType, SignedType, UnsignedType, CharType, StringType, ListType, RecordType, VariantType, FlagsType, OwnType, BorrowType, End, More, Bare, bare, plain, plain_fields, plain_types, plain_cases, plain_case, fields_of, types_of, cases_of, payload_of, case_part}
+use Rattle.wit_types.specs.Plain.{Name, OneByte, TwoBytes, FourBytes, EightBytes, AsRecord, AsTuple, AsVariant, AsEnum, AsOption, AsResult, Parts, BoolType, SignedType, UnsignedType, CharType, StringType, ListType, RecordType, VariantType, FlagsType, OwnType, BorrowType, End, More, Bare, bare, plain, plain_fields, plain_types, plain_cases, plain_case, fields_of, types_of, cases_of, payload_of, case_part}
 
 fields_of-row : (n : _) (row : Row_of-Field n) → fields_of (items-the_row-Field n row) ≡ plain_fields row
 unfolding plain_fields

@@ -133,7 +133,7 @@ fn are_types_bytes(bytes: &[u8], types: &[WitType]) -> bool
     true
 }
 
-#[cycle(has_type)]
+#[cycle(passes)]
 fn is_payload(payload: &Option<Box<Value>>, ty: &Option<Rc<WitType>>) -> bool
     ensures { result ≡ is_of_payload (payload_of ty.now) (value_payload_of payload.now) }
 {
@@ -143,17 +143,17 @@ fn is_payload(payload: &Option<Box<Value>>, ty: &Option<Rc<WitType>>) -> bool
     }
 }
 
-#[cycle(has_type)]
+#[cycle(passes)]
 fn is_present(payload: &Option<Box<Value>>, ty: &WitType) -> bool
     ensures { result ≡ is_with (λ v. is_of (plain ty.now) v) (value_payload_of payload.now) }
 {
     match payload {
         None => false,
-        Some(value) => has_type(value, ty),
+        Some(value) => passes(value, ty),
     }
 }
 
-#[cycle(has_type)]
+#[cycle(passes)]
 fn is_list(value: &Value, item: &WitType) -> bool
     ensures { result ≡ is_list (λ v. is_of (plain item.now) v) (plain_value value.now) }
 {
@@ -163,7 +163,7 @@ fn is_list(value: &Value, item: &WitType) -> bool
     }
 }
 
-#[cycle(has_type)]
+#[cycle(passes)]
 fn are_items(values: &Values, item: &WitType) -> bool
     ensures { result ≡ all_pass (λ v. is_of (plain item.now) v) (plain_values values.now) }
 {
@@ -173,19 +173,19 @@ fn are_items(values: &Values, item: &WitType) -> bool
     }
 }
 
-#[cycle(has_type)]
+#[cycle(passes)]
 fn are_values(values: &[Value], item: &WitType) -> bool
     ensures { result ≡ all_pass (λ v. is_of (plain item.now) v) (values_of values.now) }
 {
     for value in values {
-        if !has_type(value, item) {
+        if !passes(value, item) {
             return false;
         }
     }
     true
 }
 
-#[cycle(has_type)]
+#[cycle(passes)]
 fn is_record(value: &Value, fields: &[Field]) -> bool
     ensures { result ≡ is_record (λ xs. are_of (fields_of fields.now) xs) (plain_value value.now) }
 {
@@ -195,7 +195,7 @@ fn is_record(value: &Value, fields: &[Field]) -> bool
     }
 }
 
-#[cycle(has_type)]
+#[cycle(passes)]
 fn are_fields(values: &Values, fields: &[Field]) -> bool
     ensures { result ≡ are_of (fields_of fields.now) (plain_values values.now) }
 {
@@ -205,7 +205,7 @@ fn are_fields(values: &Values, fields: &[Field]) -> bool
     }
 }
 
-#[cycle(has_type)]
+#[cycle(passes)]
 fn are_fields_each(values: &[Value], fields: &[Field]) -> bool
     ensures { result ≡ are_of (fields_of fields.now) (values_of values.now) }
 {
@@ -213,14 +213,14 @@ fn are_fields_each(values: &[Value], fields: &[Field]) -> bool
         return false;
     }
     for i in 0..fields.len() {
-        if !has_type(&values[i], &fields[i].ty) {
+        if !passes(&values[i], &fields[i].ty) {
             return false;
         }
     }
     true
 }
 
-#[cycle(has_type)]
+#[cycle(passes)]
 fn is_tuple(value: &Value, types: &[WitType]) -> bool
     ensures { result ≡ is_record (λ xs. are_of (types_of types.now) xs) (plain_value value.now) }
 {
@@ -230,7 +230,7 @@ fn is_tuple(value: &Value, types: &[WitType]) -> bool
     }
 }
 
-#[cycle(has_type)]
+#[cycle(passes)]
 fn are_parts(values: &Values, types: &[WitType]) -> bool
     ensures { result ≡ are_of (types_of types.now) (plain_values values.now) }
 {
@@ -240,7 +240,7 @@ fn are_parts(values: &Values, types: &[WitType]) -> bool
     }
 }
 
-#[cycle(has_type)]
+#[cycle(passes)]
 fn are_types_each(values: &[Value], types: &[WitType]) -> bool
     ensures { result ≡ are_of (types_of types.now) (values_of values.now) }
 {
@@ -248,14 +248,14 @@ fn are_types_each(values: &[Value], types: &[WitType]) -> bool
         return false;
     }
     for i in 0..types.len() {
-        if !has_type(&values[i], &types[i]) {
+        if !passes(&values[i], &types[i]) {
             return false;
         }
     }
     true
 }
 
-#[cycle(has_type)]
+#[cycle(passes)]
 fn is_variant(value: &Value, cases: &[Case]) -> bool
     ensures { result ≡ is_variant (λ n x. is_of_case (cases_of cases.now) n x) (plain_value value.now) }
 {
@@ -277,7 +277,7 @@ fn is_enum(value: &Value, count: usize) -> bool
     }
 }
 
-#[cycle(has_type)]
+#[cycle(passes)]
 fn is_option(value: &Value, some: &WitType) -> bool
     ensures { result ≡ is_variant (λ n x. is_of_case (Bare [] (More [] (plain some.now) End)) n x) (plain_value value.now) }
 {
@@ -293,7 +293,7 @@ fn is_option(value: &Value, some: &WitType) -> bool
     }
 }
 
-#[cycle(has_type)]
+#[cycle(passes)]
 fn is_result(value: &Value, ok: &Option<Rc<WitType>>, err: &Option<Rc<WitType>>) -> bool
     ensures { result ≡ is_variant (λ n x. is_of_case (case_part [] (payload_of ok.now) (case_part [] (payload_of err.now) End)) n x) (plain_value value.now) }
 {
@@ -309,12 +309,10 @@ fn is_result(value: &Value, ok: &Option<Rc<WitType>>, err: &Option<Rc<WitType>>)
     }
 }
 
-/// Whether the value has the type. A handle type has every handle.
-#[cycle(has_type)]
+#[cycle(passes)]
 #[tactic(auto, using(crate::proofs::PlainLemmas::plains, crate::proofs::ValueLemmas::values))]
-pub fn has_type(value: &Value, ty: &WitType) -> bool
-    ensures value { result ≡ is_of (plain ty.now) (plain_value value.now) }
-    ensures rule { IsTrue result ↔ HasType value.now ty.now }
+fn passes(value: &Value, ty: &WitType) -> bool
+    ensures { result ≡ is_of (plain ty.now) (plain_value value.now) }
 {
     match ty {
         WitType::Bool => is_bool(value),
@@ -338,4 +336,12 @@ pub fn has_type(value: &Value, ty: &WitType) -> bool
         WitType::Result(ok, err) => is_result(value, ok, err),
         WitType::Own(_) | WitType::Borrow(_) => is_handle(value),
     }
+}
+
+/// Whether the value has the type. A handle type has every handle.
+pub fn has_type(value: &Value, ty: &WitType) -> bool
+    ensures value { result ≡ is_of (plain ty.now) (plain_value value.now) }
+    ensures rule { IsTrue result ↔ HasType value.now ty.now }
+{
+    passes(value, ty)
 }

@@ -2,7 +2,7 @@ use Rattle.std.proofs.Common.{◌≡◌, drop}
 use Rattle.wit_types.specs.Plain.{plain, fields_of, types_of}
 use Rattle.wit_types.specs.PlainValue.{values_of}
 use Rattle.wit_types.specs.HasType.{is_of, are_of, all_pass}
-use Rattle.wit_types.proofs.typing.+has_type.Given as goal
+use Rattle.wit_types.proofs.typing.+passes.Given as goal
 
 abbrev pub invariant-are_values-loop-value : goal.invariant-are_values-loop-value
 invariant-are_values-loop-value l = all_pass (λ v. is_of (plain l.item) v) (values_of (drop l.value-index l.values)) ≡ all_pass (λ v. is_of (plain l.item) v) (values_of l.values)
