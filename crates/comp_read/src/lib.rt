@@ -1,4 +1,4 @@
-//! The reader of components.
+//! The reader of components, and a law on its refusals: why a component stops at a byte that is not supported.
 #![tactic(auto)]
 
 mod causes;
