@@ -1,4 +1,4 @@
-//! Rows for what every crate stands on: numbers, texts, the outside, formats and trees.
+//! Rows for what every crate stands on: numbers, texts, the outside, in memory and the machine's, formats and steps.
 #![tactic(auto)]
 
 #[cfg(test)]
@@ -9,6 +9,8 @@ mod formats;
 mod kept_types;
 #[cfg(test)]
 mod numbers;
+#[cfg(test)]
+mod real_files;
 #[cfg(test)]
 mod rows;
 #[cfg(test)]

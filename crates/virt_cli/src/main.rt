@@ -1,11 +1,7 @@
 //! The program `wasi-virt`: the machine's files, standard output and words, around one call.
 #![tactic(auto)]
 
-mod real_files;
-mod real_sink;
-
-use real_files::RealFiles;
-use real_sink::RealSink;
+use real_outside::{RealFiles, RealSink};
 use std::io::BufWriter;
 use std::process::ExitCode;
 use std::{env, io};

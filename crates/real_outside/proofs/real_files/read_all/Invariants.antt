@@ -1,5 +1,5 @@
 use Rattle.std.proofs.Common.{◌≤◌, vec_len}
-use Rattle.virt_cli.proofs.real_files.read_all.Given as goal
+use Rattle.real_outside.proofs.real_files.read_all.Given as goal
 
 abbrev pub invariant-loop : goal.invariant-loop
 invariant-loop g l = vec_len l.bytes ≤ l.limit

@@ -1,5 +1,5 @@
 use Rattle.std.proofs.Common.{length}
-use Rattle.virt_cli.proofs.real_files.write_whole.Given as goal
+use Rattle.real_outside.proofs.real_files.write_whole.Given as goal
 
 abbrev pub decreases-loop-rest : goal.decreases-loop-rest
 decreases-loop-rest g l = length l.rest

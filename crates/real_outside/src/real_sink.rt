@@ -34,7 +34,7 @@ impl<W: Write> RealSink<W> {
 }
 
 impl<W: Write> Sink for RealSink<W> {
-    ghost use Rattle.virt_cli.specs.Real.{untold_sink};
+    ghost use Rattle.real_outside.specs.Real.{untold_sink};
 
     ghost state = { λ s. untold_sink s.faults };
 
