@@ -58,11 +58,11 @@ fn is_callable(store: &Store, at: u32, count: usize) -> bool
 fn go_on(
     alloc: Global,
     store: &mut Store,
-    mut machine: Machine,
+    machine: &mut Machine,
     answers: &[CoreValues],
     ran: &mut Ran,
 ) -> Result<(), Fail>
-    requires goes { Goes machine store.old }
+    requires goes { Goes machine.old store.old }
     requires fine { IsFine (scene_of store.old) }
     ensures fine { IfOk result (λ _. IsFine (scene_of store.new)) }
 {
@@ -108,8 +108,8 @@ pub fn call(
     if !is_callable(store, at, args.len()) {
         return Err(Fail::from("no function of these arguments"));
     }
-    let machine = Machine::start(alloc, at, args)?;
+    let mut machine = Machine::start(alloc, at, args)?;
     let mut ran = unanswered(alloc, "trap");
-    go_on(alloc, store, machine, answers, &mut ran)?;
+    go_on(alloc, store, &mut machine, answers, &mut ran)?;
     Ok(ran)
 }

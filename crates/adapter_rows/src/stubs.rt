@@ -81,11 +81,11 @@ fn fits(alloc: Global, widths: &[Width], routine: &Statements) -> Result<bool, F
 }
 
 /// A stub that has at most one result, and whose routines fit it.
-fn tried(alloc: Global, stub: Stub) -> Result<Stub, Fail>
-    requires params { All IsFlat stub.flat.params }
-    requires results { All IsFlat stub.flat.results }
-    requires host { HostFits stub.flat.results stub.host }
-    ensures { IfOk result (λ s. IsStub s) }
+fn tried(alloc: Global, stub: Box<Stub>) -> Result<Box<Stub>, Fail>
+    requires params { All IsFlat stub.value.flat.params }
+    requires results { All IsFlat stub.value.flat.results }
+    requires host { HostFits stub.value.flat.results stub.value.host }
+    ensures { IfOk result (λ s. IsStub s.value) }
 {
     let widths = stub_widths(alloc, &stub)?;
     let good = stub.flat.results.len() <= 1
@@ -97,8 +97,8 @@ fn tried(alloc: Global, stub: Stub) -> Result<Stub, Fail>
     Ok(stub)
 }
 
-fn stub_of(alloc: Global, line: &str) -> Result<Stub, Fail>
-    ensures { IfOk result (λ s. IsStub s) }
+fn stub_of(alloc: Global, line: &str) -> Result<Box<Stub>, Fail>
+    ensures { IfOk result (λ s. IsStub s.value) }
 {
     let (asks, line) = match line.strip_prefix("asks ") {
         Some(rest) => (true, rest),
@@ -114,15 +114,13 @@ fn stub_of(alloc: Global, line: &str) -> Result<Stub, Fail>
     let host = host(alloc, asks, flat.results.as_slice())?;
     let before = routine(alloc, before)?;
     let after = routine(alloc, after)?;
-    tried(
-        alloc,
-        Stub {
-            flat,
-            before,
-            host,
-            after,
-        },
-    )
+    let stub = Stub {
+        flat,
+        before,
+        host,
+        after,
+    };
+    tried(alloc, Box::new(alloc, stub)?)
 }
 
 /// The stubs of these lines.
@@ -131,7 +129,7 @@ pub fn stubs(alloc: Global, lines: &str) -> Result<Vec<Stub>, Fail>
 {
     let mut all = Vec::new(alloc);
     for line in lines.lines() {
-        all.push(stub_of(alloc, line)?)?;
+        all.push(Box::into_inner(stub_of(alloc, line)?))?;
     }
     if all.len() > 100 {
         return Err(Fail::from("too many stubs"));

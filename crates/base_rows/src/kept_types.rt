@@ -68,8 +68,12 @@ fn types(alloc: Global, count: u32) -> Result<Items<ValType>, Fail> {
 fn keeps(alloc: Global, def: TypeDef) -> Result<(), Fail> {
     let before = printed(alloc, &def)?;
     let kept = KeptType::new(alloc, def)?;
-    let found = printed(alloc, &kept.def(alloc)?)?;
-    same("a definition", found.as_str(), before.as_str())
+    let found = Box::new(alloc, kept.def(alloc)?)?;
+    same(
+        "a definition",
+        printed(alloc, &*found)?.as_str(),
+        before.as_str(),
+    )
 }
 
 fn keeps_lists(alloc: Global, count: u32) -> Result<(), Fail> {

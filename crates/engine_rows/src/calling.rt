@@ -61,12 +61,14 @@ pub fn add_file(
     contents.files.push(Named { name, value })
 }
 
-/// Files of which calls of these numbers fail.
-pub fn files_of(alloc: Global, contents: Contents, failing: Places) -> Option<MemFiles> {
+/// Files of which calls of these numbers fail. They are boxed, since each function that owns them as they are costs its check ten
+/// seconds more.
+pub fn files_of(alloc: Global, contents: Contents, failing: Places) -> Option<Box<MemFiles>> {
     if !contents.is_in_order() {
         return None;
     }
-    MemFiles::new(alloc, contents, failing).ok()
+    let files = MemFiles::new(alloc, contents, failing).ok()?;
+    Box::new(alloc, files).ok()
 }
 
 /// A sink with room for so many bytes, of whose calls those of these numbers fail.

@@ -45,7 +45,7 @@ fn add(alloc: Global, setting: &str, contents: &mut Contents) -> Result<(), NoMe
 }
 
 // Of files with one name the first counts.
-fn files_for(alloc: Global, settings: &[&str]) -> Option<MemFiles> {
+fn files_for(alloc: Global, settings: &[&str]) -> Option<Box<MemFiles>> {
     let failing = failing(alloc, settings, "fails")?;
     let mut contents = no_contents(alloc);
     for setting in settings.iter().rev() {

@@ -18,7 +18,7 @@ fn add_named(rt: &HostRuntime, word: &str, contents: &mut Contents) -> Option<()
 }
 
 /// The files that words name.
-fn files_for(rt: &HostRuntime, words: &str) -> Option<MemFiles> {
+fn files_for(rt: &HostRuntime, words: &str) -> Option<Box<MemFiles>> {
     let alloc = rt.alloc();
     let mut contents = no_contents(alloc);
     for word in words.split_whitespace() {
@@ -32,7 +32,7 @@ fn came(rt: &HostRuntime, words: &str) -> Option<String> {
     let alloc = rt.alloc();
     let mut out = sink_of(alloc, ROOM, Items::empty(alloc))?;
     let mut files = files_for(rt, words)?;
-    said(alloc, words, &mut files, &mut out)
+    said(alloc, words, &mut *files, &mut out)
 }
 
 /// What stands in the file of lines of a row of this name.
