@@ -1,4 +1,4 @@
-//! Rows for what every crate stands on: numbers, texts, the outside, in memory and the machine's, formats and steps.
+//! Rows for what every crate stands on: numbers, texts, files and sinks, in memory and the machine's, formats, and counted steps.
 #![tactic(auto)]
 
 #[cfg(test)]
