@@ -142,6 +142,7 @@ pub struct RealFiles<'r, R> {
 }
 
 impl<'r, R> RealFiles<'r, R> {
+    /// The files that this runtime reaches, with no fault counted yet.
     pub fn new(rt: &'r R) -> RealFiles<'r, R> {
         RealFiles { rt, faults: 0 }
     }

@@ -20,11 +20,12 @@ pub struct RealSink<W> {
 }
 
 impl<W: Write> RealSink<W> {
+    /// What this writer takes, with no fault counted yet.
     pub fn new(writer: W) -> RealSink<W> {
         RealSink { writer, faults: 0 }
     }
 
-    /// Writes what still waits.
+    /// Writes what still waits, and fails where the writer's `flush` does. It counts no fault.
     pub fn finish(&mut self) -> Result<(), PutFailed> {
         match self.writer.flush() {
             Ok(()) => Ok(()),
