@@ -1,14 +1,13 @@
-//! What runs: which component is refused and why, how much code one holds, and how a run ended. The components are written by hand by
-//! the Component Model's Binary.md.
+//! What runs: which component is refused and why, and how much code one holds. The components are written by hand by the Component
+//! Model's Binary.md.
 
-mod ends;
 mod scripts;
 
 use crate::reading;
 use crate::rows::{Asked, hold};
 use crate::words::{broken_rule, named, said, shown};
 use comp_read::{CompReadFault, read_component};
-use run_judge::{RunRefusal, code_bytes, judge_component};
+use component_judge::{Refusal, code_bytes, judge_component};
 use std::alloc::Global;
 use std::test::Fail;
 use virt_base::AppFault;
@@ -28,16 +27,16 @@ fn fault_in_words(alloc: Global, fault: &AppFault) -> Result<String, Fail> {
 }
 
 /// Why something is refused, in words.
-fn in_words(alloc: Global, refusal: &RunRefusal) -> Result<String, Fail> {
+fn in_words(alloc: Global, refusal: &Refusal) -> Result<String, Fail> {
     match refusal {
-        RunRefusal::Refused(fault) => fault_in_words(alloc, fault),
-        RunRefusal::OverLimit(what, value) => {
+        Refusal::Refused(fault) => fault_in_words(alloc, fault),
+        Refusal::OverLimit(what, value) => {
             let mut words = named(alloc, "over ", what.as_str())?;
             words.push(' ')?;
             shown(alloc, words.as_str(), value)
         }
-        RunRefusal::BadScript(path) => named(alloc, "at ", path.as_str()),
-        RunRefusal::NoMemory => said(alloc, "no memory"),
+        Refusal::BadScript(path) => named(alloc, "at ", path.as_str()),
+        Refusal::NoMemory => said(alloc, "no memory"),
     }
 }
 

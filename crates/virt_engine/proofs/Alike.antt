@@ -14,7 +14,7 @@ use Rattle.comp_types.specs.Added.{type_of}
 use Rattle.host_port.specs.Scripts as port
 use Rattle.host_script.specs.Script.{PlainScript, due_script, json_in}
 use Rattle.host_script.specs.declared.fault.ScriptFault.{ScriptFault}
-use Rattle.run_judge.specs.Callable.{callable}
+use Rattle.component_judge.specs.Callable.{callable}
 use Rattle.reference_step.specs.State.{opening}
 use Rattle.reference_step.specs.Steps.{reference_step}
 use Rattle.reference_host.specs.Hosts.{setup_for}
@@ -22,9 +22,10 @@ use Rattle.wasi_match.specs.declared.listed.ListedUse.{ListedUse}
 use Rattle.wasi_match.specs.Listed.{IsListed}
 use Rattle.wasi_match.specs.Verdicts.{Accepted}
 use Rattle.wasi_match.proofs.VerdictLaws.{one_verdict as one_listing}
-use Rattle.run_judge.specs.Components.{IsRefusal, IsRunnable}
-use Rattle.run_judge.specs.Applications.{IsApplicationRefusal}
-use Rattle.run_judge.specs.Inputs.{IsListedBy}
+use Rattle.component_judge.specs.Components.{IsRefusal, IsRunnable}
+use Rattle.component_judge.specs.Applications.{IsApplicationRefusal}
+use Rattle.component_judge.specs.declared.limits.Purpose.TheVariants.{Run}
+use Rattle.component_judge.specs.Inputs.{IsListedBy}
 use Rattle.virt_words.specs.Lines.{text_of}
 use Rattle.virt_engine.specs.declared.runner.Shown.{Shown}
 use Rattle.virt_engine.specs.declared.status.Status.{Status}
@@ -90,7 +91,7 @@ one_under held c name u v a b h g =
     let policy : u.policy ≡ v.policy = one_policy held name u.policy v.policy u.policy_file v.policy_file in
     let forest : u.forest ≡ v.forest = same_forest u.forest v.forest (sym u.trees ∙ ap (λ (p : Policy). (trees_due held p).answer) policy ∙ v.trees) in
     let trees : a ≡ b = one_trees held v.policy v.forest a b v.trees (subst (λ (f : Forest). AreOrdered f.trees a) forest h) g in
-    let tree : u.inputs.tree ≡ v.inputs.tree = one_component IsApplicationRefusal IsListedBy listed held c u.inputs.tree v.inputs.tree u.inputs.component v.inputs.component in
+    let tree : u.inputs.tree ≡ v.inputs.tree = one_component (IsApplicationRefusal Run) IsListedBy listed held c u.inputs.tree v.inputs.tree u.inputs.component v.inputs.component in
     let uses : u.inputs.component.fits.0 ≡ v.inputs.component.fits.0 =
     one_listed u.inputs.tree v.inputs.tree u.inputs.component.fits.0 v.inputs.component.fits.0 tree u.inputs.component.fits.1.listed v.inputs.component.fits.1.listed in
     let script : u.inputs.script.script ≡ v.inputs.script.script =

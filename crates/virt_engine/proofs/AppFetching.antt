@@ -1,71 +1,72 @@
--- What reading an application's file comes to, from its bytes and what they are judged.
-use Rattle.std.proofs.Common.{◌≡◌, sym, subst, ℕ, List, true, inl, inr, Ok, Err}
-use Rattle.std.specs.Prelude.{Option, Result, Vec, codes}
-use Rattle.std.specs.declared.alloc.Global.{Global}
+-- What reading an application's file comes to, from what judging it answers.
+use Rattle.std.proofs.Common.{◌≡◌, refl, sym, ap, subst, ℕ, ◌<◌, List, length, true, inl, inr, Ok, Err, arith}
+use Rattle.std.specs.Prelude.{Option, Some, Result}
 use Rattle.outside.specs.Files.{FilesState}
-use Rattle.comp_signature.specs.declared.ComponentType.{ComponentType}
-use Rattle.virt_engine.specs.declared.app.App.{App}
+use Rattle.comp_grammar.specs.Trees.{plain}
+use Rattle.component_judge.specs.declared.inputs.Fetched.{Fetched}
+use Rattle.component_judge.specs.declared.limits.Purpose.TheVariants.{Virt}
+use Rattle.component_judge.specs.declared.refusal.Refusal.{Refusal}
+use Rattle.component_judge.specs.declared.refusal.Refusal.TheVariants as refusals
+use Rattle.component_judge.specs.declared.unready.Unready.{Unready}
+use Rattle.component_judge.specs.declared.unready.Unready.TheVariants.{FileFault as Faulted, Refused}
+use Rattle.component_judge.specs.Limits.{bytes_limit, bytes_name}
+use Rattle.component_judge.specs.Alone.{IsAloneRefusal}
+use Rattle.component_judge.specs.Fetching.{Cause, IsTooLong}
+use Rattle.component_judge.specs.Inputs.{FetchesAlone}
 use Rattle.virt_engine.specs.declared.status.Status.{Status}
-use Rattle.virt_engine.specs.declared.status.Status.TheVariants.{Done, PolicyRefused, AppRefused, FileFault, SinkFault, OverLimit, NoMemory, ScriptRefused, Trapped, ScriptEnded, StepsSpent, BadAnswer, TooDeep, Usage}
-use Rattle.run_judge.specs.declared.unready.Unready.{Unready}
-use Rattle.run_judge.specs.Fetching.{Fetches}
-use Rattle.virt_engine.specs.Fetching.{unready_as, IsFileFault}
-use Rattle.virt_engine.proofs.Fetching.{no_fault, app_not_read}
-use Rattle.virt_engine.specs.Apps.{app_limit, Refuses, IsRefusedBy, Judges, AppCause, FetchesApp}
+use Rattle.virt_engine.specs.declared.status.Status.TheVariants.{OverLimit}
+use Rattle.virt_engine.specs.Fetching.{unready_as}
+use Rattle.virt_engine.specs.RunDue.{IsVerdictBy}
+use Rattle.virt_engine.specs.Apps.{Refuses, AppCause, FetchesApp}
+use Rattle.virt_engine.proofs.Fetching.{no_fault}
 
 module _ (name : List ℕ) (s t : FilesState) where
-  -- ---- the file was not read
+  -- bytes that are refused so call for it
+  calls_for : (bytes : List ℕ) (status : Status) → s.held.file name ≡ Some bytes → Refuses bytes status → IsVerdictBy IsAloneRefusal (s.held.file name) name status
+  calls_for bytes status there h = subst (λ (file : Option (List ℕ)). IsVerdictBy IsAloneRefusal file name status) (sym there) h
 
-  pub not_fetched : (e : Unready) → Fetches name (codes "application-bytes") app_limit s t (Err e) → FetchesApp name s t (Err (unready_as e))
-  not_fetched e f = record {
+  too_long : (refusal : Refusal) → IsTooLong name (bytes_name Virt) (bytes_limit Virt) s refusal → AppCause name s t (unready_as (Refused refusal))
+  too_long refusal long =
+      let cause : AppCause name s t (OverLimit (bytes_name Virt) long.value) = (
+        inl (refl, long.over),
+        λ told.
+            let found = long.there told in
+            let over : bytes_limit Virt < length found.0 = omega (arith, found.2, long.over) in
+            calls_for found.0 (OverLimit (bytes_name Virt) long.value) found.1 (refusals.OverLimit (bytes_name Virt) long.value, λ e. cc, inl (refl, over, sym found.2), refl),
+      ) in
+      subst (λ (r : Refusal). AppCause name s t (unready_as (Refused r))) (sym long.named) cause
+
+  refused : (bytes : List ℕ) (refusal : Refusal) → (s.told ≡ true → s.held.file name ≡ Some bytes) → IsAloneRefusal bytes refusal → AppCause name s t (unready_as (Refused refusal))
+  refused bytes (refusals.Refused fault) there h = record { bytes = bytes; refused = (refusals.Refused fault, λ e. cc, h, refl); there = there }
+  refused bytes (refusals.OverLimit what value) there h =
+      let so : Refuses bytes (OverLimit what value) = (refusals.OverLimit what value, λ e. cc, h, refl) in
+      (inr (bytes, so), λ told. calls_for bytes (OverLimit what value) (there told) so)
+  refused bytes (refusals.BadScript path) there h = absurd h
+  refused bytes refusals.NoMemory there h = tt
+
+  cause_of : (e : Unready) → Cause name (bytes_name Virt) (bytes_limit Virt) IsAloneRefusal s t e → AppCause name s t (unready_as e)
+  cause_of (Faulted kept) h = (h.asked, h.counted, h.absent)
+  cause_of (Refused refusal) (inl none) = subst (λ (r : Refusal). AppCause name s t (unready_as (Refused r))) (sym none) tt
+  cause_of (Refused refusal) (inr (inl long)) = too_long refusal long
+  cause_of (Refused refusal) (inr (inr h)) = refused h.bytes refusal h.there h.refused
+
+  pub not_fetched : (e : Unready) (r : Result Fetched Status) → r ≡ Err (unready_as e) → FetchesAlone name s t (Err e) → FetchesApp name s t r
+  not_fetched e r is f = subst (λ (x : Result Fetched Status). FetchesApp name s t x) (sym is) (record {
     goes = f.goes;
     stays = f.stays;
     app = tt;
-    cause = app_not_read name s t e f.cause;
+    cause = cause_of e f.cause;
     quiet = λ told steady some. let q = f.quiet told steady some in (q.0, no_fault e q.1);
+  })
+
+  pub fetched : (app : Fetched) → FetchesAlone name s t (Ok app) → FetchesApp name s t (Ok app)
+  fetched app f = record {
+    goes = f.goes;
+    stays = f.stays;
+    app = (
+      record { short = f.ready.short; tree = plain app.application.judged.component; application = f.ready.judges.0; there = f.ready.there },
+      f.ready.judges.1,
+    );
+    cause = tt;
+    quiet = λ told steady some. ((f.quiet told steady some).0, tt);
   }
-
-  -- ---- its bytes were judged
-
-  module _ (v : Vec ℕ Global) (f : Fetches name (codes "application-bytes") app_limit s t (Ok v)) where
-    refused_here : s.told ≡ true → (e : Status) → Refuses v.items e → IsRefusedBy (s.held.file name) name e
-    refused_here told e h = subst (λ (file : Option (List ℕ)). IsRefusedBy file name e) (sym (f.bytes told)) (inr (f.short, h))
-
-    refused : (e : Status) → Refuses v.items e → AppCause name s t e × ¬ (IsFileFault e)
-    refused (AppRefused fault) h = (record { bytes = v.items; short = f.short; refused = h; there = f.bytes }, λ (b : ⊥). b)
-    refused (OverLimit what value) h = ((inr (v.items, h), λ told. refused_here told (OverLimit what value) h), λ (b : ⊥). b)
-    refused Done h = absurd h
-    refused (PolicyRefused fault) h = absurd h
-    refused (FileFault kept) h = absurd h
-    refused SinkFault h = absurd h
-    refused NoMemory h = absurd h
-    refused (ScriptRefused path) h = absurd h
-    refused Trapped h = absurd h
-    refused ScriptEnded h = absurd h
-    refused StepsSpent h = absurd h
-    refused BadAnswer h = absurd h
-    refused TooDeep h = absurd h
-    refused Usage h = absurd h
-
-    judged_no : (e : Status) → Judges v.items (Err e) → AppCause name s t e × ¬ (IsFileFault e)
-    judged_no e h = elim h [
-      | inl none ↦ subst (λ (x : Status). AppCause name s t x × ¬ (IsFileFault x)) (sym none) (tt, λ (b : ⊥). b)
-      | inr r ↦ refused e r
-    ]
-
-    pub not_judged : (e : Status) → Judges v.items (Err e) → FetchesApp name s t (Err e)
-    not_judged e h =
-        let why = judged_no e h in
-        record { goes = f.goes; stays = f.stays; app = tt; cause = why.0; quiet = λ told steady some. ((f.quiet told steady some).0, why.1) }
-
-    pub fetched : (ty : ComponentType) → Judges v.items (Ok ty) → FetchesApp name s t (Ok (record { bytes = v; ty = ty }))
-    fetched ty h = record {
-      goes = f.goes;
-      stays = f.stays;
-      app = (record { short = f.short; tree = h.0; application = h.1; there = f.bytes }, h.2);
-      cause = tt;
-      quiet = λ told steady some. ((f.quiet told steady some).0, tt);
-    }
-
-pub hands_on : (name : List ℕ) (s t : FilesState) (r : Result App Status) (e : Status) → r ≡ Err e → FetchesApp name s t (Err e) → FetchesApp name s t r
-hands_on name s t r e same f = subst (λ (x : Result App Status). FetchesApp name s t x) (sym same) f

@@ -5,10 +5,8 @@ use Rattle.host_port.specs.Calls.{PlainObservation, Spent as IsSpent, plain_opti
 use Rattle.host_port.specs.Hosts.{HostStep}
 use Rattle.comp_worlds.specs.Acts.{End, Trapped, ScriptEnded, BadAnswer, TooDeep, end_item, Out, Next, Over, Spent, seen_before}
 use Rattle.comp_worlds.specs.Groups.{World}
-use Rattle.call_moments.specs.declared.end.RunEnd.{RunEnd as CallEnd}
+use Rattle.call_moments.specs.declared.end.RunEnd.{RunEnd}
 use Rattle.call_moments.specs.declared.end.RunEnd.TheVariants as calls
-use Rattle.run_judge.specs.declared.ends.RunEnd.{RunEnd}
-use Rattle.run_judge.specs.declared.ends.RunEnd.TheVariants as ends
 use Rattle.call_moments.specs.Configs.{world_of}
 use Rattle.call_moments.specs.Leads.{Moment}
 use Rattle.comp_interp.specs.Outcomes.{ComesTo}
@@ -17,13 +15,13 @@ use Rattle.virt_engine.specs.Told.{Item, Told, end_of, untyped, last, before, to
 
 module _ {S A : Type 0} (of : A → List Item) (conv : Option PlainValue → A) (k : List PlainObservation) where
   -- what is told, where it came out so and left this
-  abbrev pub told_by : CallEnd → List PlainObservation → Moment S → (World S → ℕ → Told) → Told
+  abbrev pub told_by : RunEnd → List PlainObservation → Moment S → (World S → ℕ → Told) → Told
   told_by (calls.Returned value) o m next = before (untyped o ++ of (conv (plain_option value))) (next (world_of m.instances m.kept.state) m.budget)
-  told_by calls.Trapped o m next = last o (seen_by calls.Trapped) ends.Trapped
-  told_by calls.ScriptEnded o m next = last o (seen_by calls.ScriptEnded) ends.ScriptEnded
-  told_by calls.BadAnswer o m next = last o (seen_by calls.BadAnswer) ends.BadAnswer
-  told_by calls.Spent o m next = last o (seen_by calls.Spent) ends.StepsSpent
-  told_by calls.TooDeep o m next = last o (seen_by calls.TooDeep) ends.TooDeep
+  told_by calls.Trapped o m next = last o (seen_by calls.Trapped) calls.Trapped
+  told_by calls.ScriptEnded o m next = last o (seen_by calls.ScriptEnded) calls.ScriptEnded
+  told_by calls.BadAnswer o m next = last o (seen_by calls.BadAnswer) calls.BadAnswer
+  told_by calls.Spent o m next = last o (seen_by calls.Spent) calls.Spent
+  told_by calls.TooDeep o m next = last o (seen_by calls.TooDeep) calls.TooDeep
 
   -- behind what was seen before, this was seen meanwhile
   pub record Tells (x : Out (World S) A) (seen : List PlainObservation) (by : List PlainObservation → (World S → ℕ → Told) → Told) : Type 0 where
@@ -45,12 +43,12 @@ module _ {S A : Type 0} (of : A → List Item) (conv : Option PlainValue → A) 
   it_is_over (Over o end') seen end e = let same : end' ≡ end = cc in record { o = o; seen_so = cc; tells = λ next i. last o (end_item (same i)) (end_of (same i)) }
   it_is_over (Spent o) seen end e = absurd cc
 
-  it_is_spent : (x : Out (World S) A) (seen : List PlainObservation) → seen_before k x ≡ Spent seen → Tells x seen (λ o next. last o IsSpent ends.StepsSpent)
+  it_is_spent : (x : Out (World S) A) (seen : List PlainObservation) → seen_before k x ≡ Spent seen → Tells x seen (λ o next. last o IsSpent calls.Spent)
   it_is_spent (Next o l w a) seen e = absurd cc
   it_is_spent (Over o end) seen e = absurd cc
   it_is_spent (Spent o) seen e = record { o = o; seen_so = cc; tells = λ next. refl }
 
-  pub it_tells : (x : Out (World S) A) (end : CallEnd) (m : Moment S) → ComesTo conv (seen_before k x) end m → Tells x m.kept.seen (λ o next. told_by end o m next)
+  pub it_tells : (x : Out (World S) A) (end : RunEnd) (m : Moment S) → ComesTo conv (seen_before k x) end m → Tells x m.kept.seen (λ o next. told_by end o m next)
   it_tells x (calls.Returned value) m e = it_goes_on x m.kept.seen m.budget (world_of m.instances m.kept.state) (conv (plain_option value)) e
   it_tells x calls.Trapped m e = it_is_over x m.kept.seen Trapped e
   it_tells x calls.ScriptEnded m e = it_is_over x m.kept.seen ScriptEnded e

@@ -24,11 +24,11 @@ use Rattle.comp_link.specs.declared.linked.Linked.{Linked}
 use Rattle.comp_link.specs.Groups.{linked_group}
 use Rattle.host_script.specs.declared.script.Call.{Call as ScriptCall}
 use Rattle.host_script.specs.Script.{PlainCall, Exports, IsTypedCall, AreTyped, call_seen}
-use Rattle.run_judge.specs.Callable.{callable}
-use Rattle.run_judge.specs.declared.component.Judged.{Judged}
-use Rattle.run_judge.specs.declared.ends.RunEnd.{RunEnd}
-use Rattle.run_judge.specs.Types.{first_handle, first_unmet, or_later, type_fault}
-use Rattle.run_judge.specs.Components.{IsRunnable, Judges}
+use Rattle.component_judge.specs.Callable.{callable}
+use Rattle.component_judge.specs.declared.component.Judged.{Judged}
+use Rattle.call_moments.specs.declared.end.RunEnd.{RunEnd}
+use Rattle.component_judge.specs.Types.{first_handle, first_unmet, or_later, type_fault}
+use Rattle.component_judge.specs.Components.{IsRunnable, Judges}
 use Rattle.output_same.proofs.Exported.{exports_fit}
 use Rattle.comp_interp.specs.Runs.{host_in, IsNew}
 use Rattle.comp_interp.specs.Outcomes.{group_in, MayCall, export_named}

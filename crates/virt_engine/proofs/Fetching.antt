@@ -7,16 +7,15 @@ use Rattle.outside.specs.Files.{FilesState}
 use Rattle.policy_data.specs.declared.policy.Policy.{Policy}
 use Rattle.policy_data.specs.declared.fault.ReadPolicyFault.{ReadPolicyFault}
 use Rattle.policy_data.specs.declared.fault.ReadPolicyFault.TheVariants as faults
-use Rattle.run_judge.specs.declared.refusal.RunRefusal.{RunRefusal}
-use Rattle.run_judge.specs.declared.refusal.RunRefusal.TheVariants as refusals
-use Rattle.run_judge.specs.declared.unready.Unready.{Unready}
-use Rattle.run_judge.specs.declared.unready.Unready.TheVariants.{FileFault as Faulted, Refused}
-use Rattle.run_judge.specs.Fetching.{IsFileFault as IsFault, IsTooLong, RefusesNone, Cause, Fetches}
+use Rattle.component_judge.specs.declared.refusal.Refusal.{Refusal}
+use Rattle.component_judge.specs.declared.refusal.Refusal.TheVariants as refusals
+use Rattle.component_judge.specs.declared.unready.Unready.{Unready}
+use Rattle.component_judge.specs.declared.unready.Unready.TheVariants.{FileFault as Faulted, Refused}
+use Rattle.component_judge.specs.Fetching.{IsFileFault as IsFault, IsTooLong, RefusesNone, Cause, Fetches}
 use Rattle.virt_engine.specs.declared.status.Status.{Status}
 use Rattle.virt_engine.specs.declared.status.Status.TheVariants.{OverLimit}
 use Rattle.virt_engine.specs.Fetching.{with_input, unready_as, IsFileFault}
 use Rattle.virt_engine.specs.Policies.{policy_limit, policy_due, refused_for, with_policy, IsPolicyVerdict, ReadsPolicy, HasPolicy, PolicyCause, FetchesPolicy}
-use Rattle.virt_engine.specs.Apps.{app_limit, IsRefusedBy, AppCause}
 use Rattle.virt_engine.proofs.PolicyLaws.{text_decides}
 
 -- only a file fault is one
@@ -34,29 +33,10 @@ too_long file bytes what name limit value next there is over =
     let long : nat_lt limit (length bytes) ≡ true = grind (arith, nat_tests, is, over) in
     rw (there, long) (ap (λ n. OverLimit what n) is)
 
--- ---- the application's file was not read
+-- ---- the policy's file was not read
 
 module _ (name : List ℕ) (s t : FilesState) where
-  app_long : (refusal : RunRefusal) → IsTooLong name (codes "application-bytes") app_limit s refusal → AppCause name s t (unready_as (Refused refusal))
-  app_long refusal long =
-      let cause : AppCause name s t (OverLimit (codes "application-bytes") long.value) = (
-        inl (refl, long.over),
-        λ told.
-            let found = long.there told in
-            let over : app_limit < length found.0 = omega (arith, found.2, long.over) in
-            subst (λ (file : Option (List ℕ)). IsRefusedBy file name (OverLimit (codes "application-bytes") long.value)) (sym found.1) (inl (over, ap (λ n. OverLimit (codes "application-bytes") n) (sym found.2))),
-      ) in
-      subst (λ (r : RunRefusal). AppCause name s t (unready_as (Refused r))) (sym long.named) cause
-
-  pub app_not_read : (e : Unready) → Cause name (codes "application-bytes") app_limit RefusesNone s t e → AppCause name s t (unready_as e)
-  app_not_read (Faulted kept) h = (h.asked, h.counted, h.absent)
-  app_not_read (Refused refusal) (inl none) = subst (λ (r : RunRefusal). AppCause name s t (unready_as (Refused r))) (sym none) tt
-  app_not_read (Refused refusal) (inr (inl long)) = app_long refusal long
-  app_not_read (Refused refusal) (inr (inr h)) = absurd h.refused
-
-  -- ---- nor the policy's
-
-  policy_long : (refusal : RunRefusal) → IsTooLong name (codes "policy-bytes") policy_limit s refusal → PolicyCause name s t (unready_as (Refused refusal))
+  policy_long : (refusal : Refusal) → IsTooLong name (codes "policy-bytes") policy_limit s refusal → PolicyCause name s t (unready_as (Refused refusal))
   policy_long refusal long =
       let cause : PolicyCause name s t (OverLimit (codes "policy-bytes") long.value) = (
         inl (refl, long.over),
@@ -64,11 +44,11 @@ module _ (name : List ℕ) (s t : FilesState) where
             let found = long.there told in
             too_long (s.held.file name) found.0 (codes "policy-bytes") name policy_limit long.value (λ z. with_policy (policy_due z) next) found.1 found.2 long.over,
       ) in
-      subst (λ (r : RunRefusal). PolicyCause name s t (unready_as (Refused r))) (sym long.named) cause
+      subst (λ (r : Refusal). PolicyCause name s t (unready_as (Refused r))) (sym long.named) cause
 
   policy_not_read : (e : Unready) → Cause name (codes "policy-bytes") policy_limit RefusesNone s t e → PolicyCause name s t (unready_as e)
   policy_not_read (Faulted kept) h = (h.asked, h.counted, h.absent)
-  policy_not_read (Refused refusal) (inl none) = subst (λ (r : RunRefusal). PolicyCause name s t (unready_as (Refused r))) (sym none) tt
+  policy_not_read (Refused refusal) (inl none) = subst (λ (r : Refusal). PolicyCause name s t (unready_as (Refused r))) (sym none) tt
   policy_not_read (Refused refusal) (inr (inl long)) = policy_long refusal long
   policy_not_read (Refused refusal) (inr (inr h)) = absurd h.refused
 

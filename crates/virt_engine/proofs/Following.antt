@@ -18,13 +18,11 @@ use Rattle.comp_worlds.proofs.Fair.{host_fair}
 use Rattle.comp_frames.specs.Running.{running}
 use Rattle.comp_frames.proofs.Unfolding.{meets_without_fuel}
 use Rattle.comp_link.specs.declared.linked.Linked.{Linked}
-use Rattle.call_moments.specs.declared.end.RunEnd.{RunEnd as CallEnd}
+use Rattle.call_moments.specs.declared.end.RunEnd.{RunEnd}
 use Rattle.call_moments.specs.declared.end.RunEnd.TheVariants as calls
 use Rattle.call_moments.specs.Configs.{configs_of, world_of}
 use Rattle.host_script.specs.declared.script.Call.{Call as ScriptCall}
 use Rattle.host_script.specs.Script.{PlainCall, Exports, call_seen}
-use Rattle.run_judge.specs.declared.ends.RunEnd.{RunEnd}
-use Rattle.run_judge.specs.declared.ends.RunEnd.TheVariants as ends
 use Rattle.script_lines.specs.Lines.{line_text}
 use Rattle.call_moments.specs.Leads.{so_far}
 use Rattle.comp_interp.specs.declared.run.Run.{Run}
@@ -83,7 +81,7 @@ ok_then (Err e) f h = tt
 
 -- ---- ends
 
-abbrev pub IsOver : CallEnd → Type 0
+abbrev pub IsOver : RunEnd → Type 0
 IsOver (calls.Returned value) = ⊥
 IsOver calls.Trapped = Unit {0}
 IsOver calls.ScriptEnded = Unit {0}
@@ -91,7 +89,7 @@ IsOver calls.BadAnswer = Unit {0}
 IsOver calls.Spent = Unit {0}
 IsOver calls.TooDeep = Unit {0}
 
-pub is_over : (end : CallEnd) → ((v : Option Value) → end ≡ calls.Returned v → ⊥) → IsOver end
+pub is_over : (end : RunEnd) → ((v : Option Value) → end ≡ calls.Returned v → ⊥) → IsOver end
 is_over (calls.Returned value) none = none value refl
 is_over calls.Trapped none = tt
 is_over calls.ScriptEnded none = tt
@@ -100,7 +98,7 @@ is_over calls.Spent none = tt
 is_over calls.TooDeep none = tt
 
 -- what ends a run has no type
-plain_line : (end : CallEnd) (ty : Option Plain) → IsOver end → line_text ty (seen_by end) ≡ line_text None (seen_by end)
+plain_line : (end : RunEnd) (ty : Option Plain) → IsOver end → line_text ty (seen_by end) ≡ line_text None (seen_by end)
 plain_line (calls.Returned value) ty h = absurd h
 plain_line calls.Trapped ty h = refl
 plain_line calls.ScriptEnded ty h = refl
@@ -109,7 +107,7 @@ plain_line calls.Spent ty h = refl
 plain_line calls.TooDeep ty h = refl
 
 module _ {H S : Type 0} (h : HostStep S) (kept : H → Kept S) where
-  pub shows_end : (end : CallEnd) (ty : Option Plain) (old new : Runner H) (how : RunEnd) (seen : PlainObservation) → how ≡ end_by end → seen ≡ seen_by end → new.run ≡ old.run → new.shown ≡ old.shown → Adds old.lines new.lines (line_text ty seen)
+  pub shows_end : (end : RunEnd) (ty : Option Plain) (old new : Runner H) (how : RunEnd) (seen : PlainObservation) → how ≡ end_by end → seen ≡ seen_by end → new.run ≡ old.run → new.shown ≡ old.shown → Adds old.lines new.lines (line_text ty seen)
       → ShowsEnd h kept end ty old how new
   shows_end end ty old new how seen is same run shown added = record {
     run = run;
@@ -128,7 +126,7 @@ module _ {H S : Type 0} (h : HostStep S) (kept : H → Kept S) where
         shown = sym (seen_count seen) ∙ ap length now;
       }
 
-  over_by : {A : Type 0} → (of : A → List Item) (conv : Option PlainValue → A) (k : List PlainObservation) (end : CallEnd) (o : List PlainObservation) (run : Run H) (next : World S → ℕ → Told) → IsOver end
+  over_by : {A : Type 0} → (of : A → List Item) (conv : Option PlainValue → A) (k : List PlainObservation) (end : RunEnd) (o : List PlainObservation) (run : Run H) (next : World S → ℕ → Told) → IsOver end
       → told_by of conv k end o (moment_in kept run) next ≡ last o (seen_by end) (end_by end)
   over_by of conv k (calls.Returned value) o run next e = absurd e
   over_by of conv k calls.Trapped o run next e = refl
@@ -137,7 +135,7 @@ module _ {H S : Type 0} (h : HostStep S) (kept : H → Kept S) where
   over_by of conv k calls.Spent o run next e = refl
   over_by of conv k calls.TooDeep o run next e = refl
 
-  over_comes : (G : Group) (whole : Told) (rest : List TypedCall) (r : Runner H) (end : CallEnd) (how : RunEnd) → IsOver end → how ≡ end_by end → IsTold whole r.lines (end_by end) → ComesOn h kept G whole rest how r
+  over_comes : (G : Group) (whole : Told) (rest : List TypedCall) (r : Runner H) (end : RunEnd) (how : RunEnd) → IsOver end → how ≡ end_by end → IsTold whole r.lines (end_by end) → ComesOn h kept G whole rest how r
   over_comes G whole rest r (calls.Returned value) how e is t = absurd e
   over_comes G whole rest r calls.Trapped how e is t = subst (λ (x : RunEnd). ComesOn h kept G whole rest x r) (sym is) t
   over_comes G whole rest r calls.ScriptEnded how e is t = subst (λ (x : RunEnd). ComesOn h kept G whole rest x r) (sym is) t
@@ -157,10 +155,10 @@ module _ {H S : Type 0} (h : HostStep S) (kept : H → Kept S) where
       ∙ sym (item_texts_more done (untyped o))
 
   -- and that of an end
-  end_lines : (items : List Item) (ty : Option Plain) (end : CallEnd) (r2 r3 : Runner H) (how : RunEnd) → r2.lines ≡ item_texts items → ShowsEnd h kept end ty r2 how r3 → r3.lines ≡ item_texts (items ++ record { ty = ty; seen = seen_by end } ∷ [])
+  end_lines : (items : List Item) (ty : Option Plain) (end : RunEnd) (r2 r3 : Runner H) (how : RunEnd) → r2.lines ≡ item_texts items → ShowsEnd h kept end ty r2 how r3 → r3.lines ≡ item_texts (items ++ record { ty = ty; seen = seen_by end } ∷ [])
   end_lines items ty end r2 r3 how lines s = s.lines ∙ ap (λ z. z ++ line_text ty (seen_by end) ∷ []) lines ∙ sym (item_texts_more items (record { ty = ty; seen = seen_by end } ∷ []))
 
-  over_lines : (done : List Item) (o : List PlainObservation) (ty : Option Plain) (end : CallEnd) (r2 r3 : Runner H) (how : RunEnd) → IsOver end → r2.lines ≡ item_texts (done ++ untyped o) → ShowsEnd h kept end ty r2 how r3
+  over_lines : (done : List Item) (o : List PlainObservation) (ty : Option Plain) (end : RunEnd) (r2 r3 : Runner H) (how : RunEnd) → IsOver end → r2.lines ≡ item_texts (done ++ untyped o) → ShowsEnd h kept end ty r2 how r3
       → r3.lines ≡ item_texts (done ++ untyped (o ++ seen_by end ∷ []))
   over_lines done o ty end r2 r3 how e lines s =
       s.lines
@@ -193,7 +191,7 @@ module _ {H S : Type 0} (h : HostStep S) (kept : H → Kept S) where
         ∙ ap (λ (w : World S). stages_act h G G.stages w budget) none_made
         ∙ (λ i. stages_act h G G.stages (world_of (sym f.run.instances i) (sym host_first i).state) (sym f.run.steps i))
 
-    module _ (exports : Exports) (cs : List PlainCall) (end : CallEnd) (r1 r2 : Runner H) (same_lines : r1.lines ≡ r0.lines) (same_shown : r1.shown ≡ r0.shown) (i : Instantiates h kept r0.run end r1.run) (s : ShowsHost h kept r1 r2) where
+    module _ (exports : Exports) (cs : List PlainCall) (end : RunEnd) (r1 r2 : Runner H) (same_lines : r1.lines ≡ r0.lines) (same_shown : r1.shown ≡ r0.shown) (i : Instantiates h kept r0.run end r1.run) (s : ShowsHost h kept r1 r2) where
       left : Left h kept (λ v. tt {0}) (so_far (moment_in kept r0.run) (stages_act h G G.stages)) r0.run end r1.run
       left = i linked first budget f.run
 
@@ -216,10 +214,10 @@ module _ {H S : Type 0} (h : HostStep S) (kept : H → Kept S) where
       -- the run itself, where all is made
       run_so : (v : Option Value) → end ≡ calls.Returned v → RunStands h kept G (told_of h kept exports cs first budget r0) (typed_calls exports cs) (untyped tells.o) r1.run
       run_so v is = record {
-        serves = subst (λ (e : CallEnd). IfReturned e (CanServe h kept r1.run)) is left.serves;
+        serves = subst (λ (e : RunEnd). IfReturned e (CanServe h kept r1.run)) is left.serves;
         group = left.group;
         is = ap (λ (z : List Item). before z (Go (world_of (moment_in kept r1.run).instances (moment_in kept r1.run).kept.state) (moment_in kept r1.run).budget)) (sym (append-nil (untyped tells.o)))
-            ∙ sym (whole_is ∙ ap (λ (e : CallEnd). told_by nothing_more (λ v. tt) (kept (host_in r0.run)).seen e tells.o (moment_in kept r1.run) Go) is);
+            ∙ sym (whole_is ∙ ap (λ (e : RunEnd). told_by nothing_more (λ v. tt) (kept (host_in r0.run)).seen e tells.o (moment_in kept r1.run) Go) is);
       }
 
       pub made_done : (v : Option Value) → end ≡ calls.Returned v → Stands h kept G (told_of h kept exports cs first budget r0) (typed_calls exports cs) r2
@@ -251,7 +249,7 @@ module _ {H S : Type 0} (h : HostStep S) (kept : H → Kept S) where
       by_target None = λ i w n. Over [] Trapped
       by_target (Some target) = refl
 
-  module _ (exports : Exports) (c : PlainCall) (whole : Told) (rest : List PlainCall) (end : CallEnd) (r0 r1 r2 r3 : Runner H) (how : RunEnd) (same_lines : r1.lines ≡ r0.lines) (same_shown : r1.shown ≡ r0.shown)
+  module _ (exports : Exports) (c : PlainCall) (whole : Told) (rest : List PlainCall) (end : RunEnd) (r0 r1 r2 r3 : Runner H) (how : RunEnd) (same_lines : r1.lines ≡ r0.lines) (same_shown : r1.shown ≡ r0.shown)
       (i : CallsExport h kept r0.run c.0 c.1 end r1.run) (s : ShowsHost h kept r1 r2) (shows : ShowsEnd h kept end (typed_call exports c).ty r2 how r3)
       (may : (target : Target) → export_named h kept (group_in r0.run) c.0 ≡ Some target → MayCall h kept target c.1) (st : Stands h kept (group_in r0.run) whole (typed_calls exports (c ∷ rest)) r0) where
     abbrev Own : Group
@@ -292,14 +290,14 @@ module _ {H S : Type 0} (h : HostStep S) (kept : H → Kept S) where
         record {
           done = st.done ++ items;
           lines =
-              subst (λ (e : CallEnd). r3.lines ≡ item_texts ((st.done ++ untyped tells_by.o) ++ record { ty = Type'; seen = seen_by e } ∷ [])) is (end_lines (st.done ++ untyped tells_by.o) Type' end r2 r3 how lines_by shows)
+              subst (λ (e : RunEnd). r3.lines ≡ item_texts ((st.done ++ untyped tells_by.o) ++ record { ty = Type'; seen = seen_by e } ∷ [])) is (end_lines (st.done ++ untyped tells_by.o) Type' end r2 r3 how lines_by shows)
               ∙ ap item_texts (append_assoc st.done (untyped tells_by.o) (result_item Type' (plain_option v)));
           shown = shows.shown ∙ seen_length r1 r2 s ∙ ap (λ (run : Run H). length (kept (host_in run)).seen) (sym shows.run);
           run = subst (λ (run : Run H). RunStands h kept Own whole (typed_calls exports rest) (st.done ++ items) run) (sym same_run) (record {
-            serves = subst (λ (e : CallEnd). IfReturned e (CanServe h kept r1.run)) is left_by.serves;
+            serves = subst (λ (e : RunEnd). IfReturned e (CanServe h kept r1.run)) is left_by.serves;
             group = left_by.group;
             is = sym (told_before st.done items (Later (world_of (moment_in kept r1.run).instances (moment_in kept r1.run).kept.state) (moment_in kept r1.run).budget))
-                ∙ ap (λ (e : CallEnd). before st.done (told_by (result_item Type') (λ v. v) (kept (host_in r0.run)).seen e tells_by.o (moment_in kept r1.run) Later)) (sym is)
+                ∙ ap (λ (e : RunEnd). before st.done (told_by (result_item Type') (λ v. v) (kept (host_in r0.run)).seen e tells_by.o (moment_in kept r1.run) Later)) (sym is)
                 ∙ rest_is;
           });
         }
@@ -310,10 +308,10 @@ module _ {H S : Type 0} (h : HostStep S) (kept : H → Kept S) where
         over_comes Own whole (typed_calls exports rest) r3 end how e shows.end
         (record { lines = over_lines st.done tells_by.o Type' end r2 r3 how e lines_by shows ∙ ap (λ (t : Told). item_texts t.items) is; end = ap (λ (t : Told). t.end) is })
 
-    done_so : how ≡ ends.Done → Stands h kept Own whole (typed_calls exports rest) r3 → ComesOn h kept Own whole (typed_calls exports rest) how r3
+    done_so : how ≡ (calls.Returned None) → Stands h kept Own whole (typed_calls exports rest) r3 → ComesOn h kept Own whole (typed_calls exports rest) how r3
     done_so is stands = subst (λ (x : RunEnd). ComesOn h kept Own whole (typed_calls exports rest) x r3) (sym is) stands
 
-    pub call_comes : (e : CallEnd) → end ≡ e → ComesOn h kept Own whole (typed_calls exports rest) how r3
+    pub call_comes : (e : RunEnd) → end ≡ e → ComesOn h kept Own whole (typed_calls exports rest) how r3
     call_comes (calls.Returned v) is = done_so (shows.end ∙ ap end_by is) (returned v is)
     call_comes calls.Trapped is = over_so (subst IsOver (sym is) tt)
     call_comes calls.ScriptEnded is = over_so (subst IsOver (sym is) tt)
@@ -322,61 +320,61 @@ module _ {H S : Type 0} (h : HostStep S) (kept : H → Kept S) where
     call_comes calls.TooDeep is = over_so (subst IsOver (sym is) tt)
 
   -- in whatever group it is that runs
-  pub calls_on : (exports : Exports) (c : PlainCall) (end : CallEnd) (r0 r1 r2 r3 : Runner H) (how : RunEnd) → r1.lines ≡ r0.lines → r1.shown ≡ r0.shown → CallsExport h kept r0.run c.0 c.1 end r1.run → ShowsHost h kept r1 r2
+  pub calls_on : (exports : Exports) (c : PlainCall) (end : RunEnd) (r0 r1 r2 r3 : Runner H) (how : RunEnd) → r1.lines ≡ r0.lines → r1.shown ≡ r0.shown → CallsExport h kept r0.run c.0 c.1 end r1.run → ShowsHost h kept r1 r2
       → ShowsEnd h kept end (typed_call exports c).ty r2 how r3 → CallsOn h kept exports c r0 how r3
   calls_on exports c end r0 r1 r2 r3 how lines shown i s shows = λ G whole rest may st.
       subst (λ (X : Group). ((target : Target) → export_named h kept X c.0 ≡ Some target → MayCall h kept target c.1) → Stands h kept X whole (typed_calls exports (c ∷ rest)) r0 → ComesOn h kept X whole (typed_calls exports rest) how r3)
       st.run.group (λ own stands. call_comes exports c whole rest end r0 r1 r2 r3 how lines shown i s shows own stands end refl) may st
 
-  pub calls_shown : (exports : Exports) (c : PlainCall) (end : CallEnd) (ty : Option Plain) (r0 r1 r2 r3 : Runner H) (how : RunEnd) → ty ≡ (typed_call exports c).ty → r1.lines ≡ r0.lines → r1.shown ≡ r0.shown → CallsExport h kept r0.run c.0 c.1 end r1.run
+  pub calls_shown : (exports : Exports) (c : PlainCall) (end : RunEnd) (ty : Option Plain) (r0 r1 r2 r3 : Runner H) (how : RunEnd) → ty ≡ (typed_call exports c).ty → r1.lines ≡ r0.lines → r1.shown ≡ r0.shown → CallsExport h kept r0.run c.0 c.1 end r1.run
       → ShowsHost h kept r1 r2 → ShowsEnd h kept end ty r2 how r3 → CallsOn h kept exports c r0 how r3
   calls_shown exports c end ty r0 r1 r2 r3 how same lines shown i s shows = calls_on exports c end r0 r1 r2 r3 how lines shown i s (subst (λ (t : Option Plain). ShowsEnd h kept end t r2 how r3) same shows)
 
   -- the making, for whatever is called then
-  pub makes_done : (end : CallEnd) (v : Option Value) (r0 r1 r2 : Runner H) → end ≡ calls.Returned v → r1.lines ≡ r0.lines → r1.shown ≡ r0.shown → Instantiates h kept r0.run end r1.run → ShowsHost h kept r1 r2 → Makes h kept r0 ends.Done r2
+  pub makes_done : (end : RunEnd) (v : Option Value) (r0 r1 r2 : Runner H) → end ≡ calls.Returned v → r1.lines ≡ r0.lines → r1.shown ≡ r0.shown → Instantiates h kept r0.run end r1.run → ShowsHost h kept r1 r2 → Makes h kept r0 (calls.Returned None) r2
   makes_done end v r0 r1 r2 is lines shown i s = λ exports cs linked first budget f may. (may, made_done linked first budget r0 f exports cs end r1 r2 lines shown i s v is)
 
-  pub makes_over : (end : CallEnd) (ty : Option Plain) (r0 r1 r2 r3 : Runner H) (how : RunEnd) → IsOver end → r1.lines ≡ r0.lines → r1.shown ≡ r0.shown → Instantiates h kept r0.run end r1.run → ShowsHost h kept r1 r2 → ShowsEnd h kept end ty r2 how r3
+  pub makes_over : (end : RunEnd) (ty : Option Plain) (r0 r1 r2 r3 : Runner H) (how : RunEnd) → IsOver end → r1.lines ≡ r0.lines → r1.shown ≡ r0.shown → Instantiates h kept r0.run end r1.run → ShowsHost h kept r1 r2 → ShowsEnd h kept end ty r2 how r3
       → Makes h kept r0 how r3
   makes_over end ty r0 r1 r2 r3 how e lines shown i s shows = λ exports cs linked first budget f may. (may, made_over linked first budget r0 f exports cs end r1 r2 lines shown i s ty how r3 e shows)
 
   -- ---- all calls
 
   -- one more of them
-  pub came_more : (exports : Exports) (cs rest : List PlainCall) (c : PlainCall) (r0 r1 r2 : Runner H) (how : RunEnd) → Came h kept exports cs (c ∷ rest) r0 ends.Done r1 → CallsOn h kept exports c r1 how r2 → Came h kept exports cs rest r0 how r2
+  pub came_more : (exports : Exports) (cs rest : List PlainCall) (c : PlainCall) (r0 r1 r2 : Runner H) (how : RunEnd) → Came h kept exports cs (c ∷ rest) r0 (calls.Returned None) r1 → CallsOn h kept exports c r1 how r2 → Came h kept exports cs rest r0 how r2
   came_more exports cs rest c r0 r1 r2 how came on = λ linked first budget f may.
       let before_it = came linked first budget f may in
       (before_it.0.1, on (group_in r0.run) (told_of h kept exports cs first budget r0) rest before_it.0.0 before_it.1)
 
   pub came_next : (exports : Exports) (cs : List PlainCall) (list : List ScriptCall) (i : ℕ) (call : ScriptCall) (r0 r1 r2 : Runner H) (how : RunEnd) → i < length list → call ≡ get_or list i call
-      → Came h kept exports cs (map call_seen (drop i list)) r0 ends.Done r1 → CallsOn h kept exports (call_seen call) r1 how r2 → Came h kept exports cs (map call_seen (drop (i + 1) list)) r0 how r2
+      → Came h kept exports cs (map call_seen (drop i list)) r0 (calls.Returned None) r1 → CallsOn h kept exports (call_seen call) r1 how r2 → Came h kept exports cs (map call_seen (drop (i + 1) list)) r0 how r2
   came_next exports cs list i call r0 r1 r2 how lt is came on =
       let cut : drop i list ≡ call ∷ drop (i + 1) list = drop_more list i call lt ∙ ap (λ y. y ∷ drop (i + 1) list) (sym is) in
-      came_more exports cs (map call_seen (drop (i + 1) list)) (call_seen call) r0 r1 r2 how (subst (λ xs. Came h kept exports cs (map call_seen xs) r0 ends.Done r1) cut came) on
+      came_more exports cs (map call_seen (drop (i + 1) list)) (call_seen call) r0 r1 r2 how (subst (λ xs. Came h kept exports cs (map call_seen xs) r0 (calls.Returned None) r1) cut came) on
 
-  pub came_done : (exports : Exports) (cs rest : List PlainCall) (how : RunEnd) (r0 r : Runner H) → how ≡ ends.Done → Came h kept exports cs rest r0 how r → Came h kept exports cs rest r0 ends.Done r
-  came_done exports cs rest how r0 r is came = subst (λ (x : RunEnd). Came h kept exports cs rest r0 x r) is came
+  pub came_done : (exports : Exports) (cs rest : List PlainCall) (how : RunEnd) (v : Option Value) (r0 r : Runner H) → how ≡ calls.Returned v → Came h kept exports cs rest r0 how r → Came h kept exports cs rest r0 (calls.Returned None) r
+  came_done exports cs rest how v r0 r is came = subst (λ (x : RunEnd). Came h kept exports cs rest r0 x r) is came
 
   -- none is left
-  done_told : (G : Group) (whole : Told) (r : Runner H) → Stands h kept G whole [] r → IsTold whole r.lines ends.Done
+  done_told : (G : Group) (whole : Told) (r : Runner H) → Stands h kept G whole [] r → IsTold whole r.lines (calls.Returned None)
   done_told G whole r st =
-      let all : before st.done (record { items = []; end = ends.Done }) ≡ whole = st.run.is in
+      let all : before st.done (record { items = []; end = calls.Returned None }) ≡ whole = st.run.is in
       record { lines = st.lines ∙ ap item_texts (sym (append-nil st.done)) ∙ ap (λ (t : Told). item_texts t.items) all; end = ap (λ (t : Told). t.end) all }
 
-  pub goes_done : (exports : Exports) (cs : List PlainCall) (r0 r : Runner H) → Came h kept exports cs [] r0 ends.Done r → Goes h kept exports cs r0 ends.Done r
+  pub goes_done : (exports : Exports) (cs : List PlainCall) (r0 r : Runner H) → Came h kept exports cs [] r0 (calls.Returned None) r → Goes h kept exports cs r0 (calls.Returned None) r
   goes_done exports cs r0 r came = λ linked first budget f may. done_told (group_in r0.run) (told_of h kept exports cs first budget r0) r (came linked first budget f may).1
 
-  pub goes_all : (exports : Exports) (cs : List PlainCall) (list : List ScriptCall) (i : ℕ) (r0 r : Runner H) → length list ≤ i → Came h kept exports cs (map call_seen (drop i list)) r0 ends.Done r → Goes h kept exports cs r0 ends.Done r
-  goes_all exports cs list i r0 r le came = goes_done exports cs r0 r (subst (λ xs. Came h kept exports cs (map call_seen xs) r0 ends.Done r) (drop_all i list le) came)
+  pub goes_all : (exports : Exports) (cs : List PlainCall) (list : List ScriptCall) (i : ℕ) (r0 r : Runner H) → length list ≤ i → Came h kept exports cs (map call_seen (drop i list)) r0 (calls.Returned None) r → Goes h kept exports cs r0 (calls.Returned None) r
+  goes_all exports cs list i r0 r le came = goes_done exports cs r0 r (subst (λ xs. Came h kept exports cs (map call_seen xs) r0 (calls.Returned None) r) (drop_all i list le) came)
 
   -- it ended
-  over_told : (G : Group) (whole : Told) (rest : List TypedCall) (how : RunEnd) (r : Runner H) → (how ≡ ends.Done → ⊥) → ComesOn h kept G whole rest how r → IsTold whole r.lines how
-  over_told G whole rest ends.Done r not_done c = absurd (not_done refl)
-  over_told G whole rest ends.Trapped r not_done c = c
-  over_told G whole rest ends.ScriptEnded r not_done c = c
-  over_told G whole rest ends.StepsSpent r not_done c = c
-  over_told G whole rest ends.BadAnswer r not_done c = c
-  over_told G whole rest ends.TooDeep r not_done c = c
+  over_told : (G : Group) (whole : Told) (rest : List TypedCall) (how : RunEnd) (r : Runner H) → IsOver how → ComesOn h kept G whole rest how r → IsTold whole r.lines how
+  over_told G whole rest (calls.Returned v) r over c = absurd over
+  over_told G whole rest calls.Trapped r over c = c
+  over_told G whole rest calls.ScriptEnded r over c = c
+  over_told G whole rest calls.Spent r over c = c
+  over_told G whole rest calls.BadAnswer r over c = c
+  over_told G whole rest calls.TooDeep r over c = c
 
-  pub goes_over : (exports : Exports) (cs rest : List PlainCall) (how : RunEnd) (r0 r : Runner H) → (how ≡ ends.Done → ⊥) → Came h kept exports cs rest r0 how r → Goes h kept exports cs r0 how r
-  goes_over exports cs rest how r0 r not_done came = λ linked first budget f may. over_told (group_in r0.run) (told_of h kept exports cs first budget r0) (typed_calls exports rest) how r not_done (came linked first budget f may).1
+  pub goes_over : (exports : Exports) (cs rest : List PlainCall) (how : RunEnd) (r0 r : Runner H) → IsOver how → Came h kept exports cs rest r0 how r → Goes h kept exports cs r0 how r
+  goes_over exports cs rest how r0 r over came = λ linked first budget f may. over_told (group_in r0.run) (told_of h kept exports cs first budget r0) (typed_calls exports rest) how r over (came linked first budget f may).1

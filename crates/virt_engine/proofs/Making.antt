@@ -7,8 +7,8 @@ use Rattle.comp_link.specs.declared.linked.Linked.{Linked}
 use Rattle.comp_link.specs.Planned.{plan_in}
 use Rattle.comp_interp.specs.Sound.{CanBeMade}
 use Rattle.comp_interp.proofs.Sounding.{linked_can_be_made}
-use Rattle.run_judge.specs.declared.component.Judged.{Judged}
-use Rattle.run_judge.specs.Components.{IsRunnable, Judges}
+use Rattle.component_judge.specs.declared.component.Judged.{Judged}
+use Rattle.component_judge.specs.Components.{IsRunnable, Judges}
 use Rattle.virt_engine.specs.Shown.{CanRun}
 
 pub judged_can_be_made : (judged : Judged) (linked : Linked) → CanRun judged → plan_in linked ≡ plan_of (plain judged.component) → linked.imports ≡ (after_tree [] root (plain judged.component)).imports → CanBeMade linked

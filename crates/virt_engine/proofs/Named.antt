@@ -16,7 +16,7 @@ use Rattle.comp_worlds.specs.Groups.{Target, type_of}
 use Rattle.comp_link.specs.Linking.{Given, Givens, GivenFunc, GivenInstance, GivenResource, GivenType, Nothing, Giving, find, target_in, instance_in, exported}
 use Rattle.comp_link.specs.Exports.{passing, Either, IsOf, Finds, AreExportsOf}
 use Rattle.host_script.specs.Script.{Exports, params_named}
-use Rattle.run_judge.specs.Callable.{inner_name, inner_functions, callable}
+use Rattle.component_judge.specs.Callable.{inner_name, inner_functions, callable}
 use Rattle.comp_interp.specs.Names.{is_hash, cut}
 
 -- ---- names without `#`

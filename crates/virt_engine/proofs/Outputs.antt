@@ -12,7 +12,7 @@ use Rattle.output_same.proofs.Outputs.{output_stands, same_types}
 use Rattle.comp_link.proofs.Spelled.{spelled_define}
 use Rattle.output_same.proofs.Same.{outputs_same}
 use Rattle.virt_output.specs.Bytes.{back_bytes}
-use Rattle.virt_app.specs.Apps.{IsApp}
+use Rattle.virt_engine.specs.Apps.{IsApp}
 use Rattle.virt_engine.specs.Output.{IsOutputOf, output_bytes}
 
 -- ---- the components of the outermost level, without places
@@ -58,7 +58,7 @@ pub is_output : (app out : List ℕ) (tree : Tree) (ty : Signature) → IsApp ap
 is_output app out tree ty a is written spelled =
     let exports = ap (λ (s : Signature). s.exports) is in
     let found : SpellsBare 0 (output_tree tree (type_of tree).exports) out = subst (λ (es : Entries). SpellsBare 0 (output_tree tree es) out) exports spelled in
-    let stands = output_stands tree a.application.valid a.imports in
+    let stands = output_stands tree a.sound.valid a.imports in
     let one = once tree found.0 (type_of tree).exports found.2 in
     let same = same_type (output_tree tree (type_of tree).exports) found.0 (sym found.2) in
     record {
@@ -68,11 +68,11 @@ is_output app out tree ty a is written spelled =
       spelled = found.1;
       valid = same_valid (output_tree tree (type_of tree).exports) found.0 (sym found.2) stands.valid;
       imports = ap (λ (s : Signature). s.imports) (sym same) ∙ stands.imports;
-      exports = ap (λ (s : Signature). s.exports) (sym same) ∙ same_types tree a.application.valid a.imports a.exports;
+      exports = ap (λ (s : Signature). s.exports) (sym same) ∙ same_types tree a.sound.valid a.imports a.exports;
       unchanged = record { inner = one.0; once = one.1; behind = back_bytes ty.exports; unchanged = written };
-      behaves = outputs_same tree found.0 (record { valid = a.application.valid; imports = a.imports }) (spelled_define tree app a.application.spelled.0.0) found.2;
+      behaves = outputs_same tree found.0 (record { valid = a.sound.valid; imports = a.imports }) (spelled_define tree app a.sound.small.spelled.0.0) found.2;
     }
 
 -- the application's bytes spell it
 pub app_spelled : (app : List ℕ) (tree : Tree) → IsApp app tree → SpellsBare 0 tree app
-app_spelled app tree a = (tree, a.application.spelled.0.0, refl)
+app_spelled app tree a = (tree, a.sound.small.spelled.0.0, refl)

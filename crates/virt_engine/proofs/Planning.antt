@@ -7,14 +7,16 @@ use Rattle.policy_data.specs.declared.policy.Policy.{Policy}
 use Rattle.mount_tree.specs.Building.{trees_due}
 use Rattle.tree_table.specs.declared.entries.NamedTree.{NamedTree}
 use Rattle.comp_types.specs.Items.{Signature}
-use Rattle.virt_engine.specs.declared.app.App.{App}
+use Rattle.component_judge.specs.declared.inputs.Fetched.{Fetched}
+use Rattle.component_judge.specs.Alone.{IsAloneRefusal}
 use Rattle.virt_engine.specs.declared.plan.Ready.{Ready}
 use Rattle.virt_engine.specs.declared.status.Status.{Status}
 use Rattle.virt_engine.specs.declared.status.Status.TheVariants.{Done, PolicyRefused, AppRefused, FileFault, SinkFault, OverLimit, NoMemory, ScriptRefused, Trapped, ScriptEnded, StepsSpent, BadAnswer, TooDeep, Usage}
 use Rattle.virt_engine.specs.Command.{Command}
 use Rattle.virt_engine.specs.Fetching.{with_input, IsFileFault}
 use Rattle.virt_engine.specs.Policies.{policy_limit, policy_due, with_policy, IsPolicyVerdict, IsPolicyFile, HasPolicy, PolicyCause, FetchesPolicy}
-use Rattle.virt_engine.specs.Apps.{IsRefusedBy, IsAppFile, HasApp, HasTypedApp, HasRefused, AppCause, FetchesApp}
+use Rattle.virt_engine.specs.Apps.{IsAppVerdict, IsAppFile, HasApp, HasTypedApp, HasRefused, AppCause, FetchesApp}
+use Rattle.virt_engine.specs.RunDue.{IsVerdictBy}
 use Rattle.virt_engine.specs.PolicyTrees.{trees_verdict, HasTrees, TreesCause, MakesTrees}
 use Rattle.virt_engine.specs.Line.{done_text, status_text}
 use Rattle.virt_engine.specs.Output.{IsOutputOf, output_bytes}
@@ -99,14 +101,13 @@ app_before name s t bytes stays told h = record {
 refused_before : (name : List ℕ) (s t : FilesState) (status : Status) → t.held ≡ s.held → t.told ≡ s.told → HasRefused name t status → HasRefused name s status
 refused_before name s t status stays told h = record {
   bytes = h.bytes;
-  short = h.short;
   refused = h.refused;
   there = λ yes. subst (λ (held : Held). held.file name ≡ Some h.bytes) stays (h.there (told ∙ yes));
 }
 
 -- a refusal of the file's bytes is what the file calls for
-refused_here : (name : List ℕ) (s : FilesState) (status : Status) → HasRefused name s status → s.told ≡ true → IsRefusedBy (s.held.file name) name status
-refused_here name s status h told = subst (λ (file : Option (List ℕ)). IsRefusedBy file name status) (sym (h.there told)) (inr (h.short, h.refused))
+refused_here : (name : List ℕ) (s : FilesState) (status : Status) → HasRefused name s status → s.told ≡ true → IsAppVerdict s.held name status
+refused_here name s status h told = subst (λ (file : Option (List ℕ)). IsVerdictBy IsAloneRefusal file name status) (sym (h.there told)) h.refused
 
 module _ (c : Command) (policy : Policy) (s t : FilesState) (p : FetchesPolicy c.policy s t (Ok policy)) where
   told_t : s.told ≡ true → t.told ≡ true
@@ -122,7 +123,7 @@ module _ (c : Command) (policy : Policy) (s t : FilesState) (p : FetchesPolicy c
   app_there : s.told ≡ true → NoFileDue s.held c → IsSome (t.held.file c.app)
   app_there told fine =
       there (t.held.file c.app) (λ none.
-      fine c.app (under told (FileFault c.app) (inl (subst (λ (file : Option (List ℕ)). IsRefusedBy file c.app (FileFault c.app)) (sym (subst (λ (held : Held). held.file c.app ≡ None) p.stays none)) refl))))
+      fine c.app (under told (FileFault c.app) (inl (subst (λ (file : Option (List ℕ)). IsVerdictBy IsAloneRefusal file c.app (FileFault c.app)) (sym (subst (λ (held : Held). held.file c.app ≡ None) p.stays none)) refl))))
 
   module _ (u : FilesState) where
     refused_app : (e : Status) → AppCause c.app t u e → RefusalOf c s u e
@@ -132,7 +133,7 @@ module _ (c : Command) (policy : Policy) (s t : FilesState) (p : FetchesPolicy c
     )
     refused_app NoMemory h = tt
     refused_app (OverLimit what value) h =
-        (inr (inl h.0), λ told. under told (OverLimit what value) (inl (subst (λ (held : Held). IsRefusedBy (held.file c.app) c.app (OverLimit what value)) p.stays (h.1 (told_t told)))))
+        (inr (inl h.0), λ told. under told (OverLimit what value) (inl (subst (λ (held : Held). IsAppVerdict held c.app (OverLimit what value)) p.stays (h.1 (told_t told)))))
     refused_app (AppRefused fault) h =
         let before = refused_before c.app s t (AppRefused fault) p.stays p.goes.told h in
         (before, λ told. under told (AppRefused fault) (inl (refused_here c.app s (AppRefused fault) before told)))
@@ -160,7 +161,7 @@ module _ (c : Command) (policy : Policy) (s t : FilesState) (p : FetchesPolicy c
 
     -- ---- behind the application
 
-    module _ (app : App) (f : FetchesApp c.app t u (Ok app)) (w : FilesState) where
+    module _ (app : Fetched) (f : FetchesApp c.app t u (Ok app)) (w : FilesState) where
       told_u : s.told ≡ true → u.told ≡ true
       told_u told = f.goes.told ∙ told_t told
 
@@ -236,7 +237,7 @@ module _ (c : Command) (policy : Policy) (s t : FilesState) (p : FetchesPolicy c
           quiet = λ told steady fine. (quiet_trees (Ok built) m told steady fine, λ (b : ⊥). b);
         }
 
-        pub plans_ready : (ready : Ready) → written_by ready ≡ output_bytes app.bytes.items app.ty.exports → IsOutputOf app.bytes.items (written_by ready)
+        pub plans_ready : (ready : Ready) → written_by ready ≡ output_bytes app.bytes.items app.application.judged.ty.exports → IsOutputOf app.bytes.items (written_by ready)
             → string_bytes ready.done_line ≡ done_text (length app.bytes.items) (length (written_by ready)) 0 → ready.fault ≡ FileFault c.out
             → string_bytes ready.fault_line ≡ status_text (FileFault c.out) → Plans c s w (Ok ready)
         plans_ready ready written output done fault line = record {

@@ -12,16 +12,17 @@ use Rattle.comp_types.specs.Added.{type_of}
 use Rattle.host_script.specs.Script.{PlainScript, due_script, json_in}
 use Rattle.host_script.specs.declared.fault.ScriptFault.{ScriptFault}
 use Rattle.host_script.specs.declared.fault.ScriptFault.TheVariants as faults
-use Rattle.run_judge.specs.Callable.{callable}
-use Rattle.run_judge.specs.declared.refusal.RunRefusal.{RunRefusal}
-use Rattle.run_judge.specs.declared.refusal.RunRefusal.TheVariants as refusals
-use Rattle.run_judge.specs.Components.{IsRefusal, IsRunnable}
-use Rattle.run_judge.specs.Applications.{IsApplicationRefusal}
-use Rattle.run_judge.specs.Scripts.{script_limit}
-use Rattle.run_judge.proofs.Verdicts.{one_verdict, one_application}
-use Rattle.run_judge.proofs.Refusals.{one_refusal, one_application_refusal}
-use Rattle.run_judge.specs.declared.unready.Unready.TheVariants as unready
-use Rattle.run_judge.specs.Inputs.{Fitting, IsListedBy, RefusesScript}
+use Rattle.component_judge.specs.Callable.{callable}
+use Rattle.component_judge.specs.declared.refusal.Refusal.{Refusal}
+use Rattle.component_judge.specs.declared.refusal.Refusal.TheVariants as refusals
+use Rattle.component_judge.specs.Components.{IsRefusal, IsRunnable}
+use Rattle.component_judge.specs.Applications.{IsApplicationRefusal}
+use Rattle.component_judge.specs.declared.limits.Purpose.TheVariants.{Run}
+use Rattle.component_judge.specs.Limits.{script_limit}
+use Rattle.component_judge.proofs.Verdicts.{one_verdict, one_application}
+use Rattle.component_judge.proofs.Refusals.{one_refusal, one_application_refusal}
+use Rattle.component_judge.specs.declared.unready.Unready.TheVariants as unready
+use Rattle.component_judge.specs.Inputs.{Fitting, IsListedBy, RefusesScript}
 use Rattle.virt_engine.specs.declared.status.Status.{Status}
 use Rattle.virt_engine.specs.declared.status.Status.TheVariants.{Done, Usage}
 use Rattle.virt_engine.specs.Command.{RunCommand}
@@ -38,7 +39,7 @@ ok_or_err script fault e = cc
 bad_same : (a b : List ℕ) → ◌≡◌ {A = Result PlainScript ScriptFault} (Err (faults.BadScript a)) (Err (faults.BadScript b)) → a ≡ b
 bad_same a b e = cc
 
-one_script : (exports : Entries) (bytes : List ℕ) (a b : RunRefusal) → a ≢ refusals.NoMemory → b ≢ refusals.NoMemory → RefusesScript exports bytes a → RefusesScript exports bytes b → a ≡ b
+one_script : (exports : Entries) (bytes : List ℕ) (a b : Refusal) → a ≢ refusals.NoMemory → b ≢ refusals.NoMemory → RefusesScript exports bytes a → RefusesScript exports bytes b → a ≡ b
 one_script exports bytes refusals.NoMemory b x y h g = absurd (x refl)
 one_script exports bytes (refusals.Refused fault) b x y h g = absurd h
 one_script exports bytes (refusals.BadScript path) refusals.NoMemory x y h g = absurd (y refl)
@@ -50,7 +51,7 @@ one_script exports bytes (refusals.OverLimit what value) (refusals.Refused fault
 one_script exports bytes (refusals.OverLimit what value) (refusals.BadScript path) x y h g = absurd (omega (arith, g.0, h.1))
 one_script exports bytes (refusals.OverLimit what value) (refusals.OverLimit other v) x y h g = λ i. refusals.OverLimit ((h.0 ∙ sym g.0) i) ((h.2 ∙ sym g.2) i)
 
-script_stands : (exports : Entries) (bytes : List ℕ) (script : PlainScript) (refusal : RunRefusal) → length bytes ≤ script_limit → due_script (callable exports) (json_in bytes) ≡ Ok script
+script_stands : (exports : Entries) (bytes : List ℕ) (script : PlainScript) (refusal : Refusal) → length bytes ≤ script_limit → due_script (callable exports) (json_in bytes) ≡ Ok script
     → refusal ≢ refusals.NoMemory → RefusesScript exports bytes refusal → ⊥
 script_stands exports bytes script refusals.NoMemory short due x h = x refl
 script_stands exports bytes script (refusals.Refused fault) short due x h = h
@@ -64,15 +65,15 @@ same_some a b e = cc
 
 -- how refusals speak of bytes
 pub record AreOnes (Refuses : Refusing) : Type 0 where
-  pub one : (bytes : List ℕ) (a b : RunRefusal) → a ≢ refusals.NoMemory → b ≢ refusals.NoMemory → Refuses bytes a → Refuses bytes b → a ≡ b
+  pub one : (bytes : List ℕ) (a b : Refusal) → a ≢ refusals.NoMemory → b ≢ refusals.NoMemory → Refuses bytes a → Refuses bytes b → a ≡ b
 
-one_file : (Refuses : Refusing) → AreOnes Refuses → (file : Option (List ℕ)) (name : List ℕ) (a b : Status) → IsVerdictBy Refuses file name a → IsVerdictBy Refuses file name b → a ≡ b
+pub one_file : (Refuses : Refusing) → AreOnes Refuses → (file : Option (List ℕ)) (name : List ℕ) (a b : Status) → IsVerdictBy Refuses file name a → IsVerdictBy Refuses file name b → a ≡ b
 one_file Refuses ones None name a b h g = h ∙ sym g
 one_file Refuses ones (Some bytes) name a b h g = h.3 ∙ ap (λ r. unready_as (unready.Refused r)) (ones.one bytes h.0 g.0 h.1 g.1 h.2 g.2) ∙ sym g.3
 
 -- bytes that will do are not refused
-file_stands : (Refuses : Refusing) (file : Option (List ℕ)) (name bytes : List ℕ) (status : Status) → file ≡ Some bytes
-    → ((refusal : RunRefusal) → refusal ≢ refusals.NoMemory → Refuses bytes refusal → ⊥) → IsVerdictBy Refuses file name status → ⊥
+pub file_stands : (Refuses : Refusing) (file : Option (List ℕ)) (name bytes : List ℕ) (status : Status) → file ≡ Some bytes
+    → ((refusal : Refusal) → refusal ≢ refusals.NoMemory → Refuses bytes refusal → ⊥) → IsVerdictBy Refuses file name status → ⊥
 file_stands Refuses file name bytes status there stands h =
     let v = subst (λ (o : Option (List ℕ)). IsVerdictBy Refuses o name status) there h in
     stands v.0 v.1 v.2
@@ -89,7 +90,7 @@ script_file_stands held name exports status h v =
 -- how what will do and what is refused speak of bytes
 pub record IsKind (Refuses : Refusing) (Fits : Fitting) : Type 0 where
   pub ones : AreOnes Refuses
-  pub stands : (bytes : List ℕ) (tree : Tree) (refusal : RunRefusal) → Fits bytes tree → refusal ≢ refusals.NoMemory → Refuses bytes refusal → ⊥
+  pub stands : (bytes : List ℕ) (tree : Tree) (refusal : Refusal) → Fits bytes tree → refusal ≢ refusals.NoMemory → Refuses bytes refusal → ⊥
   pub one_tree : (bytes : List ℕ) (a b : Tree) → Fits bytes a → Fits bytes b → a ≡ b
 
 module _ (Refuses : Refusing) (Fits : Fitting) (kind : IsKind Refuses Fits) (held : Held) (c : RunCommand) where
@@ -125,10 +126,10 @@ alone = record {
   one_tree = λ bytes a b h g. g.sound.small.spelled.1 a h.sound.small.spelled.0.0;
 }
 
-pub listed : IsKind IsApplicationRefusal IsListedBy
+pub listed : IsKind (IsApplicationRefusal Run) IsListedBy
 listed = record {
-  ones = record { one = one_application_refusal };
-  stands = λ bytes tree refusal fits some h. one_application bytes tree fits.0 refusal fits.1 some h;
+  ones = record { one = one_application_refusal Run };
+  stands = λ bytes tree refusal fits some h. one_application Run bytes tree fits.0 refusal fits.1 some h;
   one_tree = λ bytes a b h g. g.1.sound.small.spelled.1 a h.1.sound.small.spelled.0.0;
 }
 
@@ -144,9 +145,9 @@ trees_stand held policy forest status made v =
     done_or_usage (sym (taken Done) ∙ v Done ∙ sym (v Usage) ∙ taken Usage)
 
 one_under : (held : Held) (c : RunCommand) (policy : Policy) (a b : Status) → IsRefusedUnder held c policy a → IsRefusedUnder held c policy b → a ≡ b
-one_under held c policy a b (inl h) (inl g) = one_input IsApplicationRefusal IsListedBy listed held c a b h g
-one_under held c policy a b (inl h) (inr g) = absurd (both_stand IsApplicationRefusal IsListedBy listed held c g.0 a g.1 g.2 h)
-one_under held c policy a b (inr h) (inl g) = absurd (both_stand IsApplicationRefusal IsListedBy listed held c h.0 b h.1 h.2 g)
+one_under held c policy a b (inl h) (inl g) = one_input (IsApplicationRefusal Run) IsListedBy listed held c a b h g
+one_under held c policy a b (inl h) (inr g) = absurd (both_stand (IsApplicationRefusal Run) IsListedBy listed held c g.0 a g.1 g.2 h)
+one_under held c policy a b (inr h) (inl g) = absurd (both_stand (IsApplicationRefusal Run) IsListedBy listed held c h.0 b h.1 h.2 g)
 one_under held c policy a b (inr h) (inr g) = sym (h.3 Done) ∙ g.3 Done
 
 one_by : (held : Held) (c : RunCommand) (policy : Option (List ℕ)) (a b : Status) → IsRefusedBy held c policy a → IsRefusedBy held c policy b → a ≡ b
@@ -162,7 +163,7 @@ pub one_run_refusal : (held : Held) (c : RunCommand) (a b : Status) → IsRunRef
 one_run_refusal held c a b h g = one_by held c c.policy a b h g
 
 under_stands : (held : Held) (c : RunCommand) (name : List ℕ) (u : IsAcceptedUnder held c name) (status : Status) → IsRefusedUnder held c u.policy status → ⊥
-under_stands held c name u status (inl h) = both_stand IsApplicationRefusal IsListedBy listed held c u.inputs.tree status u.inputs.component u.inputs.script h
+under_stands held c name u status (inl h) = both_stand (IsApplicationRefusal Run) IsListedBy listed held c u.inputs.tree status u.inputs.component u.inputs.script h
 under_stands held c name u status (inr h) = trees_stand held u.policy u.forest status u.trees h.3
 
 stands_by : (held : Held) (c : RunCommand) (policy : Option (List ℕ)) (status : Status) → IsAcceptedBy held c policy → IsRefusedBy held c policy status → ⊥

@@ -9,17 +9,18 @@ use Rattle.comp_types.specs.Items.{Entries, Signature}
 use Rattle.comp_grammar.specs.Trees.{plain}
 use Rattle.comp_types.specs.Added.{type_of}
 use Rattle.comp_signature.specs.Signatures.{component_signature}
-use Rattle.run_judge.specs.declared.refusal.RunRefusal.{RunRefusal}
-use Rattle.run_judge.specs.declared.refusal.RunRefusal.TheVariants as refusals
-use Rattle.run_judge.specs.declared.component.Judged.{Judged}
-use Rattle.run_judge.specs.Components.{component_limit, Faulting, IsUnfit, IsRefusal, IsRefusalBy, IsRunnable}
-use Rattle.run_judge.specs.Applications.{IsUnlisted, IsApplicationRefusal}
-use Rattle.run_judge.specs.Scripts.{script_limit}
-use Rattle.run_judge.specs.declared.unready.Unready.{Unready}
-use Rattle.run_judge.specs.declared.unready.Unready.TheVariants.{FileFault as Faulted, Refused}
-use Rattle.run_judge.specs.declared.inputs.Inputs.{Inputs}
-use Rattle.run_judge.specs.Fetching.{Cause}
-use Rattle.run_judge.specs.Inputs.{IsListedBy, RefusesScript, HasComponent, HasApplication, AreReady, ScriptCause, InputsCause, ListedCause}
+use Rattle.component_judge.specs.declared.refusal.Refusal.{Refusal}
+use Rattle.component_judge.specs.declared.refusal.Refusal.TheVariants as refusals
+use Rattle.component_judge.specs.declared.component.Judged.{Judged}
+use Rattle.component_judge.specs.Components.{Faulting, IsUnfit, IsRefusal, IsRefusalBy, IsRunnable}
+use Rattle.component_judge.specs.Applications.{IsUnlisted, IsApplicationRefusal}
+use Rattle.component_judge.specs.declared.limits.Purpose.TheVariants.{Run}
+use Rattle.component_judge.specs.Limits.{bytes_name, bytes_limit, script_limit}
+use Rattle.component_judge.specs.declared.unready.Unready.{Unready}
+use Rattle.component_judge.specs.declared.unready.Unready.TheVariants.{FileFault as Faulted, Refused}
+use Rattle.component_judge.specs.declared.inputs.Inputs.{Inputs}
+use Rattle.component_judge.specs.Fetching.{Cause}
+use Rattle.component_judge.specs.Inputs.{IsListedBy, RefusesScript, HasComponent, HasApplication, AreReady, ScriptCause, InputsCause, ListedCause}
 use Rattle.virt_engine.specs.declared.runner.Shown.{Shown}
 use Rattle.virt_engine.specs.declared.status.Status.{Status}
 use Rattle.virt_engine.specs.declared.status.Status.TheVariants.{Done, PolicyRefused, AppRefused, FileFault, SinkFault, OverLimit, NoMemory, ScriptRefused, Trapped, ScriptEnded, StepsSpent, BadAnswer, TooDeep, Usage}
@@ -37,7 +38,7 @@ use Rattle.virt_engine.proofs.RunDue.{runs_stand}
 -- ---- a cause is due, where files are steady or no fault was counted
 
 -- bytes that are refused, unless memory ran out
-verdict_of : (Refuses : Refusing) (file : Option (List ℕ)) (name bytes : List ℕ) (refusal : RunRefusal) → file ≡ Some bytes → Refuses bytes refusal
+verdict_of : (Refuses : Refusing) (file : Option (List ℕ)) (name bytes : List ℕ) (refusal : Refusal) → file ≡ Some bytes → Refuses bytes refusal
     → IsVerdictBy Refuses file name (unready_as (Refused refusal)) ⊎ (unready_as (Refused refusal) ≡ NoMemory)
 verdict_of Refuses file name bytes refusals.NoMemory there h = inr refl
 verdict_of Refuses file name bytes (refusals.Refused fault) there h =
@@ -61,10 +62,10 @@ module _ (s t : FilesState) (told : s.told ≡ true) (calm : (s.steady ≡ true)
   file_due name what limit Refuses (Refused refusal) long (inr (inl h)) =
       let found = h.there told in
       verdict_of Refuses (s.held.file name) name found.0 refusal found.1
-      (subst (λ (r : RunRefusal). Refuses found.0 r) (sym h.named) (long found.0 h.value h.over found.2))
+      (subst (λ (r : Refusal). Refuses found.0 r) (sym h.named) (long found.0 h.value h.over found.2))
   file_due name what limit Refuses (Refused refusal) long (inr (inr h)) = verdict_of Refuses (s.held.file name) name h.bytes refusal (h.there told) h.refused
 
-  long_component : (AtFault : Faulting) (bytes : List ℕ) (value : ℕ) → component_limit < value → length bytes ≡ value → IsRefusalBy AtFault bytes (refusals.OverLimit (codes "component-bytes") value)
+  long_component : (AtFault : Faulting) (bytes : List ℕ) (value : ℕ) → bytes_limit Run < value → length bytes ≡ value → IsRefusalBy Run AtFault bytes (refusals.OverLimit (bytes_name Run) value)
   long_component AtFault bytes value over is = inl (refl, omega (arith, over, is), sym is)
 
   long_script : (exports : Entries) (bytes : List ℕ) (value : ℕ) → script_limit < value → length bytes ≡ value → RefusesScript exports bytes (refusals.OverLimit (codes "script-bytes") value)
@@ -84,14 +85,14 @@ module _ (s t : FilesState) (told : s.told ≡ true) (calm : (s.steady ≡ true)
   listed_held name judged listed h = record { bytes = h.bytes; there = h.there told; fits = (listed.uses, h.judges.0) }
 
   alone_due : (c : RunCommand) (e : Unready) → InputsCause c.component c.script s t e → AreInputsRefused IsRefusal IsRunnable s.held c (unready_as e) ⊎ (unready_as e ≡ NoMemory)
-  alone_due c e (inl h) = elim (file_due c.component (codes "component-bytes") component_limit IsRefusal e (long_component IsUnfit) h) [ inl v ↦ inl (inl v) | inr none ↦ inr none ]
+  alone_due c e (inl h) = elim (file_due c.component (bytes_name Run) (bytes_limit Run) IsRefusal e (long_component IsUnfit) h) [ inl v ↦ inl (inl v) | inr none ↦ inr none ]
   alone_due c e (inr h) = elim (script_due h.0 c.script e h.1.judges.1 h.2) [
     | inl v ↦ inl (inr (plain h.0.component, component_held c.component h.0 h.1, v))
     | inr none ↦ inr none
   ]
 
-  listed_due : (c : RunCommand) (e : Unready) → ListedCause c.component c.script s t e → AreInputsRefused IsApplicationRefusal IsListedBy s.held c (unready_as e) ⊎ (unready_as e ≡ NoMemory)
-  listed_due c e (inl h) = elim (file_due c.component (codes "component-bytes") component_limit IsApplicationRefusal e (long_component IsUnlisted) h) [ inl v ↦ inl (inl v) | inr none ↦ inr none ]
+  listed_due : (c : RunCommand) (e : Unready) → ListedCause c.component c.script s t e → AreInputsRefused (IsApplicationRefusal Run) IsListedBy s.held c (unready_as e) ⊎ (unready_as e ≡ NoMemory)
+  listed_due c e (inl h) = elim (file_due c.component (bytes_name Run) (bytes_limit Run) (IsApplicationRefusal Run) e (long_component IsUnlisted) h) [ inl v ↦ inl (inl v) | inr none ↦ inr none ]
   listed_due c e (inr h) = elim (script_due h.0 c.script e h.2.judges.1 h.3) [
     | inl v ↦ inl (inr (plain h.0.component, listed_held c.component h.0 h.1 h.2, v))
     | inr none ↦ inr none
@@ -148,7 +149,7 @@ module _ (s t : FilesState) (told : s.told ≡ true) (calm : (s.steady ≡ true)
       inr (
         plain inputs.inputs.judged.component,
         application_held c.component c.script s inputs ready told,
-        script_held inputs.inputs.judged c.script s inputs.inputs.script ready.application.judges.1 ready.scripted told,
+        script_held inputs.inputs.judged c.script s inputs.inputs.scripted ready.application.judges.1 ready.scripted told,
         v,
       ),
     ))
@@ -162,7 +163,7 @@ module _ (s : FilesState) (told : s.told ≡ true) where
   alone_accepted c inputs h = record {
     tree = plain inputs.judged.component;
     component = record { bytes = h.runnable.bytes; there = h.runnable.there told; fits = h.runnable.judges.0 };
-    script = script_held inputs.judged c.script s inputs.script h.runnable.judges.1 h.scripted told;
+    script = script_held inputs.judged c.script s inputs.scripted h.runnable.judges.1 h.scripted told;
   }
 
   abbrev pub under_accepted : (c : RunCommand) (name : List ℕ) → BeginsUnder c name s → IsAcceptedUnder s.held c name
@@ -172,7 +173,7 @@ module _ (s : FilesState) (told : s.told ≡ true) where
     inputs = record {
       tree = plain h.inputs.inputs.judged.component;
       component = application_held c.component c.script s h.inputs h.ready told;
-      script = script_held h.inputs.inputs.judged c.script s h.inputs.inputs.script h.ready.application.judges.1 h.ready.scripted told;
+      script = script_held h.inputs.inputs.judged c.script s h.inputs.inputs.scripted h.ready.application.judges.1 h.ready.scripted told;
     };
     forest = h.are.0;
     trees = h.are.1 told;

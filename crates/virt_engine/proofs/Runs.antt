@@ -6,10 +6,6 @@ use Rattle.outside.specs.Files.{FilesState, Held, with_file, no_place}
 use Rattle.outside.specs.Sink.{SinkState}
 use Rattle.comp_grammar.specs.Trees.{Tree}
 use Rattle.comp_types.specs.Added.{type_of}
-use Rattle.virt_base.specs.declared.fault.AppFault.{AppFault}
-use Rattle.virt_app.specs.declared.refusal.AppRefusal.TheVariants as refusals
-use Rattle.virt_app.specs.Apps.{IsApp}
-use Rattle.virt_app.proofs.AppLaws.{app_not_refused}
 use Rattle.virt_engine.specs.declared.plan.Ready.{Ready}
 use Rattle.virt_engine.specs.declared.status.Status.{Status}
 use Rattle.virt_engine.specs.declared.status.Status.TheVariants.{Done, PolicyRefused, AppRefused, FileFault, SinkFault, OverLimit, NoMemory, ScriptRefused, Trapped, ScriptEnded, StepsSpent, BadAnswer, TooDeep, Usage}
@@ -18,13 +14,13 @@ use Rattle.virt_engine.specs.Line.{status_text}
 use Rattle.virt_engine.specs.Output.{output_bytes}
 use Rattle.virt_engine.specs.Report.{Puts, Reports}
 use Rattle.virt_engine.specs.Writing.{LeftOf}
-use Rattle.virt_engine.specs.Apps.{Refuses, IsRefusedBy, IsAppFile}
 use Rattle.virt_engine.specs.PolicyTrees.{with_trees, trees_verdict}
 use Rattle.virt_engine.specs.Plan.{IsDueUnder, IsDueOf, IsDueFor, IsDue, IsAccepted, NoFileDue, written_by, Plans, IsReady, RefusalOf, Wrote, DueOf, FilesQuiet, Finishes, Ran, RanCommand, Completes, Accepts, Delivers}
 use Rattle.policy_data.specs.declared.policy.Policy.{Policy}
 use Rattle.mount_tree.specs.declared.forest.Forest.{Forest}
 use Rattle.mount_tree.specs.declared.fault.TreeFault.{TreeFault}
 use Rattle.virt_engine.proofs.PolicyLaws.{policy_stands, one_policy}
+use Rattle.virt_engine.proofs.StatusLaws.{app_stands}
 use Rattle.virt_engine.proofs.Adding.{goes_on}
 
 -- ---- what is due of words that name a command
@@ -207,38 +203,9 @@ completes words s t k l result r = by_due r.due r.text words s t k l result r.fi
 
 -- ---- a call that is to be accepted
 
-fault_is_some : (fault : AppFault) → refusals.Refused fault ≡ refusals.NoMemory → ⊥
-fault_is_some fault h = cc
-
-depth_is_some : (depth : ℕ) → refusals.TooNested depth ≡ refusals.NoMemory → ⊥
-depth_is_some depth h = cc
-
--- an application that may be wrapped is not refused
-refuses_none : (bytes : List ℕ) (tree : Tree) (status : Status) → IsApp bytes tree → Refuses bytes status → ⊥
-refuses_none bytes tree (AppRefused fault) a r = app_not_refused bytes tree (refusals.Refused fault) a (fault_is_some fault) r
-refuses_none bytes tree (OverLimit what value) a r = app_not_refused bytes tree (refusals.TooNested value) a (depth_is_some value) r.1
-refuses_none bytes tree Done a r = r
-refuses_none bytes tree (PolicyRefused fault) a r = r
-refuses_none bytes tree (FileFault name) a r = r
-refuses_none bytes tree SinkFault a r = r
-refuses_none bytes tree NoMemory a r = r
-refuses_none bytes tree (ScriptRefused path) a r = r
-refuses_none bytes tree Trapped a r = r
-refuses_none bytes tree ScriptEnded a r = r
-refuses_none bytes tree StepsSpent a r = r
-refuses_none bytes tree BadAnswer a r = r
-refuses_none bytes tree TooDeep a r = r
-refuses_none bytes tree Usage a r = r
-
-app_taken : (held : Held) (name bytes : List ℕ) (status : Status) → IsAppFile held name bytes → IsRefusedBy (held.file name) name status → ⊥
-app_taken held name bytes status f h = elim (subst (λ (file : Option (List ℕ)). IsRefusedBy file name status) f.there h) [
-  | inl long ↦ absurd (omega (arith, long.0, f.short))
-  | inr r ↦ refuses_none bytes f.tree status f.application r.1
-]
-
 accepted_under : (held : Held) (words : List (List ℕ)) (a : IsAccepted held words) (policy : Policy) (status : Status) → a.policy ≡ policy → IsDueUnder held a.command policy status → status ≡ Done
 accepted_under held words a policy status same h = elim h [
-  | inl r ↦ absurd (app_taken held a.command.app a.app status a.app_file r)
+  | inl r ↦ absurd (app_stands held a.command.app a.app status a.app_file r)
   | inr w ↦ sym w.2 ∙ ap (λ (p : Policy). trees_verdict held p Done) (sym same) ∙ ap (λ (r : Result Forest TreeFault). with_trees r Done) a.trees
 ]
 

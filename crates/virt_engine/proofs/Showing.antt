@@ -12,21 +12,22 @@ use Rattle.comp_types.specs.Items.{Entries, Signature}
 use Rattle.comp_grammar.specs.Trees.{Tree, plain}
 use Rattle.comp_types.specs.Added.{type_of}
 use Rattle.comp_signature.specs.Signatures.{component_signature}
-use Rattle.host_script.specs.declared.script.Script.{Script}
+use Rattle.component_judge.specs.declared.script.Scripted.{Scripted}
 use Rattle.host_script.specs.Script.{script_seen, due_script, json_in, item_seen, call_seen}
 use Rattle.host_port.specs.Scripts as port
 use Rattle.reference_step.specs.State.{opening}
 use Rattle.reference_step.specs.Steps.{reference_step}
 use Rattle.reference_host.specs.Hosts.{setup_for}
-use Rattle.run_judge.specs.Callable.{callable}
-use Rattle.run_judge.specs.Components.{IsRefusal, IsRunnable}
-use Rattle.run_judge.specs.Applications.{IsApplicationRefusal}
-use Rattle.run_judge.specs.declared.component.Judged.{Judged}
-use Rattle.run_judge.specs.declared.unready.Unready.{Unready}
-use Rattle.run_judge.specs.declared.inputs.Inputs.{Inputs}
-use Rattle.run_judge.specs.declared.inputs.ListedInputs.{ListedInputs}
-use Rattle.run_judge.specs.Inputs.{Fitting, IsListedBy, HasScript, AreListedReady, AreThere, FetchesInputs, FetchesListed}
-use Rattle.run_judge.proofs.Both.{listed_earlier, ready_before}
+use Rattle.component_judge.specs.Callable.{callable}
+use Rattle.component_judge.specs.Components.{IsRefusal, IsRunnable}
+use Rattle.component_judge.specs.Applications.{IsApplicationRefusal}
+use Rattle.component_judge.specs.declared.limits.Purpose.TheVariants.{Run}
+use Rattle.component_judge.specs.declared.component.Judged.{Judged}
+use Rattle.component_judge.specs.declared.unready.Unready.{Unready}
+use Rattle.component_judge.specs.declared.inputs.Inputs.{Inputs}
+use Rattle.component_judge.specs.declared.inputs.ListedInputs.{ListedInputs}
+use Rattle.component_judge.specs.Inputs.{Fitting, IsListedBy, HasScript, AreListedReady, AreThere, FetchesInputs, FetchesListed}
+use Rattle.component_judge.proofs.Both.{listed_earlier, ready_before}
 use Rattle.virt_engine.specs.declared.runner.Shown.{Shown}
 use Rattle.virt_engine.specs.declared.status.Status.{Status}
 use Rattle.virt_engine.specs.declared.status.Status.TheVariants.{Done, PolicyRefused, AppRefused, FileFault, SinkFault, OverLimit, NoMemory, ScriptRefused, Trapped, ScriptEnded, StepsSpent, BadAnswer, TooDeep, Usage}
@@ -131,14 +132,14 @@ made_before : (policy : Policy) (s t : FilesState) (trees : List NamedTree) → 
 made_before policy s t trees goes stays h = (h.0, λ told. subst (λ (held : Held). (trees_due held policy).answer ≡ Ok h.0) stays (h.1 (goes.told ∙ told)), h.2)
 
 -- the script of a component that was judged, as the definition has it
-abbrev pub script_held : (judged : Judged) (name : List ℕ) (s : FilesState) (script : Script) → component_signature judged.ty ≡ type_of (plain judged.component)
-    → HasScript judged.ty.exports name s script → s.told ≡ true → HoldsScript s.held name (type_of (plain judged.component)).exports
-script_held judged name s script same h told = record {
+abbrev pub script_held : (judged : Judged) (name : List ℕ) (s : FilesState) (scripted : Scripted) → component_signature judged.ty ≡ type_of (plain judged.component)
+    → HasScript judged.ty.exports name s scripted → s.told ≡ true → HoldsScript s.held name (type_of (plain judged.component)).exports
+script_held judged name s scripted same h told = record {
   bytes = h.bytes;
   there = h.there told;
   short = h.judges.0;
-  script = script_seen script;
-  due = subst (λ (exports : Entries). due_script (callable exports) (json_in h.bytes) ≡ Ok (script_seen script)) (ap (λ (sig : Signature). sig.exports) same) h.judges.1;
+  script = script_seen scripted.script;
+  due = subst (λ (exports : Entries). due_script (callable exports) (json_in h.bytes) ≡ Ok (script_seen scripted.script)) (ap (λ (sig : Signature). sig.exports) same) h.judges.1;
 }
 
 abbrev pub application_held : (name script : List ℕ) (s : FilesState) (l : ListedInputs) → AreListedReady name script s l → s.told ≡ true → HoldsComponent IsListedBy s.held name (plain l.inputs.judged.component)
@@ -167,7 +168,7 @@ module _ (c : RunCommand) (name : List ℕ) (s t : FilesState) where
     inputs_here : s.told ≡ true → NoFileDueBy s.held c (Some name) → AreThere IsListedBy c.component c.script t.held
     inputs_here told fine =
         subst (λ (held : Held). AreThere IsListedBy c.component c.script held) (sym f.stays)
-        (inputs_there IsApplicationRefusal IsListedBy s.held c (λ kept h. fine kept (inr (policy, policy_file name s policy f.policy told, inl h))))
+        (inputs_there (IsApplicationRefusal Run) IsListedBy s.held c (λ kept h. fine kept (inr (policy, policy_file name s policy f.policy told, inl h))))
 
     quiet_inputs : (r : Result ListedInputs Unready) → FetchesListed c.component c.script t u r → s.told ≡ true → s.steady ≡ true → NoFileDueBy s.held c (Some name) → u.faults ≡ s.faults
     quiet_inputs r g told steady fine = (g.quiet (told_t told) (f.goes.steady steady) (inputs_here told fine)).0 ∙ quiet_policy told steady fine
@@ -209,7 +210,7 @@ module _ (c : RunCommand) (name : List ℕ) (s t : FilesState) where
             inr (
               plain inputs.inputs.judged.component,
               application_held c.component c.script s inputs ready told,
-              script_held inputs.inputs.judged c.script s inputs.inputs.script ready.application.judges.1 ready.scripted told,
+              script_held inputs.inputs.judged c.script s inputs.inputs.scripted ready.application.judges.1 ready.scripted told,
               verdict,
             ),
           ))
@@ -241,7 +242,7 @@ module _ (c : RunCommand) (name : List ℕ) (s t : FilesState) where
         })
 
         pub under_shown : (shown : Shown) → IsShown shown
-            → ShowsRun (plain inputs.inputs.judged.component) (reference_step port.script) (opening (setup_for policy trees inputs.listed.uses) (map item_seen inputs.inputs.script.answers)) (map call_seen inputs.inputs.script.calls) c.steps shown
+            → ShowsRun (plain inputs.inputs.judged.component) (reference_step port.script) (opening (setup_for policy trees inputs.listed.uses) (map item_seen inputs.inputs.scripted.script.answers)) (map call_seen inputs.inputs.scripted.script.calls) c.steps shown
             → ShowsUnder c name s w (Ok shown)
         under_shown shown ends runs = record {
           goes = goes_on s u w goes_u m.goes;

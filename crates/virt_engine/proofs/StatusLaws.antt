@@ -1,64 +1,31 @@
 -- Of each call one status is due.
-use Rattle.std.proofs.Common.{◌≡◌, ◌≢◌, ◌∙◌, refl, sym, ap, subst, ℕ, List, Option, Some, None, inl, inr, arith}
-use Rattle.std.specs.Prelude.{codes}
+use Rattle.std.proofs.Common.{◌≡◌, ◌∙◌, sym, subst, ℕ, List, Option, Some, None, inl, inr}
 use Rattle.outside.specs.Files.{Held}
 use Rattle.policy_data.specs.declared.policy.Policy.{Policy}
-use Rattle.virt_app.specs.declared.refusal.AppRefusal.{AppRefusal}
-use Rattle.virt_app.specs.declared.refusal.AppRefusal.TheVariants as refusals
-use Rattle.virt_app.specs.Apps.{IsRefusal}
-use Rattle.virt_app.proofs.AppLaws.{app_not_refused}
-use Rattle.virt_app.proofs.RefusalLaws.{one_refusal}
+use Rattle.component_judge.specs.Alone.{IsAloneRefusal}
+use Rattle.component_judge.proofs.Refusals.{one_alone_refusal}
+use Rattle.component_judge.proofs.Wrapping.{alone_stands}
 use Rattle.virt_engine.specs.declared.status.Status.{Status}
-use Rattle.virt_engine.specs.declared.status.Status.TheVariants.{Done, PolicyRefused, AppRefused, FileFault, SinkFault, OverLimit, NoMemory, ScriptRefused, Trapped, ScriptEnded, StepsSpent, BadAnswer, TooDeep, Usage}
+use Rattle.virt_engine.specs.declared.status.Status.TheVariants.{Done}
 use Rattle.virt_engine.specs.Command.{Command, command_of}
-use Rattle.virt_engine.specs.Apps.{Refuses, IsRefusedBy, IsAppFile}
+use Rattle.virt_engine.specs.Apps.{IsAppFile}
+use Rattle.virt_engine.specs.RunDue.{IsVerdictBy}
 use Rattle.virt_engine.specs.Plan.{IsDue, IsDueFor, IsDueOf, IsDueUnder}
 use Rattle.virt_engine.proofs.PolicyLaws.{policy_stands, one_policy}
+use Rattle.virt_engine.proofs.RunDue.{AreOnes, one_file, file_stands}
 
 -- ---- the application
 
-abbrev status_for : AppRefusal → Status
-status_for (refusals.Refused fault) = AppRefused fault
-status_for (refusals.TooNested depth) = OverLimit (codes "nesting") depth
-status_for refusals.NoMemory = NoMemory
+are_ones : AreOnes IsAloneRefusal
+are_ones = record { one = one_alone_refusal }
 
--- the refusal for which bytes are refused with a status
-refusal_for : (bytes : List ℕ) (status : Status) → Refuses bytes status → (r : AppRefusal) × (r ≢ refusals.NoMemory) × IsRefusal bytes r × (status ≡ status_for r)
-refusal_for bytes (AppRefused fault) h = (refusals.Refused fault, λ e. cc, h, refl)
-refusal_for bytes (OverLimit what value) h = (refusals.TooNested value, λ e. cc, h.1, ap (λ w. OverLimit w value) h.0)
-refusal_for bytes Done h = absurd h
-refusal_for bytes (PolicyRefused fault) h = absurd h
-refusal_for bytes (FileFault name) h = absurd h
-refusal_for bytes SinkFault h = absurd h
-refusal_for bytes NoMemory h = absurd h
-refusal_for bytes (ScriptRefused path) h = absurd h
-refusal_for bytes Trapped h = absurd h
-refusal_for bytes ScriptEnded h = absurd h
-refusal_for bytes StepsSpent h = absurd h
-refusal_for bytes BadAnswer h = absurd h
-refusal_for bytes TooDeep h = absurd h
-refusal_for bytes Usage h = absurd h
-
-one_refused : (bytes : List ℕ) (a b : Status) → Refuses bytes a → Refuses bytes b → a ≡ b
-one_refused bytes a b h g =
-    let r = refusal_for bytes a h in
-    let s = refusal_for bytes b g in
-    r.3 ∙ ap status_for (one_refusal bytes r.0 s.0 r.1 s.1 r.2 s.2) ∙ sym s.3
-
-one_app : (file : Option (List ℕ)) (name : List ℕ) (a b : Status) → IsRefusedBy file name a → IsRefusedBy file name b → a ≡ b
-one_app None name a b h g = h ∙ sym g
-one_app (Some bytes) name a b (inl h) (inl g) = h.1 ∙ sym g.1
-one_app (Some bytes) name a b (inl h) (inr g) = absurd (omega (arith, h.0, g.0))
-one_app (Some bytes) name a b (inr h) (inl g) = absurd (omega (arith, h.0, g.0))
-one_app (Some bytes) name a b (inr h) (inr g) = one_refused bytes a b h.1 g.1
+one_app : (file : Option (List ℕ)) (name : List ℕ) (a b : Status) → IsVerdictBy IsAloneRefusal file name a → IsVerdictBy IsAloneRefusal file name b → a ≡ b
+one_app file name a b h g = one_file IsAloneRefusal are_ones file name a b h g
 
 -- an application's file is not refused
-app_stands : (held : Held) (name bytes : List ℕ) (status : Status) → IsAppFile held name bytes → IsRefusedBy (held.file name) name status → ⊥
-app_stands held name bytes status app h = by (subst (λ (file : Option (List ℕ)). IsRefusedBy file name status) app.there h)
-  where
-    by : IsRefusedBy (Some bytes) name status → ⊥
-    by (inl over) = omega (arith, over.0, app.short)
-    by (inr refused) = let r = refusal_for bytes status refused.1 in app_not_refused bytes app.tree r.0 app.application r.1 r.2
+pub app_stands : (held : Held) (name bytes : List ℕ) (status : Status) → IsAppFile held name bytes → IsVerdictBy IsAloneRefusal (held.file name) name status → ⊥
+app_stands held name bytes status app h =
+    file_stands IsAloneRefusal (held.file name) name bytes status app.there (λ refusal some r. alone_stands bytes app.tree refusal app.application some r) h
 
 -- ---- all together
 

@@ -4,8 +4,8 @@ use Rattle.std.specs.Prelude.{All}
 use Rattle.outside.specs.Files.{FilesState}
 use Rattle.outside.specs.Sink.{SinkState}
 use Rattle.outside.specs.declared.sink.PutFailed.{PutFailed}
-use Rattle.run_judge.specs.declared.ends.RunEnd.{RunEnd}
-use Rattle.run_judge.specs.declared.ends.RunEnd.TheVariants as ends
+use Rattle.call_moments.specs.declared.end.RunEnd.{RunEnd}
+use Rattle.call_moments.specs.declared.end.RunEnd.TheVariants as ends
 use Rattle.virt_words.specs.Lines.{text_of, PutsAll}
 use Rattle.virt_engine.specs.declared.runner.Shown.{Shown}
 use Rattle.virt_engine.specs.Lines.{IsLine}
@@ -42,10 +42,10 @@ put_broken shown k l e seen p = record {
 -- ---- the whole call
 
 loud : (end : RunEnd) → ended_as end ≡ NoMemory → ⊥
-loud ends.Done h = cc
+loud (ends.Returned value) h = cc
 loud ends.Trapped h = cc
 loud ends.ScriptEnded h = cc
-loud ends.StepsSpent h = cc
+loud ends.Spent h = cc
 loud ends.BadAnswer h = cc
 loud ends.TooDeep h = cc
 

@@ -1,8 +1,8 @@
 -- What reading a file of the command comes to.
-use Rattle.std.specs.Prelude.{ℕ, ◌≡◌, List, Option, Some, None, length, nat_lt, if◌then◌else◌}
-use Rattle.run_judge.specs.declared.refusal.RunRefusal.TheVariants as refusals
-use Rattle.run_judge.specs.declared.unready.Unready.{Unready}
-use Rattle.run_judge.specs.declared.unready.Unready.TheVariants as unready
+use Rattle.std.specs.Prelude.{ℕ, List, Option, Some, None, length, nat_lt, if◌then◌else◌}
+use Rattle.component_judge.specs.declared.refusal.Refusal.TheVariants as refusals
+use Rattle.component_judge.specs.declared.unready.Unready.{Unready}
+use Rattle.component_judge.specs.declared.unready.Unready.TheVariants as unready
 use Rattle.virt_engine.specs.declared.status.Status.{Status}
 use Rattle.virt_engine.specs.declared.status.Status.TheVariants.{AppRefused, FileFault, OverLimit, NoMemory, ScriptRefused}
 
@@ -22,9 +22,3 @@ unready_as (unready.Refused refusals.NoMemory) = NoMemory
 abbrev pub IsFileFault : Status → Type 0
 IsFileFault (FileFault name) = Unit {0}
 IsFileFault _ = ⊥
-
--- the status of a quantity above its limit, or want of memory for its name
-abbrev pub IsOverLimitOf : List ℕ → ℕ → Status → Type 0
-IsOverLimitOf what value (OverLimit kept v) = (kept ≡ what) × (v ≡ value)
-IsOverLimitOf what value NoMemory = Unit {0}
-IsOverLimitOf what value _ = ⊥

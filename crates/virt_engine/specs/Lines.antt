@@ -3,10 +3,8 @@ use Rattle.std.specs.Prelude.{ℕ, ◌≡◌, List, [], ◌∷◌, ◌++◌, All
 use Rattle.wit_types.specs.Plain.{Plain}
 use Rattle.host_port.specs.Calls as port
 use Rattle.host_port.specs.Calls.{PlainObservation, plain_option}
-use Rattle.call_moments.specs.declared.end.RunEnd.{RunEnd as CallEnd}
-use Rattle.call_moments.specs.declared.end.RunEnd.TheVariants as calls
-use Rattle.run_judge.specs.declared.ends.RunEnd.{RunEnd}
-use Rattle.run_judge.specs.declared.ends.RunEnd.TheVariants.{Done, Trapped, ScriptEnded, StepsSpent, BadAnswer, TooDeep}
+use Rattle.call_moments.specs.declared.end.RunEnd.{RunEnd}
+use Rattle.call_moments.specs.declared.end.RunEnd.TheVariants.{Returned, Trapped, ScriptEnded, BadAnswer, Spent, TooDeep}
 use Rattle.script_lines.specs.Lines.{line_text}
 use Rattle.virt_words.specs.Lines.{cut, total}
 
@@ -20,10 +18,10 @@ AreLines sizes text = (total sizes ≡ length text) × All IsLine (cut sizes tex
 
 -- what a run shows that did not end well
 abbrev pub named : RunEnd → Option PlainObservation
-named Done = None
+named (Returned value) = None
 named Trapped = Some port.Trapped
 named ScriptEnded = Some port.ScriptEnded
-named StepsSpent = Some port.Spent
+named Spent = Some port.Spent
 named BadAnswer = Some port.BadAnswer
 named TooDeep = Some port.TooDeep
 
@@ -40,18 +38,18 @@ EndsBy lines end = LastIs lines (named end)
 abbrev pub Adds : List (List ℕ) → List (List ℕ) → List ℕ → Type 0
 Adds old new text = new ≡ old ++ text ∷ []
 
-abbrev pub end_by : CallEnd → RunEnd
-end_by (calls.Returned value) = Done
-end_by calls.Trapped = Trapped
-end_by calls.ScriptEnded = ScriptEnded
-end_by calls.BadAnswer = BadAnswer
-end_by calls.Spent = StepsSpent
-end_by calls.TooDeep = TooDeep
+abbrev pub end_by : RunEnd → RunEnd
+end_by (Returned value) = Returned None
+end_by Trapped = Trapped
+end_by ScriptEnded = ScriptEnded
+end_by BadAnswer = BadAnswer
+end_by Spent = Spent
+end_by TooDeep = TooDeep
 
-abbrev pub seen_by : CallEnd → PlainObservation
-seen_by (calls.Returned value) = port.Returned (plain_option value)
-seen_by calls.Trapped = port.Trapped
-seen_by calls.ScriptEnded = port.ScriptEnded
-seen_by calls.BadAnswer = port.BadAnswer
-seen_by calls.Spent = port.Spent
-seen_by calls.TooDeep = port.TooDeep
+abbrev pub seen_by : RunEnd → PlainObservation
+seen_by (Returned value) = port.Returned (plain_option value)
+seen_by Trapped = port.Trapped
+seen_by ScriptEnded = port.ScriptEnded
+seen_by BadAnswer = port.BadAnswer
+seen_by Spent = port.Spent
+seen_by TooDeep = port.TooDeep

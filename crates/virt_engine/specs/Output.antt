@@ -8,7 +8,7 @@ use Rattle.comp_types.specs.Added.{type_of}
 use Rattle.comp_types.specs.Validity.{IsValidComponent}
 use Rattle.output_same.specs.Holding.{HoldsOnce}
 use Rattle.output_same.specs.Strategies.{DoesTheSame}
-use Rattle.virt_app.specs.Apps.{IsApp}
+use Rattle.virt_engine.specs.Apps.{IsApp}
 use Rattle.virt_output.specs.Bytes.{front_bytes, back_bytes}
 
 -- The bytes are an output of the application: they spell a valid component without imports, whose exports are those of the

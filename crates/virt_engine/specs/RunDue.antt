@@ -8,14 +8,15 @@ use Rattle.comp_types.specs.Items.{Entries}
 use Rattle.comp_grammar.specs.Trees.{Tree}
 use Rattle.comp_types.specs.Added.{type_of}
 use Rattle.host_script.specs.Script.{PlainScript, due_script, json_in}
-use Rattle.run_judge.specs.Callable.{callable}
-use Rattle.run_judge.specs.declared.refusal.RunRefusal.{RunRefusal}
-use Rattle.run_judge.specs.declared.refusal.RunRefusal.TheVariants as refusals
-use Rattle.run_judge.specs.Components.{IsRefusal, IsRunnable}
-use Rattle.run_judge.specs.Applications.{IsApplicationRefusal}
-use Rattle.run_judge.specs.Scripts.{script_limit}
-use Rattle.run_judge.specs.declared.unready.Unready.TheVariants as unready
-use Rattle.run_judge.specs.Inputs.{Fitting, IsListedBy, RefusesScript}
+use Rattle.component_judge.specs.Callable.{callable}
+use Rattle.component_judge.specs.declared.refusal.Refusal.{Refusal}
+use Rattle.component_judge.specs.declared.refusal.Refusal.TheVariants as refusals
+use Rattle.component_judge.specs.Components.{IsRefusal, IsRunnable}
+use Rattle.component_judge.specs.Applications.{IsApplicationRefusal}
+use Rattle.component_judge.specs.declared.limits.Purpose.TheVariants.{Run}
+use Rattle.component_judge.specs.Limits.{script_limit}
+use Rattle.component_judge.specs.declared.unready.Unready.TheVariants as unready
+use Rattle.component_judge.specs.Inputs.{Fitting, IsListedBy, RefusesScript}
 use Rattle.virt_engine.specs.declared.status.Status.{Status}
 use Rattle.virt_engine.specs.declared.status.Status.TheVariants.{FileFault}
 use Rattle.virt_engine.specs.Command.{RunCommand}
@@ -43,12 +44,12 @@ pub record HoldsScript (held : Held) (name : List ℕ) (exports : Entries) : Typ
 
 -- which bytes are refused, and how
 abbrev pub Refusing : Type 1
-Refusing = List ℕ → RunRefusal → Type 0
+Refusing = List ℕ → Refusal → Type 0
 
 -- a file that is absent, or whose bytes are refused
 abbrev pub IsVerdictBy : Refusing → Option (List ℕ) → List ℕ → Status → Type 0
 IsVerdictBy Refuses None name status = status ≡ FileFault name
-IsVerdictBy Refuses (Some bytes) name status = (refusal : RunRefusal) × (refusal ≢ refusals.NoMemory) × Refuses bytes refusal × (status ≡ unready_as (unready.Refused refusal))
+IsVerdictBy Refuses (Some bytes) name status = (refusal : Refusal) × (refusal ≢ refusals.NoMemory) × Refuses bytes refusal × (status ≡ unready_as (unready.Refused refusal))
 
 -- the component's file, or then the script's
 abbrev pub AreInputsRefused : Refusing → Fitting → Held → RunCommand → Status → Type 0
@@ -57,7 +58,7 @@ AreInputsRefused Refuses Fits held c status = IsVerdictBy Refuses (held.file c.c
 
 -- behind the policy: the inputs are refused, or they are not and the policy's trees are
 abbrev pub IsRefusedUnder : Held → RunCommand → Policy → Status → Type 0
-IsRefusedUnder held c policy status = AreInputsRefused IsApplicationRefusal IsListedBy held c status
+IsRefusedUnder held c policy status = AreInputsRefused (IsApplicationRefusal Run) IsListedBy held c status
     ⊎ ((tree : Tree) × HoldsComponent IsListedBy held c.component tree × HoldsScript held c.script (type_of tree).exports × IsTreesVerdict held policy status)
 
 abbrev pub IsRefusedBy : Held → RunCommand → Option (List ℕ) → Status → Type 0

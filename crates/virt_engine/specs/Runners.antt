@@ -5,11 +5,10 @@ use Rattle.host_port.specs.Calls.{PlainObservation}
 use Rattle.host_port.specs.Hosts.{HostStep, Kept}
 use Rattle.comp_worlds.specs.Groups.{Target, Group}
 use Rattle.comp_link.specs.declared.linked.Linked.{Linked}
-use Rattle.call_moments.specs.declared.end.RunEnd.{RunEnd as CallEnd}
 use Rattle.call_moments.specs.Configs.{world_of}
 use Rattle.host_script.specs.Script.{PlainCall, Exports}
-use Rattle.run_judge.specs.declared.ends.RunEnd.{RunEnd}
-use Rattle.run_judge.specs.declared.ends.RunEnd.TheVariants as ends
+use Rattle.call_moments.specs.declared.end.RunEnd.{RunEnd}
+use Rattle.call_moments.specs.declared.end.RunEnd.TheVariants as ends
 use Rattle.script_lines.specs.Lines.{line_text}
 use Rattle.comp_interp.specs.declared.run.Run.{Run}
 use Rattle.comp_interp.specs.Runs.{host_in, IsNew}
@@ -28,7 +27,7 @@ module _ {H S : Type 0} (h : HostStep S) (kept : H → Kept S) where
     pub shown : new.shown ≡ length (kept (host_in old.run)).seen
 
   -- the line of a call's end is added
-  pub record ShowsEnd (came : CallEnd) (ty : Option Plain) (old : Runner H) (how : RunEnd) (new : Runner H) : Type 0 where
+  pub record ShowsEnd (came : RunEnd) (ty : Option Plain) (old : Runner H) (how : RunEnd) (new : Runner H) : Type 0 where
     pub run : new.run ≡ old.run
     pub lines : new.lines ≡ old.lines ++ line_text ty (seen_by came) ∷ []
     pub shown : new.shown ≡ old.shown
@@ -55,10 +54,10 @@ module _ {H S : Type 0} (h : HostStep S) (kept : H → Kept S) where
 
     -- a call returned and there are more, or all was told
     abbrev pub ComesOn : Told → List TypedCall → RunEnd → Runner H → Type 0
-    ComesOn whole rest ends.Done r = Stands whole rest r
+    ComesOn whole rest (ends.Returned value) r = Stands whole rest r
     ComesOn whole rest ends.Trapped r = IsTold whole r.lines ends.Trapped
     ComesOn whole rest ends.ScriptEnded r = IsTold whole r.lines ends.ScriptEnded
-    ComesOn whole rest ends.StepsSpent r = IsTold whole r.lines ends.StepsSpent
+    ComesOn whole rest ends.Spent r = IsTold whole r.lines ends.Spent
     ComesOn whole rest ends.BadAnswer r = IsTold whole r.lines ends.BadAnswer
     ComesOn whole rest ends.TooDeep r = IsTold whole r.lines ends.TooDeep
 

@@ -12,13 +12,13 @@ use Rattle.host_script.specs.Script.{item_seen, call_seen}
 use Rattle.reference_step.specs.State.{Reference, opening}
 use Rattle.reference_step.specs.Steps.{reference_step}
 use Rattle.reference_host.specs.Hosts.{setup_for}
-use Rattle.run_judge.specs.Components.{IsRunnable}
-use Rattle.run_judge.specs.declared.ends.RunEnd.{RunEnd}
-use Rattle.run_judge.specs.declared.ends.RunEnd.TheVariants as ends
-use Rattle.run_judge.specs.declared.unready.Unready.{Unready}
-use Rattle.run_judge.specs.declared.inputs.Inputs.{Inputs}
-use Rattle.run_judge.specs.declared.inputs.ListedInputs.{ListedInputs}
-use Rattle.run_judge.specs.Inputs.{AreReady, AreListedReady, InputsCause, ListedCause}
+use Rattle.component_judge.specs.Components.{IsRunnable}
+use Rattle.call_moments.specs.declared.end.RunEnd.{RunEnd}
+use Rattle.call_moments.specs.declared.end.RunEnd.TheVariants as ends
+use Rattle.component_judge.specs.declared.unready.Unready.{Unready}
+use Rattle.component_judge.specs.declared.inputs.Inputs.{Inputs}
+use Rattle.component_judge.specs.declared.inputs.ListedInputs.{ListedInputs}
+use Rattle.component_judge.specs.Inputs.{AreReady, AreListedReady, InputsCause, ListedCause}
 use Rattle.virt_words.specs.Lines.{text_of}
 use Rattle.virt_engine.specs.declared.runner.Shown.{Shown}
 use Rattle.virt_engine.specs.Lines.{IsLine}
@@ -35,10 +35,10 @@ use Rattle.virt_engine.specs.Report.{Puts, Reports}
 
 -- the status of a run that ended so
 abbrev pub ended_as : RunEnd → Status
-ended_as ends.Done = Done
+ended_as (ends.Returned value) = Done
 ended_as ends.Trapped = Trapped
 ended_as ends.ScriptEnded = ScriptEnded
-ended_as ends.StepsSpent = StepsSpent
+ended_as ends.Spent = StepsSpent
 ended_as ends.BadAnswer = BadAnswer
 ended_as ends.TooDeep = TooDeep
 
@@ -89,12 +89,12 @@ Begins c s = BeginsBy c c.policy s
 
 -- the reference host of a policy before its first call, over a script
 abbrev pub opened_under : {c : RunCommand} → {name : List ℕ} → {s : FilesState} → BeginsUnder c name s → Reference port.Script
-opened_under b = opening (setup_for b.policy b.trees b.inputs.listed.uses) (map item_seen b.inputs.inputs.script.answers)
+opened_under b = opening (setup_for b.policy b.trees b.inputs.listed.uses) (map item_seen b.inputs.inputs.scripted.script.answers)
 
 -- The component is run over the script, and the calls of the script are made; under a policy over its reference host, which asks the script.
 abbrev pub ShowsWhat : (c : RunCommand) (policy : Option (List ℕ)) (s : FilesState) → BeginsBy c policy s → Shown → Type 0
-ShowsWhat c None s b shown = ShowsRun (plain b.0.judged.component) port.script (map item_seen b.0.script.answers) (map call_seen b.0.script.calls) c.steps shown
-ShowsWhat c (Some name) s b shown = ShowsRun (plain b.inputs.inputs.judged.component) (reference_step port.script) (opened_under b) (map call_seen b.inputs.inputs.script.calls) c.steps shown
+ShowsWhat c None s b shown = ShowsRun (plain b.0.judged.component) port.script (map item_seen b.0.scripted.script.answers) (map call_seen b.0.scripted.script.calls) c.steps shown
+ShowsWhat c (Some name) s b shown = ShowsRun (plain b.inputs.inputs.judged.component) (reference_step port.script) (opened_under b) (map call_seen b.inputs.inputs.scripted.script.calls) c.steps shown
 
 -- ---- what a call does
 

@@ -6,11 +6,11 @@ use Rattle.host_port.specs.Hosts.{HostStep}
 use Rattle.comp_link.specs.Linking.{group_of}
 use Rattle.comp_link.specs.Components.{component_obs_deep}
 use Rattle.host_script.specs.Script.{PlainCall, Exports}
-use Rattle.run_judge.specs.Callable.{callable}
+use Rattle.component_judge.specs.Callable.{callable}
 use Rattle.script_lines.specs.Lines.{line_text}
-use Rattle.run_judge.specs.declared.component.Judged.{Judged}
-use Rattle.run_judge.specs.declared.ends.RunEnd.{RunEnd}
-use Rattle.run_judge.specs.Components.{Judges}
+use Rattle.component_judge.specs.declared.component.Judged.{Judged}
+use Rattle.call_moments.specs.declared.end.RunEnd.{RunEnd}
+use Rattle.component_judge.specs.Components.{Judges}
 use Rattle.virt_engine.specs.Calling.{call_of, typed_calls}
 use Rattle.virt_engine.specs.Lines.{EndsBy}
 use Rattle.virt_engine.specs.Told.{Item, Told, told}

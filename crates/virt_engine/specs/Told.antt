@@ -11,8 +11,8 @@ use Rattle.comp_worlds.specs.Groups.{Nesting, Nested, Group, World}
 use Rattle.comp_worlds.specs.Calls.{is_made}
 use Rattle.comp_worlds.specs.Hosts.{hosted}
 use Rattle.comp_worlds.specs.Observed.{first_state, Call, asks_export, leaves_export}
-use Rattle.run_judge.specs.declared.ends.RunEnd.{RunEnd}
-use Rattle.run_judge.specs.declared.ends.RunEnd.TheVariants as ends
+use Rattle.call_moments.specs.declared.end.RunEnd.{RunEnd}
+use Rattle.call_moments.specs.declared.end.RunEnd.TheVariants as ends
 
 -- something observed, with the type of a result where its function has one
 pub record Item : Type 0 where
@@ -48,7 +48,7 @@ before items told = record { items = items ++ told.items; end = told.end }
 abbrev pub told_after : {S A : Type 0} → (A → List Item) → Out (World S) A → (World S → ℕ → Told) → Told
 told_after of (Next o l w a) next = before (untyped o ++ of a) (next w l)
 told_after of (Over o e) next = last o (end_item e) (end_of e)
-told_after of (Spent o) next = last o IsSpent ends.StepsSpent
+told_after of (Spent o) next = last o IsSpent ends.Spent
 
 -- at most 65,536 calls are in progress
 abbrev pub at_most : Nesting
@@ -71,7 +71,7 @@ module _ {S : Type 0} (G : Group) (h : HostStep S) where
       gives (out_of_tuple answer.passed.value)
 
   abbrev pub told_calls : List TypedCall → World S → ℕ → Told
-  told_calls [] w n = record { items = []; end = ends.Done }
+  told_calls [] w n = record { items = []; end = ends.Returned None }
   told_calls (c ∷ cs) w n = told_after (result_item c.ty) (calls_export c.call w n) (λ w' l. told_calls cs w' l)
 
   -- the group is made over the host in this state, and then these calls are made, in at most so many steps

@@ -1,18 +1,5 @@
-ghost use Rattle.virt_engine.specs.Fetching.{IsOverLimitOf};
-
 use crate::status::Status;
-use run_judge::{RunRefusal, Unready};
-use std::alloc::Global;
-use virt_base::Text;
-
-pub fn over_limit(alloc: Global, what: &str, value: u64) -> Status
-    ensures { IsOverLimitOf what.now value result }
-{
-    match Text::from_str(alloc, what) {
-        Ok(what) => Status::OverLimit(what, value),
-        Err(_) => Status::NoMemory,
-    }
-}
+use component_judge::{Refusal, Unready};
 
 /// The status of a file that could not be read, or is refused.
 impl From<Unready> for Status {
@@ -24,10 +11,10 @@ impl From<Unready> for Status {
     fn from(unready: Unready) -> Status {
         match unready {
             Unready::FileFault(name) => Status::FileFault(name),
-            Unready::Refused(RunRefusal::Refused(fault)) => Status::AppRefused(fault),
-            Unready::Refused(RunRefusal::OverLimit(what, value)) => Status::OverLimit(what, value),
-            Unready::Refused(RunRefusal::BadScript(path)) => Status::ScriptRefused(path),
-            Unready::Refused(RunRefusal::NoMemory) => Status::NoMemory,
+            Unready::Refused(Refusal::Refused(fault)) => Status::AppRefused(fault),
+            Unready::Refused(Refusal::OverLimit(what, value)) => Status::OverLimit(what, value),
+            Unready::Refused(Refusal::BadScript(path)) => Status::ScriptRefused(path),
+            Unready::Refused(Refusal::NoMemory) => Status::NoMemory,
         }
     }
 }

@@ -8,12 +8,13 @@ ghost use Rattle.comp_grammar.specs.Trees.{Tree};
 ghost use Rattle.comp_write.specs.Copying.{SpellsBare};
 ghost use Rattle.virt_output.specs.Output.{output_tree};
 
-use crate::app::{App, fetch_app};
+use crate::app::fetch_app;
 use crate::command::Names;
 use crate::line::{done_line, line_of};
 use crate::policy::fetch_policy;
 use crate::status::Status;
 use crate::trees::make_trees;
+use component_judge::Fetched;
 use outside::Files;
 use std::alloc::{AllocError, Global};
 use virt_base::{NoMemory, Text};
@@ -51,17 +52,20 @@ fn lines_for(
 
 /// The parts of the output of an application, and the texts of a call that writes it. An output that no size can tell is want of
 /// memory: its application has more exports, or longer names, than the limit on applications lets in.
-fn ready_for(alloc: Global, app: App, out: &Text) -> Result<Ready, NoMemory>
+fn ready_for(alloc: Global, app: Fetched, out: &Text) -> Result<Ready, NoMemory>
     requires { length app.bytes.items ≤ app_limit }
     ensures app { IfOk result (λ p. p.app.items ≡ app.bytes.items) }
-    ensures output { IfOk result (λ p. written_by p ≡ output_bytes app.bytes.items app.ty.exports) }
-    ensures spelled { IfOk result (λ p. (t : Tree) → SpellsBare 0 t app.bytes.items → SpellsBare 0 (output_tree t app.ty.exports) (written_by p)) }
+    ensures output { IfOk result (λ p. written_by p ≡ output_bytes app.bytes.items app.application.judged.ty.exports) }
+    ensures spelled { IfOk result (λ p. (t : Tree) → SpellsBare 0 t app.bytes.items → SpellsBare 0 (output_tree t app.application.judged.ty.exports) (written_by p)) }
     ensures done { IfOk result (λ p. string_bytes p.done_line ≡ done_text (length app.bytes.items) (length (written_by p)) 0) }
     ensures fault { IfOk result (λ p. p.fault ≡ Status.FileFault out.now) }
     ensures line { IfOk result (λ p. string_bytes p.fault_line ≡ status_text (Status.FileFault out.now)) }
 {
-    let App { bytes: app, ty } = app;
-    let Ok(around) = write_around(alloc, app.len(), &ty.exports) else {
+    let Fetched {
+        bytes: app,
+        application,
+    } = app;
+    let Ok(around) = write_around(alloc, app.len(), &application.judged.ty.exports) else {
         return Err(NoMemory);
     };
     let out_bytes = around.front.len() + app.len() + around.back.len();

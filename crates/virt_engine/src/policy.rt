@@ -1,10 +1,10 @@
 ghost use Rattle.virt_engine.specs.Policies.{FetchesPolicy, IsRefusedFor, ReadsPolicy};
 
 use crate::status::{PolicyFault, Status};
+use component_judge::fetch;
 use outside::Files;
 use policy_data::{Policy, ReadPolicyFault};
 use policy_toml::read_policy;
-use run_judge::fetch;
 use std::alloc::Global;
 use virt_base::Text;
 

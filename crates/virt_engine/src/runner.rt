@@ -1,7 +1,7 @@
 ghost use Rattle.std.specs.Prelude.{◌≡◌, [], IfOk, OnOk, drop, map};
 ghost use Rattle.comp_grammar.specs.Trees.{plain as plain_tree};
 ghost use Rattle.host_script.specs.Script.{AreTyped, call_seen, exports_seen};
-ghost use Rattle.run_judge.specs.Callable.{callable};
+ghost use Rattle.component_judge.specs.Callable.{callable};
 ghost use Rattle.script_lines.specs.Lines.{type_of};
 ghost use Rattle.virt_engine.specs.Calling.{result_named};
 ghost use Rattle.virt_engine.specs.Lines.{EndsBy};
@@ -10,11 +10,11 @@ ghost use Rattle.virt_engine.specs.Shown.{CanRun, IsShown, ShowsRun};
 
 use crate::ends::{end_by, seen_by};
 use crate::lines::Lines;
-use comp_interp::{Run, RunEnd as CallEnd};
+use comp_interp::{Run, RunEnd};
 use comp_linking::link;
+use component_judge::Judged;
 use host_port::{Host, Observation};
 use host_script::{Call, ExportTypes};
-use run_judge::{Judged, RunEnd, callable};
 use std::alloc::Global;
 use virt_base::{NoMemory, Text};
 use wit_types::WitType;
@@ -73,7 +73,7 @@ impl<H: Host> Runner<H> {
     fn show_end(
         &mut self,
         alloc: Global,
-        end: CallEnd,
+        end: RunEnd,
         ty: Option<&WitType>,
     ) -> Result<RunEnd, NoMemory>
         ensures ends { IfOk result (EndsBy self.new.lines) }
@@ -92,7 +92,7 @@ impl<H: Host> Runner<H> {
         let end = self.run.instantiate(alloc)?;
         self.show_host(alloc)?;
         match end {
-            CallEnd::Returned(_) => Ok(RunEnd::Done),
+            RunEnd::Returned(_) => Ok(RunEnd::Returned(None)),
             end => self.show_end(alloc, end, None),
         }
     }
@@ -122,42 +122,45 @@ impl<H: Host> Runner<H> {
         ensures told { IfOk result (λ how. Goes H.step H.kept (exports_seen exports.now) (map call_seen calls.now) self.old how self.new) }
     {
         let made = self.make(alloc)?;
-        let RunEnd::Done = made else {
-            return Ok(made);
-        };
+        match made {
+            RunEnd::Returned(_) => {}
+            end => return Ok(end),
+        }
         for call in calls {
             let end = self.call(alloc, exports, call)?;
-            let RunEnd::Done = end else {
-                return Ok(end);
-            };
+            match end {
+                RunEnd::Returned(_) => {}
+                end => return Ok(end),
+            }
         }
-        Ok(RunEnd::Done)
+        Ok(RunEnd::Returned(None))
     }
 }
 
-/// Runs a component over a host, in at most so many steps: it is made, and these calls of what it exports are made, until one does
-/// not return. What is shown of the host is what it says that was seen of it.
+/// Runs a component, which exports these functions, over a host, in at most so many steps: it is made, and these calls of what it
+/// exports are made, until one does not return. What is shown of the host is what it says that was seen of it.
 pub fn run_component<H: Host + Drop>(
     alloc: Global,
     judged: Judged,
+    functions: &ExportTypes,
     host: H,
     calls: &[Call],
     steps: u64,
 ) -> Result<Shown, NoMemory>
-    requires { CanRun judged }
+    requires can { CanRun judged }
+    requires functions { exports_seen functions.now ≡ callable judged.ty.exports }
     ensures ends { IfOk result IsShown }
     ensures told { IfOk result (λ shown. (H.kept host).seen ≡ [] → AreTyped (callable judged.ty.exports) calls.now →
         ShowsRun (plain_tree judged.component) H.step (H.kept host).state (map call_seen calls.now) steps shown) }
 {
-    let Judged { component, ty } = judged;
-    let exports = callable(alloc, &ty)?;
+    let Judged { component, .. } = judged;
     let linked = link(alloc, component)?;
     let mut runner = Runner {
         run: Run::new(alloc, linked, host, steps),
         lines: Lines::none(alloc),
         shown: 0,
     };
-    let end = runner.go(alloc, &exports, calls)?;
+    let end = runner.go(alloc, functions, calls)?;
     Ok(Shown {
         lines: runner.lines,
         end,

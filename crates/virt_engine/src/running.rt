@@ -1,40 +1,26 @@
-ghost use Rattle.std.specs.Prelude.{◌≡◌};
 ghost use Rattle.virt_engine.specs.Command.{told_by};
-ghost use Rattle.virt_engine.specs.Runs.{ended_as, PutsShown, RunsBy, ShowsAlone, ShowsUnder, ShowsTask};
+ghost use Rattle.virt_engine.specs.Runs.{PutsShown, RunsBy, ShowsAlone, ShowsUnder, ShowsTask};
 
+use crate::ends::ended_as;
 use crate::policy::fetch_policy;
 use crate::report::refuse;
 use crate::status::Status;
 use crate::trees::make_trees;
 use crate::{Shown, run_component};
+use component_judge::{Inputs, ListedInputs, Scripted, fetch_inputs, fetch_listed};
 use host_script::{Script, ScriptHost};
 use outside::{Files, Sink};
 use reference_host::Referenced;
-use run_judge::{Inputs, ListedInputs, RunEnd, fetch_inputs, fetch_listed};
 use std::alloc::Global;
 use virt_base::Text;
 use virt_words::RunWords;
-
-/// The status of a run that ended so.
-fn ended_as(end: RunEnd) -> Status
-    ensures { result ≡ ended_as end }
-{
-    match end {
-        RunEnd::Done => Status::Done,
-        RunEnd::Trapped => Status::Trapped,
-        RunEnd::ScriptEnded => Status::ScriptEnded,
-        RunEnd::StepsSpent => Status::StepsSpent,
-        RunEnd::BadAnswer => Status::BadAnswer,
-        RunEnd::TooDeep => Status::TooDeep,
-    }
-}
 
 /// Puts the lines of a run that is over.
 fn put_shown<S: Sink>(shown: &Shown, out: &mut S) -> Status
     ensures { PutsShown shown.now (S.state out.old) (S.state out.new) result }
 {
     match shown.lines.put(out) {
-        Ok(()) => ended_as(shown.end),
+        Ok(()) => ended_as(&shown.end),
         Err(_) => Status::SinkFault,
     }
 }
@@ -44,10 +30,18 @@ fn show_alone<F: Files>(alloc: Global, task: &RunWords, files: &mut F) -> Result
     ensures { ShowsAlone (told_by task.now) (F.state files.old) (F.state files.new) result }
 {
     let inputs = fetch_inputs(alloc, &task.component, &task.script, files)?;
-    let Inputs { judged, script } = inputs;
+    let Inputs { judged, scripted } = inputs;
+    let Scripted { script, functions } = scripted;
     let Script { answers, calls } = script;
     let host = ScriptHost::new(answers);
-    let shown = run_component(alloc, judged, host, calls.as_slice(), task.steps)?;
+    let shown = run_component(
+        alloc,
+        judged,
+        &functions,
+        host,
+        calls.as_slice(),
+        task.steps,
+    )?;
     Ok(shown)
 }
 
@@ -64,10 +58,18 @@ fn show_under<F: Files>(
     let inputs = fetch_listed(alloc, &task.component, &task.script, files)?;
     let trees = make_trees(alloc, &policy, files)?;
     let ListedInputs { inputs, listed } = inputs;
-    let Inputs { judged, script } = inputs;
+    let Inputs { judged, scripted } = inputs;
+    let Scripted { script, functions } = scripted;
     let Script { answers, calls } = script;
     let host = Referenced::new(alloc, policy, trees, &listed, ScriptHost::new(answers))?;
-    let shown = run_component(alloc, judged, host, calls.as_slice(), task.steps)?;
+    let shown = run_component(
+        alloc,
+        judged,
+        &functions,
+        host,
+        calls.as_slice(),
+        task.steps,
+    )?;
     Ok(shown)
 }
 

@@ -5,7 +5,7 @@ use crate::running::in_words;
 use crate::spelling::{SEVEN, component_of};
 use crate::words::said;
 use comp_signature::ComponentType;
-use run_judge::{judge_component, judge_script};
+use component_judge::{judge_component, judge_script};
 use std::alloc::Global;
 use std::process::Abort;
 use std::test::Fail;

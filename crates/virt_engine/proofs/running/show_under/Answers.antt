@@ -4,7 +4,7 @@ use Rattle.host_port.specs.Hosts.{Kept}
 use Rattle.host_port.specs.Scripts.{Script, script}
 use Rattle.host_script.specs.Script.{item_seen}
 use Rattle.host_script.specs.Hosts.{kept_by}
-use Rattle.run_judge.specs.Callable.{callable}
+use Rattle.component_judge.specs.Callable.{callable}
 use Rattle.reference_step.specs.State.{Reference, opening}
 use Rattle.reference_step.specs.Steps.{reference_step}
 use Rattle.reference_host.specs.Hosts.{setup_for, kept_by as referenced_by}
@@ -33,7 +33,7 @@ returns g c =
     let inputs = c.in_ok-inputs.inputs in
     let setup = setup_for c.in_ok-policy.policy c.in_ok-trees.trees inputs.listed.uses in
     under_shown _ _ _ _ c.in_ok-policy.policy c.in_ok-policy.ensures _ inputs c.in_ok-inputs.ensures _ c.in_ok-trees.trees c.in_ok-trees.ensures c.in_ok-shown.shown c.in_ok-shown.ensures.ends
-    (shown_over (plain inputs.inputs.judged.component) (reference_step script) (callable inputs.inputs.judged.ty.exports) (referenced_by kept_by c.in_ok-host.host) (opening setup (map item_seen inputs.inputs.script.answers))
-    inputs.inputs.script.calls c.as_slice.result.now _ c.in_ok-shown.shown c.as_slice.ensures
+    (shown_over (plain inputs.inputs.judged.component) (reference_step script) (callable inputs.inputs.judged.ty.exports) (referenced_by kept_by c.in_ok-host.host) (opening setup (map item_seen inputs.inputs.scripted.script.answers))
+    inputs.inputs.scripted.script.calls c.as_slice.result.now _ c.in_ok-shown.shown c.as_slice.ensures
     (ap (λ (k : Kept (Reference Script)). k.state) c.in_ok-host.ensures.kept ∙ ap (opening setup) c.new.ensures.state)
     (ap (λ (k : Kept (Reference Script)). k.seen) c.in_ok-host.ensures.kept ∙ c.new.ensures.seen) c.in_ok-inputs.ensures.ready.scripted.typed c.in_ok-shown.ensures.told)

@@ -1,0 +1,12 @@
+pub mod Counting
+pub mod Gathering
+pub mod AloneLaws
+pub mod Applications
+pub mod Judging
+pub mod Keeping
+pub mod Listing
+pub mod ReadLaws
+pub mod Refusals
+pub mod Verdicts
+pub mod Wrapping
+pub mod Both

@@ -1,0 +1,10 @@
+pub mod Sizes
+pub mod Callable
+pub mod Applications
+pub mod Components
+pub mod Alone
+pub mod Limits
+pub mod Scripts
+pub mod Types
+pub mod Fetching
+pub mod Inputs

@@ -1,0 +1,32 @@
+//! What a component is read for: its file is fetched, and its bytes are read, validated and matched, before anything is made of it or
+//! runs. So is the script that a component is run over. Here stand the limits and the refusals, the functions that can be called, and
+//! the bytes of a component's code.
+#![tactic(auto)]
+
+mod alone;
+mod application;
+mod component;
+mod fetching;
+mod functions;
+mod inputs;
+mod laws;
+mod limits;
+mod modules;
+mod refusal;
+mod script;
+mod types;
+mod unready;
+mod whole;
+
+pub use alone::judge_alone;
+pub use application::{Application, judge_application};
+pub use component::{Judged, judge_component};
+pub use fetching::fetch;
+pub use functions::callable;
+pub use inputs::{Fetched, Inputs, ListedInputs, fetch_alone, fetch_inputs, fetch_listed};
+pub use laws::{has_one_verdict, one_refusal_of_bytes};
+pub use limits::Purpose;
+pub use refusal::Refusal;
+pub use script::{Scripted, judge_script};
+pub use unready::Unready;
+pub use whole::code_bytes;

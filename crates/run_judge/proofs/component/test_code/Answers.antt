@@ -1,6 +1,0 @@
-use Rattle.comp_grammar.specs.Trees.{plain}
-use Rattle.run_judge.proofs.Judging.{few_code}
-use Rattle.run_judge.proofs.component.test_code.Goals as goal
-
-pub returns : goal.returns
-returns c = few_code c.args.bytes.now (plain c.args.component.now) c.code_bytes.result c.within.result c.code_bytes.ensures c.within.ensures

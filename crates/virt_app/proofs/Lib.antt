@@ -1,4 +1,0 @@
-pub mod AppLaws
-pub mod ReadLaws
-pub mod TypeLaws
-pub mod RefusalLaws
