@@ -1,0 +1,6 @@
+pub mod Reached
+pub mod Few
+pub mod Labels
+pub mod Sparse
+pub mod Below
+pub mod Imported

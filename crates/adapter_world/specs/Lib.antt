@@ -1,0 +1,5 @@
+pub mod Borrows
+pub mod Needed
+pub mod Behind
+pub mod Names
+pub mod Imports
