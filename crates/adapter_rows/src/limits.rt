@@ -1,0 +1,4 @@
+/// A length as a number of 32 bits, or the greatest.
+pub fn capped(len: usize) -> u32 {
+    u32::try_from(len).unwrap_or(u32::MAX)
+}
