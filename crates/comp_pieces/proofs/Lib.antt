@@ -1,0 +1,3 @@
+pub mod FitLaws
+pub mod TypeFits
+pub mod ExtendLaws

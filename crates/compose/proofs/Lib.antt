@@ -1,0 +1,3 @@
+pub mod SameLaws
+pub mod AssembleLaws
+pub mod CheckLaws

@@ -1,0 +1,15 @@
+use Rattle.comp_grammar.specs.Trees.{plain, plain_sections}
+use Rattle.compose.proofs.AssembleLaws.{whole_spelled, whole_inside}
+use Rattle.compose.proofs.assembled.assemble.Goals as goal
+
+pub returns : goal.returns
+returns c = record {
+  spelled = λ bytes size app. whole_spelled c.args.front.sections.items c.push.new.sections.items c.put_all.new.sections.items c.nested.result (plain c.args.app) c.put_component_head.new.out.items c.new-back.result.items c.put_all.new.out.items bytes
+      c.in_ok-push.ensures c.nested.ensures c.new-back.ensures.items c.in_ok-put_all.ensures
+      (c.in_ok-put_component_head.ensures.spelled (plain_sections c.args.front.sections.items) (plain c.args.app) bytes size app c.requires.spelled);
+  adapter = c.requires.adapter;
+  components = whole_inside c.args.front.sections.items c.push.new.sections.items c.put_all.new.sections.items c.nested.result c.requires.adapter (plain c.args.app) c.new-back.result.items c.put_all.new.out.items
+      c.requires.components c.in_ok-push.ensures c.nested.ensures c.in_ok-put_all.ensures;
+  before = c.args.front.bytes.items;
+  front = c.in_ok-put_component_head.ensures.added;
+}

@@ -1,0 +1,30 @@
+-- What is written around an application: an output that holds an adapter and the application, unchanged.
+use Rattle.std.specs.Prelude.{◌≡◌, ℕ, List, [], ◌∷◌, ◌++◌, length}
+use Rattle.wasm_format.specs.Format.{u32_format}
+use Rattle.comp_grammar.specs.Trees.{Tree}
+use Rattle.comp_write.specs.Copying.{SpellsBare}
+use Rattle.comp_types.specs.Items.{Entries}
+use Rattle.comp_types.specs.Added.{type_of}
+use Rattle.comp_types.specs.Validity.{IsValidComponent}
+use Rattle.output_same.specs.Holding.{components_in}
+use Rattle.policy_data.specs.declared.policy.Policy.{Policy}
+use Rattle.wasi_match.specs.declared.listed.ListedUse.{ListedUse}
+use Rattle.adapter_world.specs.Names.{needed_count}
+use Rattle.adapter_world.specs.Imports.{AreNeeded}
+use Rattle.compose.specs.declared.composed.Composed.{Composed}
+
+-- The bytes before and behind an application of so many bytes, which imports these interfaces and exports these entries, make an
+-- output of it under the policy.
+pub record IsComposed (policy : Policy) (app : Tree) (uses : List ListedUse) (exported : Entries) (size : ℕ) (c : Composed) : Type 0 where
+  pub output : Tree
+  -- the application's bytes stand between the two parts
+  pub spelled : (bytes : List ℕ) → length bytes ≡ size → SpellsBare 0 app bytes → SpellsBare 0 output (c.front.items ++ (bytes ++ c.back.items))
+  pub valid : IsValidComponent output
+  pub imports : AreNeeded policy uses (type_of output).imports
+  pub exports : (type_of output).exports ≡ exported
+  -- two components stand at the outermost level, the adapter and the application, in whose section are its bytes alone
+  pub adapter : Tree
+  pub components : components_in output ≡ adapter ∷ app ∷ []
+  pub before : List ℕ
+  pub front : c.front.items ≡ before ++ (4 ∷ u32_format.write size)
+  pub count : c.needed ≡ needed_count policy uses

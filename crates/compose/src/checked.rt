@@ -1,0 +1,70 @@
+//! What was made is checked.
+
+ghost use Rattle.std.specs.Prelude.{IfOk, OnOk, Ok};
+ghost use Rattle.comp_grammar.specs.Trees.{plain};
+ghost use Rattle.comp_write.specs.Copying.{SpellsBare};
+ghost use Rattle.comp_validate.specs.Answer.{Answers};
+ghost use Rattle.compose.specs.Assembled.{IsRight};
+
+use crate::fault::ComposeFault;
+use crate::same::same_exports;
+use adapter_world::are_needed;
+use comp_read::{CompReadFault, read_component};
+use comp_signature::ComponentType;
+use comp_types::InstanceEntries;
+use comp_validate::{CompFault, validate};
+use policy_data::Policy;
+use std::alloc::Global;
+use wasi_match::Listed;
+use wasm_ast::Component;
+
+/// The type of a component that was made.
+fn type_of(alloc: Global, component: &Component) -> Result<ComponentType, ComposeFault>
+    ensures { IfOk result (λ ty. Answers (plain component.now) (Ok ty)) }
+{
+    match validate(alloc, component) {
+        Ok(ty) => Ok(ty),
+        Err(CompFault::NoMemory) => Err(ComposeFault::NoMemory),
+        Err(CompFault::Invalid(_, _)) => Err(ComposeFault::Unsound),
+    }
+}
+
+#[tactic(auto, using(crate::proofs::CheckLaws::read_spelled))]
+fn read(alloc: Global, bytes: &[u8]) -> Result<Component, ComposeFault>
+    ensures { IfOk result (λ component. SpellsBare 0 (plain component) bytes.now) }
+{
+    match read_component(alloc, bytes) {
+        Ok(component) => Ok(component),
+        Err(CompReadFault::NoMemory) => Err(ComposeFault::NoMemory),
+        Err(_) => Err(ComposeFault::Unsound),
+    }
+}
+
+/// The adapter that bytes spell, which is valid by itself.
+pub fn adapter_in(alloc: Global, bytes: &[u8]) -> Result<Component, ComposeFault>
+    ensures { IfOk result (λ component. SpellsBare 0 (plain component) bytes.now) }
+{
+    let component = read(alloc, bytes)?;
+    type_of(alloc, &component)?;
+    Ok(component)
+}
+
+/// The output is valid, imports exactly what is needed, and exports what the application exports.
+pub fn check(
+    alloc: Global,
+    policy: &Policy,
+    listed: &Listed,
+    exports: &InstanceEntries,
+    output: &Component,
+) -> Result<(), ComposeFault>
+    ensures { OnOk result (IsRight policy.now listed.now.uses exports.now (plain output.now)) }
+{
+    let ty = type_of(alloc, output)?;
+    if !are_needed(alloc, policy, listed, &ty)? {
+        return Err(ComposeFault::Unsound);
+    }
+    if !same_exports(alloc, &ty.exports, exports)? {
+        return Err(ComposeFault::Unsound);
+    }
+    Ok(())
+}

@@ -1,0 +1,7 @@
+/// What an output has before and behind the application's bytes, and how many functions of the host it imports.
+#[derive(Drop)]
+pub struct Composed {
+    pub front: Vec<u8>,
+    pub back: Vec<u8>,
+    pub needed: u32,
+}

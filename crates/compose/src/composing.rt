@@ -1,0 +1,198 @@
+ghost use Rattle.std.specs.Prelude.{◌≡◌, IfOk};
+ghost use Rattle.tree_table.specs.Trees.{AreTrees};
+ghost use Rattle.comp_grammar.specs.Trees.{plain};
+ghost use Rattle.adapter_world.specs.Names.{needed_count};
+ghost use Rattle.compose.specs.Composed.{IsComposed};
+ghost use Rattle.compose.specs.Assembled.{IsFront, IsAssembled};
+
+use crate::assembled::{Assembled, Front, assemble, front_of};
+use crate::checked::{adapter_in, check};
+use crate::composed::Composed;
+use crate::fault::{ComposeFault, of_emit, of_piece};
+use adapter_bytes::{EmittedBytes, Routines, emit_bytes};
+use adapter_rows::{RowsFault, is_sound, rows_for};
+use adapter_world::{World, world_of};
+use comp_signature::ComponentType;
+use comp_types::InstanceEntries;
+use compose_trees::{Catalogue, Sections, adapter, behind, between, import_world, needed};
+use policy_data::Policy;
+use std::alloc::Global;
+use tree_table::Trees;
+use virt_base::{NoMemory, Text};
+use virt_output::Piece;
+use wasi_match::Listed;
+use wasm_ast::Component;
+
+/// The most bytes that a size can say.
+const MOST: usize = 0xFFFF_FFFF;
+
+/// What the adapter is made of.
+fn routines_of(
+    alloc: Global,
+    policy: &Policy,
+    trees: &Trees,
+    world: &World,
+) -> Result<Routines, ComposeFault>
+    requires { AreTrees trees.now }
+{
+    match rows_for(alloc, policy, trees, world) {
+        Ok(routines) => Ok(routines),
+        Err(RowsFault::NoMemory) => Err(ComposeFault::NoMemory),
+        Err(RowsFault::TooLarge) => Err(ComposeFault::TooLong),
+    }
+}
+
+/// The adapter's core modules.
+fn modules_of(alloc: Global, routines: &Routines) -> Result<EmittedBytes, ComposeFault> {
+    if !is_sound(alloc, routines)? {
+        return Err(ComposeFault::Unsound);
+    }
+    match emit_bytes(alloc, routines) {
+        Ok(bytes) => Ok(bytes),
+        Err(fault) => Err(of_emit(fault)),
+    }
+}
+
+/// The bytes of the adapter.
+fn adapter_bytes(
+    alloc: Global,
+    catalogue: &Catalogue,
+    world: &World,
+    routines: &Routines,
+) -> Result<Vec<u8>, ComposeFault> {
+    let modules = modules_of(alloc, routines)?;
+    match adapter(
+        alloc,
+        catalogue,
+        world,
+        &routines.stubs,
+        modules.state.as_slice(),
+        modules.stubs.as_slice(),
+    ) {
+        Ok(bytes) => Ok(bytes),
+        Err(fault) => Err(of_piece(fault)),
+    }
+}
+
+/// The sections around the adapter and the application.
+#[derive(Drop)]
+struct Around {
+    imports: Vec<Piece<'static>>,
+    between: Vec<Piece<'static>>,
+    behind: Vec<Piece<'static>>,
+}
+
+/// The names under which the host's instances are imported.
+fn imported<'a>(alloc: Global, world: &'a World) -> Result<Vec<&'a Text>, NoMemory> {
+    let mut names = Vec::new(alloc);
+    for interface in world.needs.interfaces.as_slice() {
+        names.push(&interface.name)?;
+    }
+    Ok(names)
+}
+
+/// The names under which the application imports instances.
+fn taken<'a>(alloc: Global, world: &'a World) -> Result<Vec<&'a Text>, NoMemory> {
+    let mut names = Vec::new(alloc);
+    for import in world.imports.as_slice() {
+        names.push(&import.name)?;
+    }
+    Ok(names)
+}
+
+fn sections_around(
+    alloc: Global,
+    catalogue: &Catalogue,
+    world: &World,
+    exports: &InstanceEntries,
+) -> Result<Around, NoMemory> {
+    let mut out = Sections::new(alloc);
+    let interfaces = needed(alloc, catalogue, world)?;
+    let imports = import_world(alloc, catalogue, interfaces.as_slice(), &mut out)?;
+    let names = imported(alloc, world)?;
+    let taken = taken(alloc, world)?;
+    Ok(Around {
+        imports: out.into_pieces(),
+        between: between(alloc, names.as_slice(), taken.as_slice())?,
+        behind: behind(
+            alloc,
+            names.as_slice(),
+            taken.as_slice(),
+            imports.types,
+            exports,
+        )?,
+    })
+}
+
+/// What stands before the application, and the sections behind it.
+fn parts(
+    alloc: Global,
+    policy: &Policy,
+    trees: &Trees,
+    world: &World,
+    exports: &InstanceEntries,
+) -> Result<(Front, Vec<Piece<'static>>), ComposeFault>
+    requires { AreTrees trees.now }
+    ensures { IfOk result (λ p. IsFront p.0) }
+{
+    let catalogue = Catalogue::new(alloc)?;
+    let routines = routines_of(alloc, policy, trees, world)?;
+    let bytes = adapter_bytes(alloc, &catalogue, world, &routines)?;
+    let component = adapter_in(alloc, bytes.as_slice())?;
+    let Around {
+        imports,
+        between,
+        behind,
+    } = sections_around(alloc, &catalogue, world, exports)?;
+    let front = front_of(alloc, imports, component, bytes.as_slice(), between)?;
+    Ok((front, behind))
+}
+
+/// The output and its parts, and how many functions of the host it imports.
+fn made(
+    alloc: Global,
+    policy: &Policy,
+    trees: &Trees,
+    component: Component,
+    ty: &ComponentType,
+    listed: &Listed,
+    size: u32,
+) -> Result<(Assembled, u32), ComposeFault>
+    requires { AreTrees trees.now }
+    ensures assembled { IfOk result (λ p. IsAssembled (plain component) size p.0) }
+    ensures count { IfOk result (λ p. p.1 ≡ needed_count policy.now listed.now.uses) }
+{
+    let world = world_of(alloc, policy, listed, ty)?;
+    let (front, behind) = parts(alloc, policy, trees, &world, &ty.exports)?;
+    let assembled = assemble(alloc, front, component, size, behind)?;
+    Ok((assembled, world.needs.functions))
+}
+
+/// What stands around a listed application of so many bytes: the adapter that gives it what it imports under the policy, joined with
+/// it. The application's bytes need not be in memory.
+///
+/// What was made is checked: it is a valid component, which imports exactly what is needed and exports what the application exports.
+pub fn compose(
+    alloc: Global,
+    policy: &Policy,
+    trees: &Trees,
+    component: Component,
+    ty: &ComponentType,
+    listed: &Listed,
+    size: usize,
+) -> Result<Composed, ComposeFault>
+    requires { AreTrees trees.now }
+    ensures { IfOk result (IsComposed policy.now (plain component) listed.now.uses ty.now.exports size) }
+{
+    if size > MOST {
+        return Err(ComposeFault::TooLong);
+    }
+    let (assembled, needed) = made(alloc, policy, trees, component, ty, listed, size as u32)?;
+    check(alloc, policy, listed, &ty.exports, &assembled.output)?;
+    let Assembled { front, back, .. } = assembled;
+    Ok(Composed {
+        front,
+        back,
+        needed,
+    })
+}

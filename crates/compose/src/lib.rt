@@ -1,0 +1,14 @@
+//! Composing: from a policy and an application to the output component, in which an adapter and the application are joined. What is
+//! made is checked before it is answered.
+#![tactic(auto)]
+
+mod assembled;
+mod checked;
+mod composed;
+mod composing;
+mod fault;
+mod same;
+
+pub use composed::Composed;
+pub use composing::compose;
+pub use fault::ComposeFault;
