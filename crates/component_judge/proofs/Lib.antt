@@ -1,6 +1,5 @@
 pub mod Counting
 pub mod Gathering
-pub mod AloneLaws
 pub mod Applications
 pub mod Judging
 pub mod Keeping
@@ -8,5 +7,4 @@ pub mod Listing
 pub mod ReadLaws
 pub mod Refusals
 pub mod Verdicts
-pub mod Wrapping
 pub mod Both

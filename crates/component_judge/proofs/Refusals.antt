@@ -19,12 +19,10 @@ use Rattle.component_judge.proofs.ReadLaws.{one_read_fault, unread_no_component}
 use Rattle.component_judge.specs.declared.refusal.Refusal.{Refusal}
 use Rattle.component_judge.specs.declared.refusal.Refusal.TheVariants.{Refused, OverLimit, BadScript, NoMemory}
 use Rattle.component_judge.specs.declared.limits.Purpose.{Purpose}
-use Rattle.component_judge.specs.declared.limits.Purpose.TheVariants.{Virt, Run}
+use Rattle.component_judge.specs.declared.limits.Purpose.TheVariants.{Run}
 use Rattle.component_judge.specs.Limits.{bytes_limit, bytes_name, code_limit, Keeps, Passes}
 use Rattle.component_judge.specs.Components.{Faulting, IsTooMuch, IsMisfit, IsUnfit, IsRefusalBy, IsRefusal}
-use Rattle.component_judge.specs.Alone.{IsNotAlone, IsAloneRefusal}
 use Rattle.component_judge.proofs.Keeping.{keeps_or_passes}
-use Rattle.component_judge.proofs.AloneLaws.{one_type_fault}
 use Rattle.component_judge.specs.Applications.{IsUnlisted, IsApplicationRefusal}
 
 -- ---- why bytes are refused: each question is asked where those before it have a good answer
@@ -207,11 +205,3 @@ unlisted_is_one = record { one = one_unlisted }
 
 pub one_application_refusal : (p : Purpose) (bytes : List ℕ) (a b : Refusal) → a ≢ NoMemory → b ≢ NoMemory → IsApplicationRefusal p bytes a → IsApplicationRefusal p bytes b → a ≡ b
 one_application_refusal p bytes a b x y h g = one p IsUnlisted bytes unlisted_is_one a b x y h g
-
--- ---- of an application that is wrapped
-
-not_alone_is_one : IsOne IsNotAlone
-not_alone_is_one = record { one = one_type_fault }
-
-pub one_alone_refusal : (bytes : List ℕ) (a b : Refusal) → a ≢ NoMemory → b ≢ NoMemory → IsAloneRefusal bytes a → IsAloneRefusal bytes b → a ≡ b
-one_alone_refusal bytes a b x y h g = one Virt IsNotAlone bytes not_alone_is_one a b x y h g

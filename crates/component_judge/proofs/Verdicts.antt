@@ -47,7 +47,7 @@ module _ (p : Purpose) (AtFault : Faulting) (bytes : List ℕ) (tree : Tree) (a 
     ])
   ]
 
-  pub stands : (e : Refusal) → e ≢ NoMemory → IsRefusalBy p AtFault bytes e → ⊥
+  stands : (e : Refusal) → e ≢ NoMemory → IsRefusalBy p AtFault bytes e → ⊥
   stands (Refused (Malformed at)) some h = h.1.1 tree a.small.spelled.0
   stands (Refused (Unsupported at byte)) some h = h.1.1 tree a.small.spelled.0
   stands (Refused (Invalid rule section)) some h =

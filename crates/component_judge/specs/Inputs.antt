@@ -17,7 +17,6 @@ use Rattle.component_judge.specs.Scripts.{JudgesScript}
 use Rattle.host_script.specs.Script.{AreTyped, exports_seen}
 use Rattle.component_judge.specs.Callable.{callable}
 use Rattle.component_judge.specs.declared.unready.Unready.{Unready}
-use Rattle.component_judge.specs.Alone.{IsAloneRefusal, JudgesAlone}
 use Rattle.component_judge.specs.declared.inputs.Fetched.{Fetched}
 use Rattle.component_judge.specs.declared.inputs.Inputs.{Inputs}
 use Rattle.component_judge.specs.declared.inputs.ListedInputs.{ListedInputs}
@@ -39,9 +38,9 @@ pub record HasApplication (name : List ℕ) (s : FilesState) (judged : Judged) (
   pub runs : Judges bytes (Ok judged)
   pub there : s.told ≡ true → s.held.file name ≡ Some bytes
 
--- The file holds an application that is to be wrapped.
-pub record HasAlone (name : List ℕ) (s : FilesState) (fetched : Fetched) : Type 0 where
-  pub judges : JudgesAlone fetched.bytes.items (Ok fetched.application)
+-- The file holds a listed component that is to be wrapped.
+pub record HasWrapped (name : List ℕ) (s : FilesState) (fetched : Fetched) : Type 0 where
+  pub judges : JudgesApplication Virt fetched.bytes.items (Ok fetched.application)
   pub short : length fetched.bytes.items ≤ bytes_limit Virt
   pub there : s.told ≡ true → s.held.file name ≡ Some fetched.bytes.items
 
@@ -108,8 +107,8 @@ abbrev pub FetchesListed : List ℕ → List ℕ → FilesState → FilesState �
 FetchesListed component script s t r = FetchesBoth (AreListedReady component script s) (ListedCause component script s t) IsListedBy component script s t r
 
 -- What reading an application that is to be wrapped does.
-abbrev pub FetchesAlone : List ℕ → FilesState → FilesState → Result Fetched Unready → Type 0
-FetchesAlone name s t r = FetchesAs name (bytes_name Virt) (bytes_limit Virt) IsAloneRefusal (HasAlone name s) s t r
+abbrev pub FetchesWrapped : List ℕ → FilesState → FilesState → Result Fetched Unready → Type 0
+FetchesWrapped name s t r = FetchesAs name (bytes_name Virt) (bytes_limit Virt) (IsApplicationRefusal Virt) (HasWrapped name s) s t r
 
 -- ---- for private clauses
 

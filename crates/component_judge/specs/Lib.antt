@@ -2,7 +2,6 @@ pub mod Sizes
 pub mod Callable
 pub mod Applications
 pub mod Components
-pub mod Alone
 pub mod Limits
 pub mod Scripts
 pub mod Types

@@ -1,11 +1,9 @@
-ghost use Rattle.component_judge.specs.Inputs.{FetchesAlone, FetchesApplication, FetchesComponent, FetchesInputs, FetchesListed, FetchesScript};
+ghost use Rattle.component_judge.specs.Inputs.{FetchesApplication, FetchesComponent, FetchesInputs, FetchesListed, FetchesScript, FetchesWrapped};
 
 use crate::fetching::fetch;
 use crate::limits::{APPLICATION_BYTES, COMPONENT_BYTES, Purpose, SCRIPT_BYTES};
 use crate::unready::Unready;
-use crate::{
-    Application, Judged, Scripted, judge_alone, judge_application, judge_component, judge_script,
-};
+use crate::{Application, Judged, Scripted, judge_application, judge_component, judge_script};
 use comp_signature::ComponentType;
 use outside::Files;
 use std::alloc::Global;
@@ -44,12 +42,16 @@ pub struct Fetched {
     pub application: Application,
 }
 
-/// The application of a file that is to be wrapped.
-pub fn fetch_alone<F: Files>(alloc: Global, name: &Text, files: &mut F) -> Result<Fetched, Unready>
-    ensures { FetchesAlone name.now (F.state files.old) (F.state files.new) result }
+/// The listed component of a file that is to be wrapped.
+pub fn fetch_wrapped<F: Files>(
+    alloc: Global,
+    name: &Text,
+    files: &mut F,
+) -> Result<Fetched, Unready>
+    ensures { FetchesWrapped name.now (F.state files.old) (F.state files.new) result }
 {
     let bytes = fetch(alloc, name, "application-bytes", APPLICATION_BYTES, files)?;
-    match judge_alone(alloc, bytes.as_slice()) {
+    match judge_application(alloc, Purpose::Virt, bytes.as_slice()) {
         Ok(application) => Ok(Fetched { bytes, application }),
         Err(refusal) => Err(Unready::Refused(refusal)),
     }

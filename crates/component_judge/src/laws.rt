@@ -1,20 +1,17 @@
 //! The laws that a component has one verdict.
 
-ghost use Rattle.component_judge.specs.Alone.{AloneStands, IsAloneRefusal};
 ghost use Rattle.component_judge.specs.Components.{HasOneRefusal, HasOneVerdict, IsRefusal};
 ghost use Rattle.component_judge.specs.Applications.{ListingIsOne, HasOneListing};
 
 /// The law that bytes call for one refusal at most, besides want of memory, whatever they are read for. It does nothing when it runs.
 pub fn one_refusal_of_bytes()
-    ensures wrapped { HasOneRefusal IsAloneRefusal }
-    ensures run { HasOneRefusal IsRefusal }
+    ensures alone { HasOneRefusal IsRefusal }
     ensures listed { ListingIsOne }
 {}
 
-/// The law that no component that will do is refused: none that is wrapped, that is run over a script alone, or that is listed. It does
+/// The law that no component that will do is refused: none that can be run over a script alone, and none that is listed. It does
 /// nothing when it runs.
 pub fn has_one_verdict()
-    ensures wrapped { AloneStands }
     ensures alone { HasOneVerdict }
     ensures listed { HasOneListing }
 {}

@@ -3,7 +3,6 @@
 //! the bytes of a component's code.
 #![tactic(auto)]
 
-mod alone;
 mod application;
 mod component;
 mod fetching;
@@ -18,12 +17,11 @@ mod types;
 mod unready;
 mod whole;
 
-pub use alone::judge_alone;
 pub use application::{Application, judge_application};
 pub use component::{Judged, judge_component};
 pub use fetching::fetch;
 pub use functions::callable;
-pub use inputs::{Fetched, Inputs, ListedInputs, fetch_alone, fetch_inputs, fetch_listed};
+pub use inputs::{Fetched, Inputs, ListedInputs, fetch_inputs, fetch_listed, fetch_wrapped};
 pub use laws::{has_one_verdict, one_refusal_of_bytes};
 pub use limits::Purpose;
 pub use refusal::Refusal;

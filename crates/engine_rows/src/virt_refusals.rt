@@ -17,11 +17,10 @@ p :
 a x `empty`07030142000a1a010015776173693a687474702f747970657340302e322e300500 => 2 application refused: unlisted wasi:http/types@0.2.0&
 a x `empty`07030142000a2d020012776173693a696f2f706f6c6c40302e322e3005000012776173693a696f2f706f6c6c40302e322e330500 => 2 application refused: two-versions wasi:io/poll@0.2.3&
 
-# An instance type with the function `get-random-u64`, which answers a u32 or a u64, and an import of it. A listed import is unlisted for now
+# An instance type with the function `get-random-u64`, which answers a u32, and an import of it
 $ virt a -p p -o o
 p :
 a x `empty`071b014202014000007904000e6765742d72616e646f6d2d75363401000a1d010018776173693a72616e646f6d2f72616e646f6d40302e322e300500 => 2 application refused: wrong-type wasi:random/random@0.2.0&
-a x `empty`071b014202014000007704000e6765742d72616e646f6d2d75363401000a1d010018776173693a72616e646f6d2f72616e646f6d40302e322e300500 => 2 application refused: unlisted wasi:random/random@0.2.0&
 
 # A resource, and an export of it; an owned handle of it, and an export of the handle's type; a resource in an instance, and an export of the instance
 $ virt a -p p -o o

@@ -2,7 +2,6 @@
 use Rattle.std.proofs.Common.{◌≡◌, refl, sym, ap, subst, ℕ, ◌<◌, List, length, true, inl, inr, Ok, Err, arith}
 use Rattle.std.specs.Prelude.{Option, Some, Result}
 use Rattle.outside.specs.Files.{FilesState}
-use Rattle.comp_grammar.specs.Trees.{plain}
 use Rattle.component_judge.specs.declared.inputs.Fetched.{Fetched}
 use Rattle.component_judge.specs.declared.limits.Purpose.TheVariants.{Virt}
 use Rattle.component_judge.specs.declared.refusal.Refusal.{Refusal}
@@ -10,9 +9,9 @@ use Rattle.component_judge.specs.declared.refusal.Refusal.TheVariants as refusal
 use Rattle.component_judge.specs.declared.unready.Unready.{Unready}
 use Rattle.component_judge.specs.declared.unready.Unready.TheVariants.{FileFault as Faulted, Refused}
 use Rattle.component_judge.specs.Limits.{bytes_limit, bytes_name}
-use Rattle.component_judge.specs.Alone.{IsAloneRefusal}
+use Rattle.component_judge.specs.Applications.{IsApplicationRefusal}
 use Rattle.component_judge.specs.Fetching.{Cause, IsTooLong}
-use Rattle.component_judge.specs.Inputs.{FetchesAlone}
+use Rattle.component_judge.specs.Inputs.{FetchesWrapped}
 use Rattle.virt_engine.specs.declared.status.Status.{Status}
 use Rattle.virt_engine.specs.declared.status.Status.TheVariants.{OverLimit}
 use Rattle.virt_engine.specs.Fetching.{unready_as}
@@ -22,8 +21,8 @@ use Rattle.virt_engine.proofs.Fetching.{no_fault}
 
 module _ (name : List ℕ) (s t : FilesState) where
   -- bytes that are refused so call for it
-  calls_for : (bytes : List ℕ) (status : Status) → s.held.file name ≡ Some bytes → Refuses bytes status → IsVerdictBy IsAloneRefusal (s.held.file name) name status
-  calls_for bytes status there h = subst (λ (file : Option (List ℕ)). IsVerdictBy IsAloneRefusal file name status) (sym there) h
+  calls_for : (bytes : List ℕ) (status : Status) → s.held.file name ≡ Some bytes → Refuses bytes status → IsVerdictBy (IsApplicationRefusal Virt) (s.held.file name) name status
+  calls_for bytes status there h = subst (λ (file : Option (List ℕ)). IsVerdictBy (IsApplicationRefusal Virt) file name status) (sym there) h
 
   too_long : (refusal : Refusal) → IsTooLong name (bytes_name Virt) (bytes_limit Virt) s refusal → AppCause name s t (unready_as (Refused refusal))
   too_long refusal long =
@@ -36,7 +35,7 @@ module _ (name : List ℕ) (s t : FilesState) where
       ) in
       subst (λ (r : Refusal). AppCause name s t (unready_as (Refused r))) (sym long.named) cause
 
-  refused : (bytes : List ℕ) (refusal : Refusal) → (s.told ≡ true → s.held.file name ≡ Some bytes) → IsAloneRefusal bytes refusal → AppCause name s t (unready_as (Refused refusal))
+  refused : (bytes : List ℕ) (refusal : Refusal) → (s.told ≡ true → s.held.file name ≡ Some bytes) → IsApplicationRefusal Virt bytes refusal → AppCause name s t (unready_as (Refused refusal))
   refused bytes (refusals.Refused fault) there h = record { bytes = bytes; refused = (refusals.Refused fault, λ e. cc, h, refl); there = there }
   refused bytes (refusals.OverLimit what value) there h =
       let so : Refuses bytes (OverLimit what value) = (refusals.OverLimit what value, λ e. cc, h, refl) in
@@ -44,13 +43,13 @@ module _ (name : List ℕ) (s t : FilesState) where
   refused bytes (refusals.BadScript path) there h = absurd h
   refused bytes refusals.NoMemory there h = tt
 
-  cause_of : (e : Unready) → Cause name (bytes_name Virt) (bytes_limit Virt) IsAloneRefusal s t e → AppCause name s t (unready_as e)
+  cause_of : (e : Unready) → Cause name (bytes_name Virt) (bytes_limit Virt) (IsApplicationRefusal Virt) s t e → AppCause name s t (unready_as e)
   cause_of (Faulted kept) h = (h.asked, h.counted, h.absent)
   cause_of (Refused refusal) (inl none) = subst (λ (r : Refusal). AppCause name s t (unready_as (Refused r))) (sym none) tt
   cause_of (Refused refusal) (inr (inl long)) = too_long refusal long
   cause_of (Refused refusal) (inr (inr h)) = refused h.bytes refusal h.there h.refused
 
-  pub not_fetched : (e : Unready) (r : Result Fetched Status) → r ≡ Err (unready_as e) → FetchesAlone name s t (Err e) → FetchesApp name s t r
+  pub not_fetched : (e : Unready) (r : Result Fetched Status) → r ≡ Err (unready_as e) → FetchesWrapped name s t (Err e) → FetchesApp name s t r
   not_fetched e r is f = subst (λ (x : Result Fetched Status). FetchesApp name s t x) (sym is) (record {
     goes = f.goes;
     stays = f.stays;
@@ -59,14 +58,11 @@ module _ (name : List ℕ) (s t : FilesState) where
     quiet = λ told steady some. let q = f.quiet told steady some in (q.0, no_fault e q.1);
   })
 
-  pub fetched : (app : Fetched) → FetchesAlone name s t (Ok app) → FetchesApp name s t (Ok app)
+  pub fetched : (app : Fetched) → FetchesWrapped name s t (Ok app) → FetchesApp name s t (Ok app)
   fetched app f = record {
     goes = f.goes;
     stays = f.stays;
-    app = (
-      record { short = f.ready.short; tree = plain app.application.judged.component; application = f.ready.judges.0; there = f.ready.there },
-      f.ready.judges.1,
-    );
+    app = f.ready;
     cause = tt;
     quiet = λ told steady some. ((f.quiet told steady some).0, tt);
   }

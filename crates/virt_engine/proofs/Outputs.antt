@@ -1,8 +1,9 @@
 -- What is written is an output of the application.
-use Rattle.std.proofs.Common.{◌≡◌, ◌∙◌, refl, sym, ap, subst, ℕ, List, [], ◌∷◌}
+use Rattle.std.proofs.Common.{◌≡◌, ◌∙◌, ◌⊎◌, refl, sym, ap, subst, inl, inr, ℕ, List, [], ◌∷◌, ◌++◌, length, Ok}
 use Rattle.std.specs.Prelude.{map}
+use Rattle.policy_data.specs.declared.policy.Policy.{Policy}
 use Rattle.comp_types.specs.Items.{Entries, Signature, End, More}
-use Rattle.comp_grammar.specs.Trees.{Part, Tree, CoreModule, Nested, CoreInstances, Instances, Aliases, Types, Canons, Imports, Exports, Custom, End as NoSection, More as Section}
+use Rattle.comp_grammar.specs.Trees.{plain, Part, Tree, CoreModule, Nested, CoreInstances, Instances, Aliases, Types, Canons, Imports, Exports, Custom, End as NoSection, More as Section}
 use Rattle.comp_write.specs.Copying.{bare_part, bare, SpellsBare}
 use Rattle.comp_types.specs.Added.{type_of}
 use Rattle.virt_output.specs.Output.{exporting, output_tree}
@@ -12,8 +13,17 @@ use Rattle.output_same.proofs.Outputs.{output_stands, same_types}
 use Rattle.comp_link.proofs.Spelled.{spelled_define}
 use Rattle.output_same.proofs.Same.{outputs_same}
 use Rattle.virt_output.specs.Bytes.{back_bytes}
-use Rattle.virt_engine.specs.Apps.{IsApp}
-use Rattle.virt_engine.specs.Output.{IsOutputOf, output_bytes}
+use Rattle.comp_signature.specs.Signatures.{component_signature}
+use Rattle.wasi_match.specs.declared.listed.ListedUse.{ListedUse}
+use Rattle.adapter_world.specs.Imports.{AreNeeded}
+use Rattle.compose.specs.Composed.{IsComposed}
+use Rattle.compose.specs.declared.composed.Composed.{Composed}
+use Rattle.component_judge.specs.Applications.{IsApplication, JudgesApplication}
+use Rattle.component_judge.specs.declared.inputs.Fetched.{Fetched}
+use Rattle.component_judge.specs.declared.limits.Purpose.TheVariants.{Virt}
+use Rattle.virt_engine.specs.declared.plan.Ready.{Ready}
+use Rattle.virt_engine.specs.Output.{IsOutputAlone, IsOutputBeside, IsOutputOf, imported_by, output_bytes}
+use Rattle.virt_engine.specs.Parts.{IsAround, Prepares, written_by}
 
 -- ---- the components of the outermost level, without places
 
@@ -52,27 +62,115 @@ once : (t u : Tree) (es : Entries) → bare u ≡ bare (output_tree t es) → (x
 once t u es same =
     only_one (components_in u) (bare t) (sym (bare_components u) ∙ ap components_in same ∙ bare_components (output_tree t es) ∙ ap (λ (xs : List Tree). map bare xs) (holds_one t es))
 
--- ---- an output
+-- ---- an output of an application that imports nothing
 
-pub is_output : (app out : List ℕ) (tree : Tree) (ty : Signature) → IsApp app tree → ty ≡ type_of tree → out ≡ output_bytes app ty.exports → SpellsBare 0 (output_tree tree ty.exports) out → IsOutputOf app out
-is_output app out tree ty a is written spelled =
-    let exports = ap (λ (s : Signature). s.exports) is in
-    let found : SpellsBare 0 (output_tree tree (type_of tree).exports) out = subst (λ (es : Entries). SpellsBare 0 (output_tree tree es) out) exports spelled in
-    let stands = output_stands tree a.sound.valid a.imports in
+is_output : (app out : List ℕ) (tree : Tree) (uses : List ListedUse) (exports : Entries) → IsApplication Virt app tree uses → (type_of tree).imports ≡ End → exports ≡ (type_of tree).exports → out ≡ output_bytes app exports
+    → SpellsBare 0 (output_tree tree exports) out → IsOutputAlone app out
+is_output app out tree uses exports a nothing is written spelled =
+    let found : SpellsBare 0 (output_tree tree (type_of tree).exports) out = subst (λ (es : Entries). SpellsBare 0 (output_tree tree es) out) is spelled in
+    let stands = output_stands tree a.sound.valid nothing in
     let one = once tree found.0 (type_of tree).exports found.2 in
     let same = same_type (output_tree tree (type_of tree).exports) found.0 (sym found.2) in
     record {
       tree = tree;
+      uses = uses;
       application = a;
+      nothing = nothing;
       output = found.0;
       spelled = found.1;
       valid = same_valid (output_tree tree (type_of tree).exports) found.0 (sym found.2) stands.valid;
       imports = ap (λ (s : Signature). s.imports) (sym same) ∙ stands.imports;
-      exports = ap (λ (s : Signature). s.exports) (sym same) ∙ same_types tree a.sound.valid a.imports a.exports;
-      unchanged = record { inner = one.0; once = one.1; behind = back_bytes ty.exports; unchanged = written };
-      behaves = outputs_same tree found.0 (record { valid = a.sound.valid; imports = a.imports }) (spelled_define tree app a.sound.small.spelled.0.0) found.2;
+      exports = ap (λ (s : Signature). s.exports) (sym same) ∙ same_types tree a.sound.valid nothing a.listed.exports;
+      unchanged = record { inner = one.0; once = one.1; behind = back_bytes exports; unchanged = written };
+      behaves = outputs_same tree found.0 (record { valid = a.sound.valid; imports = nothing }) (spelled_define tree app a.sound.small.spelled.0.0) found.2;
     }
 
--- the application's bytes spell it
-pub app_spelled : (app : List ℕ) (tree : Tree) → IsApp app tree → SpellsBare 0 tree app
-app_spelled app tree a = (tree, a.sound.small.spelled.0.0, refl)
+-- ---- an output of an application with imports
+
+only_two : (xs : List Tree) (y z : Tree) → map bare xs ≡ y ∷ z ∷ [] → (a : Tree) × (b : Tree) × (xs ≡ a ∷ b ∷ []) × (bare b ≡ z)
+only_two [] y z e = absurd (cc)
+only_two (a ∷ []) y z e = absurd (cc)
+only_two (a ∷ b ∷ []) y z e = (a, b, refl, cc)
+only_two (a ∷ b ∷ c ∷ xs) y z e = absurd (cc)
+
+two : (u output adapter tree : Tree) → bare u ≡ bare output → components_in output ≡ adapter ∷ tree ∷ [] → (a : Tree) × (b : Tree) × (components_in u ≡ a ∷ b ∷ []) × (bare b ≡ bare tree)
+two u output adapter tree same both =
+    only_two (components_in u) (bare adapter) (bare tree) (sym (bare_components u) ∙ ap components_in same ∙ bare_components output ∙ ap (λ (xs : List Tree). map bare xs) both)
+
+is_composed : (policy : Policy) (app out : List ℕ) (tree : Tree) (uses : List ListedUse) (exports : Entries) (parts : Composed) → IsApplication Virt app tree uses → ((type_of tree).imports ≡ End → ⊥) → exports ≡ (type_of tree).exports
+    → out ≡ parts.front.items ++ (app ++ parts.back.items) → IsComposed policy tree uses exports (length app) parts → IsOutputBeside policy app out
+is_composed policy app out tree uses exports parts a something is written c =
+    let spelled : SpellsBare 0 c.output out = subst (λ (z : List ℕ). SpellsBare 0 c.output z) (sym written) (c.spelled app refl (tree, a.sound.small.spelled.0.0, refl)) in
+    let same : type_of c.output ≡ type_of spelled.0 = same_type c.output spelled.0 (sym spelled.2) in
+    let held = two spelled.0 c.output c.adapter tree spelled.2 c.components in
+    record {
+      tree = tree;
+      uses = uses;
+      application = a;
+      something = something;
+      output = spelled.0;
+      spelled = spelled.1;
+      valid = same_valid c.output spelled.0 (sym spelled.2) c.valid;
+      imports = subst (λ (s : Signature). AreNeeded policy uses s.imports) same c.imports;
+      exports = ap (λ (s : Signature). s.exports) (sym same) ∙ c.exports ∙ is;
+      unchanged = record {
+        adapter = held.0;
+        inner = held.1;
+        both = held.2;
+        same = held.3;
+        before = c.before;
+        behind = parts.back.items;
+        unchanged = written ∙ ap (λ (front : List ℕ). front ++ (app ++ parts.back.items)) c.front;
+      };
+    }
+
+-- ---- what was prepared
+
+pub entries_end : (es : Entries) → (es ≡ End) ⊎ (es ≡ End → ⊥)
+entries_end End = inl refl
+entries_end (More name item rest) = inr (λ e. cc)
+
+module _ (policy : Policy) (app : Fetched) (h : JudgesApplication Virt app.bytes.items (Ok app.application)) (out : List ℕ) (p : Ready) (m : Prepares policy app out p) where
+  abbrev tree : Tree
+  tree = plain app.application.judged.component
+
+  abbrev ty : Signature
+  ty = component_signature app.application.judged.ty
+
+  imports_so : ty.imports ≡ (type_of tree).imports
+  imports_so = ap (λ (s : Signature). s.imports) h.1
+
+  exports_so : ty.exports ≡ (type_of tree).exports
+  exports_so = ap (λ (s : Signature). s.exports) h.1
+
+  written : written_by p ≡ m.parts.front.items ++ (app.bytes.items ++ m.parts.back.items)
+  written = λ i. m.front i ++ (m.app i ++ m.back i)
+
+  around : (type_of tree).imports ≡ End → IsAround ty.exports (length app.bytes.items) m.parts
+  around none = m.are.alone (imports_so ∙ none)
+
+  pub bytes_alone : (type_of tree).imports ≡ End → written_by p ≡ output_bytes app.bytes.items (type_of tree).exports
+  bytes_alone none =
+      let a = around none in
+      written ∙ (λ i. a.front i ++ (app.bytes.items ++ a.back i)) ∙ ap (λ (es : Entries). output_bytes app.bytes.items es) exports_so
+
+  alone : (type_of tree).imports ≡ End → IsOutputAlone app.bytes.items (written_by p)
+  alone none =
+      let a = around none in
+      is_output app.bytes.items (written_by p) tree app.application.listed.uses ty.exports h.0 none exports_so
+      (written ∙ (λ i. a.front i ++ (app.bytes.items ++ a.back i)))
+      (subst (λ (z : List ℕ). SpellsBare 0 (output_tree tree ty.exports) z) (sym written) (a.spelled tree app.bytes.items refl (tree, h.0.sound.small.spelled.0.0, refl)))
+
+  composed : ((type_of tree).imports ≡ End → ⊥) → IsComposed policy tree app.application.listed.uses ty.exports (length app.bytes.items) m.parts
+  composed some = m.are.beside (λ none. some (sym imports_so ∙ none))
+
+  beside : ((type_of tree).imports ≡ End → ⊥) → IsOutputBeside policy app.bytes.items (written_by p)
+  beside some = is_composed policy app.bytes.items (written_by p) tree app.application.listed.uses ty.exports m.parts h.0 some exports_so written (composed some)
+
+  -- it is an output, and imports so many functions
+  pub prepared : (o : IsOutputOf policy app.bytes.items (written_by p)) × (m.parts.needed ≡ imported_by policy app.bytes.items (written_by p) o)
+  unfolding beside is_composed
+  prepared = elim (entries_end (type_of tree).imports) [
+    | inl none ↦ (inl (alone none), (around none).count)
+    | inr some ↦ (inr (beside some), (composed some).count)
+  ]

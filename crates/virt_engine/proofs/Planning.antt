@@ -1,26 +1,29 @@
 -- What reading all that a call needs comes to, from what its parts did.
-use Rattle.std.proofs.Common.{◌≡◌, ◌∙◌, refl, sym, ap, subst, ℕ, List, length, true, inl, inr, Ok, Err, string_bytes}
+use Rattle.std.proofs.Common.{◌≡◌, ◌∙◌, refl, sym, ap, subst, ℕ, List, length, true, inl, inr, Ok, Err}
 use Rattle.std.specs.Prelude.{Option, Some, None, IsSome, Contains, Result, codes}
 use Rattle.outside.specs.Files.{FilesState, Held, Goes}
 use Rattle.outside.proofs.FailingLaws.{Rose-before}
 use Rattle.policy_data.specs.declared.policy.Policy.{Policy}
 use Rattle.mount_tree.specs.Building.{trees_due}
 use Rattle.tree_table.specs.declared.entries.NamedTree.{NamedTree}
-use Rattle.comp_types.specs.Items.{Signature}
 use Rattle.component_judge.specs.declared.inputs.Fetched.{Fetched}
-use Rattle.component_judge.specs.Alone.{IsAloneRefusal}
+use Rattle.comp_grammar.specs.Trees.{plain}
+use Rattle.component_judge.specs.Applications.{IsApplicationRefusal}
+use Rattle.component_judge.specs.declared.limits.Purpose.TheVariants.{Virt}
+use Rattle.component_judge.specs.Inputs.{HasWrapped}
 use Rattle.virt_engine.specs.declared.plan.Ready.{Ready}
 use Rattle.virt_engine.specs.declared.status.Status.{Status}
 use Rattle.virt_engine.specs.declared.status.Status.TheVariants.{Done, PolicyRefused, AppRefused, FileFault, SinkFault, OverLimit, NoMemory, ScriptRefused, Trapped, ScriptEnded, StepsSpent, BadAnswer, TooDeep, Usage}
 use Rattle.virt_engine.specs.Command.{Command}
 use Rattle.virt_engine.specs.Fetching.{with_input, IsFileFault}
 use Rattle.virt_engine.specs.Policies.{policy_limit, policy_due, with_policy, IsPolicyVerdict, IsPolicyFile, HasPolicy, PolicyCause, FetchesPolicy}
-use Rattle.virt_engine.specs.Apps.{IsAppVerdict, IsAppFile, HasApp, HasTypedApp, HasRefused, AppCause, FetchesApp}
+use Rattle.virt_engine.specs.Apps.{IsAppVerdict, IsAppFile, HasApp, HasRefused, AppCause, FetchesApp}
 use Rattle.virt_engine.specs.RunDue.{IsVerdictBy}
 use Rattle.virt_engine.specs.PolicyTrees.{trees_verdict, HasTrees, TreesCause, MakesTrees}
-use Rattle.virt_engine.specs.Line.{done_text, status_text}
-use Rattle.virt_engine.specs.Output.{IsOutputOf, output_bytes}
-use Rattle.virt_engine.specs.Plan.{IsDueUnder, IsDueOf, NoFileDue, written_by, RefusalOf, Plans}
+use Rattle.virt_engine.specs.Line.{done_text}
+use Rattle.virt_engine.specs.Parts.{Prepares, written_by}
+use Rattle.virt_engine.specs.Plan.{IsDueUnder, IsDueOf, NoFileDue, RefusalOf, Plans}
+use Rattle.virt_engine.proofs.Outputs.{bytes_alone, prepared}
 use Rattle.virt_engine.proofs.Adding.{goes_on}
 
 -- ---- files that are due
@@ -87,13 +90,18 @@ pub policy_file : (name : List ℕ) (s : FilesState) (policy : Policy) → HasPo
 policy_file name s policy h told = record { text = h.text; there = h.there told; short = h.short; well_formed = h.well_formed }
 
 app_file : (name : List ℕ) (s : FilesState) (bytes : List ℕ) → HasApp name s bytes → s.told ≡ true → IsAppFile s.held name bytes
-app_file name s bytes h told = record { there = h.there told; short = h.short; tree = h.tree; application = h.application }
+app_file name s bytes h told = record { there = h.there told; short = h.short; tree = h.tree; uses = h.uses; application = h.application }
+
+-- an application that was read
+abbrev app_of : (name : List ℕ) (s : FilesState) (app : Fetched) → HasWrapped name s app → HasApp name s app.bytes.items
+app_of name s app h = record { short = h.short; tree = plain app.application.judged.component; uses = app.application.listed.uses; application = h.judges.0; there = h.there }
 
 -- what is known of contents that stayed was known before
 abbrev app_before : (name : List ℕ) (s t : FilesState) (bytes : List ℕ) → t.held ≡ s.held → t.told ≡ s.told → HasApp name t bytes → HasApp name s bytes
 app_before name s t bytes stays told h = record {
   short = h.short;
   tree = h.tree;
+  uses = h.uses;
   application = h.application;
   there = λ yes. subst (λ (held : Held). held.file name ≡ Some bytes) stays (h.there (told ∙ yes));
 }
@@ -107,7 +115,7 @@ refused_before name s t status stays told h = record {
 
 -- a refusal of the file's bytes is what the file calls for
 refused_here : (name : List ℕ) (s : FilesState) (status : Status) → HasRefused name s status → s.told ≡ true → IsAppVerdict s.held name status
-refused_here name s status h told = subst (λ (file : Option (List ℕ)). IsVerdictBy IsAloneRefusal file name status) (sym (h.there told)) h.refused
+refused_here name s status h told = subst (λ (file : Option (List ℕ)). IsVerdictBy (IsApplicationRefusal Virt) file name status) (sym (h.there told)) h.refused
 
 module _ (c : Command) (policy : Policy) (s t : FilesState) (p : FetchesPolicy c.policy s t (Ok policy)) where
   told_t : s.told ≡ true → t.told ≡ true
@@ -123,7 +131,7 @@ module _ (c : Command) (policy : Policy) (s t : FilesState) (p : FetchesPolicy c
   app_there : s.told ≡ true → NoFileDue s.held c → IsSome (t.held.file c.app)
   app_there told fine =
       there (t.held.file c.app) (λ none.
-      fine c.app (under told (FileFault c.app) (inl (subst (λ (file : Option (List ℕ)). IsVerdictBy IsAloneRefusal file c.app (FileFault c.app)) (sym (subst (λ (held : Held). held.file c.app ≡ None) p.stays none)) refl))))
+      fine c.app (under told (FileFault c.app) (inl (subst (λ (file : Option (List ℕ)). IsVerdictBy (IsApplicationRefusal Virt) file c.app (FileFault c.app)) (sym (subst (λ (held : Held). held.file c.app ≡ None) p.stays none)) refl))))
 
   module _ (u : FilesState) where
     refused_app : (e : Status) → AppCause c.app t u e → RefusalOf c s u e
@@ -171,11 +179,11 @@ module _ (c : Command) (policy : Policy) (s t : FilesState) (p : FetchesPolicy c
       goes_u : Goes s u
       goes_u = goes_on s t u p.goes f.goes
 
-      abbrev typed : HasTypedApp c.app t app
-      typed = f.app
+      abbrev wrapped : HasWrapped c.app t app
+      wrapped = f.app
 
       abbrev has_app : HasApp c.app s app.bytes.items
-      has_app = app_before c.app s t app.bytes.items p.stays p.goes.told typed.0
+      has_app = app_before c.app s t app.bytes.items p.stays p.goes.told (app_of c.app t app wrapped)
 
       -- what the trees call for is due
       by_trees : s.told ≡ true → (status : Status) → trees_verdict u.held policy Done ≡ status → IsDueOf s.held c status
@@ -237,27 +245,27 @@ module _ (c : Command) (policy : Policy) (s t : FilesState) (p : FetchesPolicy c
           quiet = λ told steady fine. (quiet_trees (Ok built) m told steady fine, λ (b : ⊥). b);
         }
 
-        pub plans_ready : (ready : Ready) → written_by ready ≡ output_bytes app.bytes.items app.application.judged.ty.exports → IsOutputOf app.bytes.items (written_by ready)
-            → string_bytes ready.done_line ≡ done_text (length app.bytes.items) (length (written_by ready)) 0 → ready.fault ≡ FileFault c.out
-            → string_bytes ready.fault_line ≡ status_text (FileFault c.out) → Plans c s w (Ok ready)
-        plans_ready ready written output done fault line = record {
-          goes = goes_on s u w goes_u m.goes;
-          stays = m.stays ∙ stays_u;
-          ready = record {
-            policy = policy;
-            has_policy = p.policy;
-            app = app.bytes.items;
-            has_app = has_app;
-            has_trees = has_trees;
-            bytes = written ∙ ap (λ (ty : Signature). output_bytes app.bytes.items ty.exports) typed.1;
-            output = output;
-            done_line = done;
-            fault = fault;
-            fault_line = line;
-          };
-          refusal = tt;
-          quiet = λ told steady fine. (quiet_trees (Ok built) m told steady fine, tt);
-        }
+        pub plans_ready : (ready : Ready) → Prepares policy app c.out ready → Plans c s w (Ok ready)
+        plans_ready ready m' =
+            let output = prepared policy app wrapped.judges c.out ready m' in
+            record {
+              goes = goes_on s u w goes_u m.goes;
+              stays = m.stays ∙ stays_u;
+              ready = record {
+                policy = policy;
+                has_policy = p.policy;
+                app = app.bytes.items;
+                has_app = has_app;
+                has_trees = has_trees;
+                bytes = λ none. bytes_alone policy app wrapped.judges c.out ready m' none;
+                output = output.0;
+                done_line = m'.done_line ∙ ap (λ (n : ℕ). done_text (length app.bytes.items) (length (written_by ready)) n) output.1;
+                fault = m'.fault;
+                fault_line = m'.fault_line;
+              };
+              refusal = tt;
+              quiet = λ told steady fine. (quiet_trees (Ok built) m told steady fine, tt);
+            }
 
 -- ---- an answer that is handed on
 

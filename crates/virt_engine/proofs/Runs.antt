@@ -11,15 +11,18 @@ use Rattle.virt_engine.specs.declared.status.Status.{Status}
 use Rattle.virt_engine.specs.declared.status.Status.TheVariants.{Done, PolicyRefused, AppRefused, FileFault, SinkFault, OverLimit, NoMemory, ScriptRefused, Trapped, ScriptEnded, StepsSpent, BadAnswer, TooDeep, Usage}
 use Rattle.virt_engine.specs.Command.{Command, command_of}
 use Rattle.virt_engine.specs.Line.{status_text}
+use Rattle.comp_types.specs.Items.{End}
 use Rattle.virt_engine.specs.Output.{output_bytes}
+use Rattle.virt_engine.specs.Parts.{written_by}
 use Rattle.virt_engine.specs.Report.{Puts, Reports}
 use Rattle.virt_engine.specs.Writing.{LeftOf}
 use Rattle.virt_engine.specs.PolicyTrees.{with_trees, trees_verdict}
-use Rattle.virt_engine.specs.Plan.{IsDueUnder, IsDueOf, IsDueFor, IsDue, IsAccepted, NoFileDue, written_by, Plans, IsReady, RefusalOf, Wrote, DueOf, FilesQuiet, Finishes, Ran, RanCommand, Completes, Accepts, Delivers}
+use Rattle.virt_engine.specs.Plan.{IsDueUnder, IsDueOf, IsDueFor, IsDue, IsAccepted, NoFileDue, Plans, IsReady, RefusalOf, Wrote, DueOf, HasRoom, FilesQuiet, Finishes, Ran, RanCommand, Completes, Accepts, Delivers}
 use Rattle.policy_data.specs.declared.policy.Policy.{Policy}
 use Rattle.mount_tree.specs.declared.forest.Forest.{Forest}
 use Rattle.mount_tree.specs.declared.fault.TreeFault.{TreeFault}
 use Rattle.virt_engine.proofs.PolicyLaws.{policy_stands, one_policy}
+use Rattle.virt_engine.proofs.Outputs.{entries_end}
 use Rattle.virt_engine.proofs.StatusLaws.{app_stands}
 use Rattle.virt_engine.proofs.Adding.{goes_on}
 
@@ -79,7 +82,7 @@ done_is_due c s w told =
     inr (
       w.policy,
       record { text = w.has_policy.text; there = w.has_policy.there told; short = w.has_policy.short; well_formed = w.has_policy.well_formed },
-      inr (w.app, record { there = w.has_app.there told; short = w.has_app.short; tree = w.has_app.tree; application = w.has_app.application }, w.has_trees.taken told Done),
+      inr (w.app, record { there = w.has_app.there told; short = w.has_app.short; tree = w.has_app.tree; uses = w.has_app.uses; application = w.has_app.application }, w.has_trees.taken told Done),
     )
 
 not_silent : (due : Status) (text : List ℕ) (k l : SinkState) (result : Status) → due ≢ NoMemory → Puts due text k l result → result ≡ NoMemory → ⊥
@@ -103,18 +106,25 @@ held_then s t u name bytes other stays e same = e ∙ ap (λ (h : Held). with_fi
 left_then : (s t u : FilesState) (name bytes other : List ℕ) → t.held ≡ s.held → LeftOf name bytes t.held u.held → bytes ≡ other → LeftOf name other s.held u.held
 left_then s t u name bytes other stays left same = subst (λ (h : Held). LeftOf name other h u.held) stays (subst (λ (z : List ℕ). LeftOf name z t.held u.held) same left)
 
+-- what is written has room
+written_fits : (held : Held) (c : Command) (p : Ready) (s : FilesState) (r : IsReady c s p) → HasRoom held c.out r.app r.has_app.tree (length (written_by p)) → length (written_by p) ≤ held.room c.out
+written_fits held c p s r room = elim (entries_end (type_of r.has_app.tree).imports) [
+  | inl none ↦ subst (λ (z : List ℕ). length z ≤ held.room c.out) (sym (r.bytes none)) (room.alone none)
+  | inr some ↦ room.beside some
+]
+
 pub ran_finish : (c : Command) (p : Ready) (s t u : FilesState) (k l : SinkState) (result : Status) → Plans c s t (Ok p) → Finishes c.out p t u k l result → RanCommand c s u k l result
 ran_finish c p s t u k l result q f words named =
     let ready : IsReady c s p = q.ready in
     let wrote = wrote_of c p s ready in
     let told_t = λ (told : s.told ≡ true). q.goes.told ∙ told in
-    let quiet : FilesQuiet words s u = λ told steady none fits.
+    let quiet : FilesQuiet words s u (length (written_by p)) = λ told steady none fits.
     let room = fits c named (done_is_due c s wrote told) in
     let first = (q.quiet told steady (no_fault_of s.held words c named none)).0 in
     let place : no_place t.held c.out ≡ false = subst (λ (h : Held). no_place h c.out ≡ false) (sym q.stays) room.0 in
-    let short : length (output_bytes ready.app (type_of ready.has_app.tree).exports) ≤ t.held.room c.out =
-    subst (λ (h : Held). length (output_bytes ready.app (type_of ready.has_app.tree).exports) ≤ h.room c.out) (sym q.stays) (room.1 ready.app (ready.has_app.there told) ready.has_app.tree ready.has_app.application) in
-    let fitting : length (written_by p) ≤ t.held.room c.out = subst (λ (z : List ℕ). length z ≤ t.held.room c.out) (sym ready.bytes) short in
+    let short : length (written_by p) ≤ s.held.room c.out =
+    written_fits s.held c p s ready (room.1 ready.app (ready.has_app.there told) ready.has_app.tree ready.has_app.uses ready.has_app.application) in
+    let fitting : length (written_by p) ≤ t.held.room c.out = subst (λ (h : Held). length (written_by p) ≤ h.room c.out) (sym q.stays) short in
     f.quiet (told_t told) (q.goes.steady steady) place fitting ∙ first in
     elim f.end [
       | inl w ↦ record {
@@ -236,7 +246,7 @@ delivers_by Done text words s t d e told =
         policy = w.policy;
         policy_file = record { text = w.has_policy.text; there = w.has_policy.there told; short = w.has_policy.short; well_formed = w.has_policy.well_formed };
         app = w.app;
-        app_file = record { there = w.has_app.there told; short = w.has_app.short; tree = w.has_app.tree; application = w.has_app.application };
+        app_file = record { there = w.has_app.there told; short = w.has_app.short; tree = w.has_app.tree; uses = w.has_app.uses; application = w.has_app.application };
         forest = w.has_trees.forest;
         trees = w.has_trees.made told;
       };

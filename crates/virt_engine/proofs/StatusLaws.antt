@@ -2,9 +2,10 @@
 use Rattle.std.proofs.Common.{◌≡◌, ◌∙◌, sym, subst, ℕ, List, Option, Some, None, inl, inr}
 use Rattle.outside.specs.Files.{Held}
 use Rattle.policy_data.specs.declared.policy.Policy.{Policy}
-use Rattle.component_judge.specs.Alone.{IsAloneRefusal}
-use Rattle.component_judge.proofs.Refusals.{one_alone_refusal}
-use Rattle.component_judge.proofs.Wrapping.{alone_stands}
+use Rattle.component_judge.specs.Applications.{IsApplicationRefusal}
+use Rattle.component_judge.specs.declared.limits.Purpose.TheVariants.{Virt}
+use Rattle.component_judge.proofs.Refusals.{one_application_refusal}
+use Rattle.component_judge.proofs.Verdicts.{one_application}
 use Rattle.virt_engine.specs.declared.status.Status.{Status}
 use Rattle.virt_engine.specs.declared.status.Status.TheVariants.{Done}
 use Rattle.virt_engine.specs.Command.{Command, command_of}
@@ -16,16 +17,16 @@ use Rattle.virt_engine.proofs.RunDue.{AreOnes, one_file, file_stands}
 
 -- ---- the application
 
-are_ones : AreOnes IsAloneRefusal
-are_ones = record { one = one_alone_refusal }
+are_ones : AreOnes (IsApplicationRefusal Virt)
+are_ones = record { one = one_application_refusal Virt }
 
-one_app : (file : Option (List ℕ)) (name : List ℕ) (a b : Status) → IsVerdictBy IsAloneRefusal file name a → IsVerdictBy IsAloneRefusal file name b → a ≡ b
-one_app file name a b h g = one_file IsAloneRefusal are_ones file name a b h g
+one_app : (file : Option (List ℕ)) (name : List ℕ) (a b : Status) → IsVerdictBy (IsApplicationRefusal Virt) file name a → IsVerdictBy (IsApplicationRefusal Virt) file name b → a ≡ b
+one_app file name a b h g = one_file (IsApplicationRefusal Virt) are_ones file name a b h g
 
 -- an application's file is not refused
-pub app_stands : (held : Held) (name bytes : List ℕ) (status : Status) → IsAppFile held name bytes → IsVerdictBy IsAloneRefusal (held.file name) name status → ⊥
+pub app_stands : (held : Held) (name bytes : List ℕ) (status : Status) → IsAppFile held name bytes → IsVerdictBy (IsApplicationRefusal Virt) (held.file name) name status → ⊥
 app_stands held name bytes status app h =
-    file_stands IsAloneRefusal (held.file name) name bytes status app.there (λ refusal some r. alone_stands bytes app.tree refusal app.application some r) h
+    file_stands (IsApplicationRefusal Virt) (held.file name) name bytes status app.there (λ refusal some r. one_application Virt bytes app.tree app.uses refusal app.application some r) h
 
 -- ---- all together
 

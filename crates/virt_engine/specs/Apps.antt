@@ -3,10 +3,10 @@ use Rattle.std.specs.Prelude.{ℕ, ◌≤◌, ◌<◌, ◌≡◌, ◌≢◌, ◌
 use Rattle.outside.specs.Fault.{Rose}
 use Rattle.outside.specs.Files.{FilesState, Held, Goes}
 use Rattle.comp_grammar.specs.Trees.{Tree}
-use Rattle.comp_types.specs.Added.{type_of}
-use Rattle.comp_signature.specs.Signatures.{component_signature}
-use Rattle.component_judge.specs.Alone.{IsAlone, IsAloneRefusal}
+use Rattle.wasi_match.specs.declared.listed.ListedUse.{ListedUse}
+use Rattle.component_judge.specs.Applications.{IsApplication, IsApplicationRefusal}
 use Rattle.component_judge.specs.Limits.{bytes_limit, bytes_name}
+use Rattle.component_judge.specs.Inputs.{HasWrapped}
 use Rattle.component_judge.specs.declared.inputs.Fetched.{Fetched}
 use Rattle.component_judge.specs.declared.limits.Purpose.TheVariants.{Virt}
 use Rattle.component_judge.specs.declared.refusal.Refusal.{Refusal}
@@ -21,26 +21,23 @@ use Rattle.virt_engine.specs.RunDue.{IsVerdictBy}
 abbrev pub app_limit : ℕ
 app_limit = bytes_limit Virt
 
--- which bytes spell an application that may be wrapped
-abbrev pub IsApp : List ℕ → Tree → Type 0
-IsApp bytes tree = IsAlone bytes tree
-
 -- ---- the status that an application's file calls for
 
 -- the bytes are refused with this status
 abbrev pub Refuses : List ℕ → Status → Type 0
-Refuses bytes status = (refusal : Refusal) × (refusal ≢ refusals.NoMemory) × IsAloneRefusal bytes refusal × (status ≡ unready_as (unready.Refused refusal))
+Refuses bytes status = (refusal : Refusal) × (refusal ≢ refusals.NoMemory) × IsApplicationRefusal Virt bytes refusal × (status ≡ unready_as (unready.Refused refusal))
 
 -- this status is due whatever comes next: the file is absent, too long, or refused
 abbrev pub IsAppVerdict : Held → List ℕ → Status → Type 0
-IsAppVerdict held name status = IsVerdictBy IsAloneRefusal (held.file name) name status
+IsAppVerdict held name status = IsVerdictBy (IsApplicationRefusal Virt) (held.file name) name status
 
 -- The file is an application that may be wrapped.
 pub record IsAppFile (held : Held) (name bytes : List ℕ) : Type 0 where
   pub there : held.file name ≡ Some bytes
   pub short : length bytes ≤ app_limit
   pub tree : Tree
-  pub application : IsApp bytes tree
+  pub uses : List ListedUse
+  pub application : IsApplication Virt bytes tree uses
 
 -- ---- what reading it does
 
@@ -48,12 +45,9 @@ pub record IsAppFile (held : Held) (name bytes : List ℕ) : Type 0 where
 pub record HasApp (name : List ℕ) (s : FilesState) (bytes : List ℕ) : Type 0 where
   pub short : length bytes ≤ app_limit
   pub tree : Tree
-  pub application : IsApp bytes tree
+  pub uses : List ListedUse
+  pub application : IsApplication Virt bytes tree uses
   pub there : s.told ≡ true → s.held.file name ≡ Some bytes
-
--- with its type
-abbrev pub HasTypedApp : List ℕ → FilesState → Fetched → Type 0
-HasTypedApp name s app = (h : HasApp name s app.bytes.items) × (component_signature app.application.judged.ty ≡ type_of h.tree)
 
 -- The file's bytes are refused with this status.
 pub record HasRefused (name : List ℕ) (s : FilesState) (status : Status) : Type 0 where
@@ -77,6 +71,6 @@ AppCause name s t _ = ⊥
 pub record FetchesApp (name : List ℕ) (s t : FilesState) (r : Result Fetched Status) : Type 0 where
   pub goes : Goes s t
   pub stays : t.held ≡ s.held
-  pub app : IfOk r (HasTypedApp name s)
+  pub app : IfOk r (HasWrapped name s)
   pub cause : IfErr r (AppCause name s t)
   pub quiet : s.told ≡ true → s.steady ≡ true → IsSome (s.held.file name) → (t.faults ≡ s.faults) × IfErr r (λ e. ¬ (IsFileFault e))

@@ -4,6 +4,7 @@ pub mod Command
 pub mod Fetching
 pub mod Line
 pub mod Output
+pub mod Parts
 pub mod Plan
 pub mod Policies
 pub mod PolicyTrees

@@ -1,22 +1,33 @@
--- The output of an application: a valid component that imports nothing, exports what the application exports, holds the application
--- unchanged, and does what it does.
-use Rattle.std.specs.Prelude.{◌≡◌, ℕ, List, ◌++◌, length}
+-- The output of an application: a valid component that exports what the application exports, and holds the application unchanged. That
+-- of an application that imports nothing imports nothing and does what the application does; any other imports what the policy needs of
+-- the application's imports, and nothing else.
+use Rattle.std.specs.Prelude.{◌≡◌, ◌≢◌, ◌⊎◌, ℕ, List, [], ◌∷◌, ◌++◌, length}
+use mathlib.Core.Logic.{inl, inr}
+use Rattle.wasm_format.specs.Format.{u32_format}
+use Rattle.policy_data.specs.declared.policy.Policy.{Policy}
 use Rattle.comp_types.specs.Items.{Entries, End}
 use Rattle.comp_grammar.specs.Trees.{Tree}
 use Rattle.comp_grammar.specs.Components.{SpellsComponent}
+use Rattle.comp_write.specs.Copying.{bare}
 use Rattle.comp_types.specs.Added.{type_of}
 use Rattle.comp_types.specs.Validity.{IsValidComponent}
-use Rattle.output_same.specs.Holding.{HoldsOnce}
+use Rattle.output_same.specs.Holding.{components_in, HoldsOnce}
 use Rattle.output_same.specs.Strategies.{DoesTheSame}
-use Rattle.virt_engine.specs.Apps.{IsApp}
 use Rattle.virt_output.specs.Bytes.{front_bytes, back_bytes}
+use Rattle.wasi_match.specs.declared.listed.ListedUse.{ListedUse}
+use Rattle.adapter_world.specs.Imports.{AreNeeded}
+use Rattle.adapter_world.specs.Names.{needed_count}
+use Rattle.component_judge.specs.Applications.{IsApplication}
+use Rattle.component_judge.specs.declared.limits.Purpose.TheVariants.{Virt}
 
--- The bytes are an output of the application: they spell a valid component without imports, whose exports are those of the
--- application, name by name with equal types, and which holds the application unchanged in one section of its outermost level. Over
--- whatever host, for every list of calls of its exports, it is seen to do what the application does, in one step more.
-pub record IsOutputOf (app bytes : List ℕ) : Type 0 where
+-- The bytes are an output of an application that imports nothing: they spell a valid component without imports, whose exports are those
+-- of the application, name by name with equal types, and which holds the application unchanged in one section of its outermost level.
+-- Over whatever host, for every list of calls of its exports, it is seen to do what the application does, in one step more.
+pub record IsOutputAlone (app bytes : List ℕ) : Type 0 where
   pub tree : Tree
-  pub application : IsApp app tree
+  pub uses : List ListedUse
+  pub application : IsApplication Virt app tree uses
+  pub nothing : (type_of tree).imports ≡ End
   pub output : Tree
   pub spelled : SpellsComponent output bytes
   pub valid : IsValidComponent output
@@ -25,6 +36,40 @@ pub record IsOutputOf (app bytes : List ℕ) : Type 0 where
   pub unchanged : HoldsOnce app bytes output
   pub behaves : DoesTheSame output tree
 
--- the output that is written for an application with these exports
+-- Two sections of the outermost level hold components, and the second is the application's: its content is the application's bytes,
+-- unchanged.
+pub record HoldsBeside (app : List ℕ) (tree : Tree) (bytes : List ℕ) (output : Tree) : Type 0 where
+  pub adapter : Tree
+  pub inner : Tree
+  pub both : components_in output ≡ adapter ∷ inner ∷ []
+  pub same : bare inner ≡ bare tree
+  pub before : List ℕ
+  pub behind : List ℕ
+  pub unchanged : bytes ≡ (before ++ (4 ∷ u32_format.write (length app))) ++ (app ++ behind)
+
+-- The bytes are an output of an application with imports, under a policy: they spell a valid component, whose imports are those that
+-- are needed, whose exports are those of the application, name by name with equal types, and which holds the application unchanged in
+-- one section of its outermost level.
+pub record IsOutputBeside (policy : Policy) (app bytes : List ℕ) : Type 0 where
+  pub tree : Tree
+  pub uses : List ListedUse
+  pub application : IsApplication Virt app tree uses
+  pub something : (type_of tree).imports ≢ End
+  pub output : Tree
+  pub spelled : SpellsComponent output bytes
+  pub valid : IsValidComponent output
+  pub imports : AreNeeded policy uses (type_of output).imports
+  pub exports : (type_of output).exports ≡ (type_of tree).exports
+  pub unchanged : HoldsBeside app tree bytes output
+
+abbrev pub IsOutputOf : Policy → List ℕ → List ℕ → Type 0
+IsOutputOf policy app bytes = IsOutputAlone app bytes ⊎ IsOutputBeside policy app bytes
+
+-- how many functions it imports
+abbrev pub imported_by : (policy : Policy) (app bytes : List ℕ) → IsOutputOf policy app bytes → ℕ
+imported_by policy app bytes (inl alone) = 0
+imported_by policy app bytes (inr beside) = needed_count policy beside.uses
+
+-- the output that is written for an application that imports nothing and exports these
 abbrev pub output_bytes : List ℕ → Entries → List ℕ
 output_bytes app exports = front_bytes (length app) ++ (app ++ back_bytes exports)

@@ -1,6 +1,7 @@
 -- What a call of `virt` comes to.
-use Rattle.std.specs.Prelude.{ℕ, ◌≤◌, ◌≡◌, ◌++◌, ◌⊎◌, List, [], true, false, Option, Some, None, Contains, length}
+use Rattle.std.specs.Prelude.{ℕ, ◌≤◌, ◌≡◌, ◌≢◌, ◌⊎◌, List, [], true, false, Option, Some, None, Contains, length}
 use Rattle.std.specs.Prelude.{Result, Ok, IfErr, IfOk, string_bytes}
+use mathlib.Core.Logic.{inl, inr}
 use Rattle.outside.specs.Fault.{Rose}
 use Rattle.outside.specs.Files.{FilesState, Held, Goes, with_file, no_place}
 use Rattle.outside.specs.Sink.{SinkState}
@@ -10,15 +11,20 @@ use Rattle.mount_tree.specs.Runs.{IsAbove}
 use Rattle.mount_tree.specs.Building.{trees_due}
 use Rattle.comp_grammar.specs.Trees.{Tree}
 use Rattle.comp_types.specs.Added.{type_of}
+use Rattle.comp_types.specs.Items.{End}
+use Rattle.wasi_match.specs.declared.listed.ListedUse.{ListedUse}
+use Rattle.component_judge.specs.Applications.{IsApplication}
+use Rattle.component_judge.specs.declared.limits.Purpose.TheVariants.{Virt}
 use Rattle.virt_engine.specs.declared.status.Status.{Status}
 use Rattle.virt_engine.specs.declared.status.Status.TheVariants.{Done, PolicyRefused, AppRefused, FileFault, OverLimit, NoMemory, Usage}
 use Rattle.virt_engine.specs.declared.plan.Ready.{Ready}
 use Rattle.virt_engine.specs.Command.{Command, command_of}
 use Rattle.virt_engine.specs.Line.{done_text, status_text}
-use Rattle.virt_engine.specs.Output.{IsOutputOf, output_bytes}
+use Rattle.virt_engine.specs.Output.{IsOutputOf, imported_by, output_bytes}
+use Rattle.virt_engine.specs.Parts.{written_by}
 use Rattle.virt_engine.specs.Fetching.{IsFileFault}
 use Rattle.virt_engine.specs.Policies.{IsPolicyFile, IsPolicyVerdict, HasPolicy, HasRefusedPolicy, IsPolicyOver}
-use Rattle.virt_engine.specs.Apps.{IsApp, IsAppVerdict, IsAppFile, HasApp, HasRefused, IsAppOver}
+use Rattle.virt_engine.specs.Apps.{IsAppVerdict, IsAppFile, HasApp, HasRefused, IsAppOver}
 use Rattle.virt_engine.specs.PolicyTrees.{trees_verdict, HasTrees}
 use Rattle.virt_engine.specs.Report.{Puts, Reports}
 use Rattle.virt_engine.specs.Writing.{LeftOf}
@@ -43,7 +49,7 @@ IsDue held words status = IsDueFor held (command_of words) status
 -- ---- the same in words: which calls are accepted
 
 -- The words name a policy within its limit whose text is well formed and whose trees can be made, and within its limit an application
--- that is a valid component, imports nothing, and exports nothing that speaks of a resource.
+-- that is a valid component, imports listed interfaces alone, and exports nothing that speaks of a resource.
 pub record IsAccepted (held : Held) (words : List (List ℕ)) : Type 0 where
   pub command : Command
   pub named : command_of words ≡ Some command
@@ -88,10 +94,6 @@ RefusalOf c s t (PolicyRefused fault) = IsPolicyRefusal c s (PolicyRefused fault
 RefusalOf c s t (AppRefused fault) = HasRefused c.app s (AppRefused fault) × (s.told ≡ true → IsDueOf s.held c (AppRefused fault))
 RefusalOf c s t _ = ⊥
 
--- What is written.
-abbrev pub written_by : Ready → List ℕ
-written_by p = p.front.items ++ (p.app.items ++ p.back.items)
-
 -- What is known once all was read: all that a call needs from then on, and no name has changed.
 pub record IsReady (c : Command) (s : FilesState) (p : Ready) : Type 0 where
   pub policy : Policy
@@ -99,9 +101,10 @@ pub record IsReady (c : Command) (s : FilesState) (p : Ready) : Type 0 where
   pub app : List ℕ
   pub has_app : HasApp c.app s app
   pub has_trees : HasTrees policy s
-  pub bytes : written_by p ≡ output_bytes app (type_of has_app.tree).exports
-  pub output : IsOutputOf app (written_by p)
-  pub done_line : string_bytes p.done_line ≡ done_text (length app) (length (written_by p)) 0
+  -- where the application imports nothing
+  pub bytes : (type_of has_app.tree).imports ≡ End → written_by p ≡ output_bytes app (type_of has_app.tree).exports
+  pub output : IsOutputOf policy app (written_by p)
+  pub done_line : string_bytes p.done_line ≡ done_text (length app) (length (written_by p)) (imported_by policy app (written_by p) output)
   pub fault : p.fault ≡ FileFault c.out
   pub fault_line : string_bytes p.fault_line ≡ status_text (FileFault c.out)
 
@@ -133,14 +136,22 @@ pub record Wrote (c : Command) (s : FilesState) : Type 0 where
   pub has_app : HasApp c.app s app
   pub has_trees : HasTrees policy s
   pub bytes : List ℕ
-  pub output : IsOutputOf app bytes
+  pub output : IsOutputOf policy app bytes
+
+-- the functions that the output imports
+abbrev pub imported_in : (c : Command) (s : FilesState) → Wrote c s → ℕ
+imported_in c s w = imported_by w.policy w.app w.bytes w.output
+
+-- A name was not read, or the output was not written: it is as it was, or a part of the output is there.
+abbrev pub IsFaultyName : Command → FilesState → FilesState → List ℕ → Type 0
+IsFaultyName c s t kept = ((t.held ≡ s.held) × DueName c s kept) ⊎ ((kept ≡ c.out) × ((w : Wrote c s) × (s.told ≡ true → LeftOf c.out w.bytes s.held t.held)))
 
 -- Why a status was due with this text, and what has become of the files.
 abbrev pub DueOf : List (List ℕ) → FilesState → FilesState → Status → List ℕ → Type 0
-DueOf words s t Done text = (c : Command) × (command_of words ≡ Some c) × ((w : Wrote c s) × (text ≡ done_text (length w.app) (length w.bytes) 0)
+DueOf words s t Done text = (c : Command) × (command_of words ≡ Some c) × ((w : Wrote c s) × (text ≡ done_text (length w.app) (length w.bytes) (imported_in c s w))
     × (s.told ≡ true → t.held ≡ with_file s.held c.out (Some w.bytes)))
 DueOf words s t (FileFault kept) text = (c : Command) × (command_of words ≡ Some c) × (text ≡ status_text (FileFault kept)) × Rose s.faults t.faults
-    × (((t.held ≡ s.held) × DueName c s kept) ⊎ ((kept ≡ c.out) × ((w : Wrote c s) × (s.told ≡ true → LeftOf c.out w.bytes s.held t.held))))
+    × IsFaultyName c s t kept
 DueOf words s t NoMemory text = (t.held ≡ s.held) × (text ≡ [])
 DueOf words s t (OverLimit what value) text = (t.held ≡ s.held) × (text ≡ status_text (OverLimit what value))
     × ((c : Command) × (command_of words ≡ Some c) × IsOver what value) × (s.told ≡ true → IsDue s.held words (OverLimit what value))
@@ -151,14 +162,30 @@ DueOf words s t (AppRefused fault) text = (t.held ≡ s.held) × (text ≡ statu
 DueOf words s t Usage text = (t ≡ s) × (text ≡ status_text Usage) × (command_of words ≡ None)
 DueOf words s t _ text = ⊥
 
+-- how long the output is that was written, or was to be
+abbrev pub length_at : (c : Command) (s t : FilesState) (kept : List ℕ) → IsFaultyName c s t kept → ℕ
+length_at c s t kept (inl unread) = 0
+length_at c s t kept (inr left) = length left.1.0.bytes
+
+abbrev pub length_due : (words : List (List ℕ)) (s t : FilesState) (due : Status) (text : List ℕ) → DueOf words s t due text → ℕ
+length_due words s t Done text d = length d.2.0.bytes
+length_due words s t (FileFault kept) text d = length_at d.0 s t kept d.4
+length_due words s t _ text d = 0
+
+-- The output of an application has room: where the application imports nothing, the one output that it has; else the one of this length
+-- that was written, or was to be.
+pub record HasRoom (held : Held) (out app : List ℕ) (tree : Tree) (len : ℕ) : Type 0 where
+  pub alone : (type_of tree).imports ≡ End → length (output_bytes app (type_of tree).exports) ≤ held.room out
+  pub beside : (type_of tree).imports ≢ End → len ≤ held.room out
+
 -- The output has a place and room, where one is due.
-abbrev pub OutputFits : Held → Command → Type 0
-OutputFits held c = (no_place held c.out ≡ false) × ((app : List ℕ) → held.file c.app ≡ Some app → (tree : Tree) → IsApp app tree → length (output_bytes app (type_of tree).exports) ≤ held.room c.out)
+abbrev pub OutputFits : Held → Command → ℕ → Type 0
+OutputFits held c len = (no_place held c.out ≡ false) × ((app : List ℕ) → held.file c.app ≡ Some app → (tree : Tree) → (uses : List ListedUse) → IsApplication Virt app tree uses → HasRoom held c.out app tree len)
 
 -- Over steady files no fault is provoked: each file that is due is there, and the output has its place and room.
-abbrev pub FilesQuiet : List (List ℕ) → FilesState → FilesState → Type 0
-FilesQuiet words s t = s.told ≡ true → s.steady ≡ true → ((name : List ℕ) → ¬ (IsDue s.held words (FileFault name)))
-    → ((c : Command) → command_of words ≡ Some c → IsDueOf s.held c Done → OutputFits s.held c) → t.faults ≡ s.faults
+abbrev pub FilesQuiet : List (List ℕ) → FilesState → FilesState → ℕ → Type 0
+FilesQuiet words s t len = s.told ≡ true → s.steady ≡ true → ((name : List ℕ) → ¬ (IsDue s.held words (FileFault name)))
+    → ((c : Command) → command_of words ≡ Some c → IsDueOf s.held c Done → OutputFits s.held c len) → t.faults ≡ s.faults
 
 pub record Ran (words : List (List ℕ)) (s t : FilesState) (k l : SinkState) (result : Status) : Type 0 where
   pub goes : Goes s t
@@ -168,7 +195,7 @@ pub record Ran (words : List (List ℕ)) (s t : FilesState) (k l : SinkState) (r
   pub report : Reports due text k l result
   -- after want of memory nothing was put, and no file has changed
   pub kept : result ≡ NoMemory → (l ≡ k) × (t.held ≡ s.held)
-  pub quiet : FilesQuiet words s t
+  pub quiet : FilesQuiet words s t (length_due words s t due text files)
 
 -- the same for a command that is named
 abbrev pub RanCommand : Command → FilesState → FilesState → SinkState → SinkState → Status → Type 0
@@ -190,5 +217,5 @@ Accepts words s t k l result = s.told ≡ true → IsAccepted s.held words → �
 pub record Delivers (words : List (List ℕ)) (s t : FilesState) : Type 0 where
   pub accepted : IsAccepted s.held words
   pub bytes : List ℕ
-  pub output : IsOutputOf accepted.app bytes
+  pub output : IsOutputOf accepted.policy accepted.app bytes
   pub written : t.held ≡ with_file s.held accepted.command.out (Some bytes)

@@ -84,7 +84,7 @@ fn do_words<F: Files, S: Sink>(alloc: Global, words: &[Text], files: &mut F, out
 ///
 /// `virt APP -p POLICY -o OUT` writes to OUT the component APP in its adapter, and puts one line that says what came of it. POLICY is
 /// read whole, and its trees are made of what it writes out and of the files and folders that it names. APP is any valid component that
-/// imports nothing and exports neither a resource type nor a handle; one that imports something is unlisted for now.
+/// imports listed interfaces alone and exports neither a resource type nor a handle.
 ///
 /// `run COMPONENT -s SCRIPT [-p POLICY] [--steps N]` runs a component over a script, and puts a line for each call that the script
 /// answers, each dropped handle of the script's and each result; the status says how it ended. COMPONENT is any valid component whose

@@ -1,12 +1,12 @@
-ghost use Rattle.std.specs.Prelude.{◌≡◌, ◌≤◌, IfOk, List, ℕ, length, string_bytes};
-ghost use Rattle.virt_engine.specs.Apps.{app_limit};
+ghost use Rattle.std.specs.Prelude.{◌≡◌, ◌+◌, IfOk, IfSome, string_bytes};
+ghost use Rattle.comp_grammar.specs.Trees.{plain};
+ghost use Rattle.comp_signature.specs.Signatures.{component_signature};
+ghost use Rattle.compose.specs.Composed.{IsComposed};
+ghost use Rattle.tree_table.specs.Trees.{AreTrees};
 ghost use Rattle.virt_engine.specs.Command.{names_of};
 ghost use Rattle.virt_engine.specs.Line.{done_text, status_text};
-ghost use Rattle.virt_engine.specs.Output.{output_bytes};
-ghost use Rattle.virt_engine.specs.Plan.{Plans, written_by};
-ghost use Rattle.comp_grammar.specs.Trees.{Tree};
-ghost use Rattle.comp_write.specs.Copying.{SpellsBare};
-ghost use Rattle.virt_output.specs.Output.{output_tree};
+ghost use Rattle.virt_engine.specs.Parts.{AreParts, IsAround, Prepares, is_end};
+ghost use Rattle.virt_engine.specs.Plan.{Plans};
 
 use crate::app::fetch_app;
 use crate::command::Names;
@@ -14,11 +14,15 @@ use crate::line::{done_line, line_of};
 use crate::policy::fetch_policy;
 use crate::status::Status;
 use crate::trees::make_trees;
-use component_judge::Fetched;
+use comp_signature::ComponentType;
+use component_judge::{Application, Fetched, Judged};
+use compose::{Composed, compose};
 use outside::Files;
+use policy_data::Policy;
 use std::alloc::{AllocError, Global};
+use tree_table::Trees;
 use virt_base::{NoMemory, Text};
-use virt_output::write_around;
+use virt_output::{Around, write_around};
 
 /// All that a call needs once both files were read: the parts of the output, and the text of each end.
 #[derive(Drop)]
@@ -31,17 +35,88 @@ pub struct Ready {
     pub fault_line: String,
 }
 
+fn imports_nothing(ty: &ComponentType) -> bool
+    ensures { result ≡ is_end ty.now.imports }
+{
+    match ty.imports.as_slice() {
+        [] => true,
+        [_, ..] => false,
+    }
+}
+
+/// What stands around an application that imports nothing. An output that no size can tell is want of memory: its application has more
+/// exports, or longer names, than the limit on applications lets in.
+fn parts_alone(alloc: Global, ty: &ComponentType, size: usize) -> Result<Composed, NoMemory>
+    ensures { IfOk result (IsAround ty.now.exports size) }
+{
+    match write_around(alloc, size, &ty.exports) {
+        Ok(Around { front, back }) => Ok(Composed {
+            front,
+            back,
+            needed: 0,
+        }),
+        Err(_) => Err(NoMemory),
+    }
+}
+
+/// What stands around an application with imports. Each fault of composing is want of memory: also a check of what was made that
+/// failed, and a size that 32 bits cannot tell.
+fn parts_beside(
+    alloc: Global,
+    policy: &Policy,
+    trees: &Trees,
+    application: Application,
+    size: usize,
+) -> Result<Composed, NoMemory>
+    requires { AreTrees trees.now }
+    ensures { IfOk result (IsComposed policy.now (plain application.judged.component) application.listed.uses application.judged.ty.exports size) }
+{
+    let Application { judged, listed } = application;
+    let Judged { component, ty } = judged;
+    match compose(alloc, policy, trees, component, &ty, &listed, size) {
+        Ok(parts) => Ok(parts),
+        Err(_) => Err(NoMemory),
+    }
+}
+
+/// What stands around an application of so many bytes.
+fn parts_for(
+    alloc: Global,
+    policy: &Policy,
+    trees: &Trees,
+    application: Application,
+    size: usize,
+) -> Result<Composed, NoMemory>
+    requires { AreTrees trees.now }
+    ensures { IfOk result (AreParts policy.now (plain application.judged.component) application.listed.uses (component_signature application.judged.ty) size) }
+{
+    if imports_nothing(&application.judged.ty) {
+        parts_alone(alloc, &application.judged.ty, size)
+    } else {
+        parts_beside(alloc, policy, trees, application, size)
+    }
+}
+
+/// How many bytes three parts have together, where a number can tell it.
+fn total(front: usize, middle: usize, back: usize) -> Option<usize>
+    ensures { IfSome result (λ n. n ≡ front + (middle + back)) }
+{
+    let behind = middle.checked_add(back)?;
+    front.checked_add(behind)
+}
+
 fn lines_for(
     alloc: Global,
     out: &Text,
     in_bytes: usize,
     out_bytes: usize,
+    functions: usize,
 ) -> Result<(String, Status, String), AllocError>
-    ensures done { IfOk result (λ p. string_bytes p.0 ≡ done_text in_bytes out_bytes 0) }
+    ensures done { IfOk result (λ p. string_bytes p.0 ≡ done_text in_bytes out_bytes functions) }
     ensures fault { IfOk result (λ p. p.1 ≡ Status.FileFault out.now) }
     ensures line { IfOk result (λ p. string_bytes p.2 ≡ status_text (Status.FileFault out.now)) }
 {
-    let done = done_line(alloc, in_bytes, out_bytes, 0)?;
+    let done = done_line(alloc, in_bytes, out_bytes, functions)?;
     let fault = match out.copy(alloc) {
         Ok(name) => Status::FileFault(name),
         Err(_) => return Err(AllocError),
@@ -50,30 +125,37 @@ fn lines_for(
     Ok((done, fault, line))
 }
 
-/// The parts of the output of an application, and the texts of a call that writes it. An output that no size can tell is want of
-/// memory: its application has more exports, or longer names, than the limit on applications lets in.
-fn ready_for(alloc: Global, app: Fetched, out: &Text) -> Result<Ready, NoMemory>
-    requires { length app.bytes.items ≤ app_limit }
-    ensures app { IfOk result (λ p. p.app.items ≡ app.bytes.items) }
-    ensures output { IfOk result (λ p. written_by p ≡ output_bytes app.bytes.items app.application.judged.ty.exports) }
-    ensures spelled { IfOk result (λ p. (t : Tree) → SpellsBare 0 t app.bytes.items → SpellsBare 0 (output_tree t app.application.judged.ty.exports) (written_by p)) }
-    ensures done { IfOk result (λ p. string_bytes p.done_line ≡ done_text (length app.bytes.items) (length (written_by p)) 0) }
-    ensures fault { IfOk result (λ p. p.fault ≡ Status.FileFault out.now) }
-    ensures line { IfOk result (λ p. string_bytes p.fault_line ≡ status_text (Status.FileFault out.now)) }
+/// The parts of the output of an application, and the texts of a call that writes it.
+fn ready_for(
+    alloc: Global,
+    policy: &Policy,
+    trees: &Trees,
+    app: Fetched,
+    out: &Text,
+) -> Result<Ready, NoMemory>
+    requires { AreTrees trees.now }
+    ensures { IfOk result (Prepares policy.now app out.now) }
 {
     let Fetched {
         bytes: app,
         application,
     } = app;
-    let Ok(around) = write_around(alloc, app.len(), &application.judged.ty.exports) else {
+    let parts = parts_for(alloc, policy, trees, application, app.len())?;
+    let Some(out_bytes) = total(parts.front.len(), app.len(), parts.back.len()) else {
         return Err(NoMemory);
     };
-    let out_bytes = around.front.len() + app.len() + around.back.len();
-    let (done_line, fault, fault_line) = lines_for(alloc, out, app.len(), out_bytes)?;
+    let (done_line, fault, fault_line) = lines_for(
+        alloc,
+        out,
+        app.len(),
+        out_bytes,
+        parts.needed as usize,
+    )?;
+    let Composed { front, back, .. } = parts;
     Ok(Ready {
-        front: around.front,
+        front,
         app,
-        back: around.back,
+        back,
         done_line,
         fault,
         fault_line,
@@ -86,9 +168,8 @@ pub fn plan<F: Files>(alloc: Global, names: Names<'_>, files: &mut F) -> Result<
 {
     let policy = fetch_policy(alloc, names.policy, files)?;
     let app = fetch_app(alloc, names.app, files)?;
-    // An application without imports sees nothing of the trees, so they are let go.
-    make_trees(alloc, &policy, files)?;
-    match ready_for(alloc, app, names.out) {
+    let trees = make_trees(alloc, &policy, files)?;
+    match ready_for(alloc, &policy, &trees, app, names.out) {
         Ok(ready) => Ok(ready),
         Err(NoMemory) => Err(Status::NoMemory),
     }

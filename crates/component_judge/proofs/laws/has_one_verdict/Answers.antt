@@ -1,9 +1,5 @@
 use Rattle.component_judge.proofs.Verdicts.{one_verdict, one_application}
-use Rattle.component_judge.proofs.Wrapping.{alone_stands}
 use Rattle.component_judge.proofs.laws.has_one_verdict.Goals as goal
-
-pub returns-clause-wrapped : goal.returns-clause-wrapped
-returns-clause-wrapped c = alone_stands
 
 pub returns-clause-alone : goal.returns-clause-alone
 returns-clause-alone c = one_verdict

@@ -1,5 +1,4 @@
 use Rattle.std.proofs.Common.{rules}
-use Rattle.virt_engine.proofs.Outputs.{is_output, app_spelled}
 use Rattle.virt_engine.proofs.Planning.{plans_no_policy, plans_no_app, plans_no_trees, plans_ready, leaves}
 use Rattle.virt_engine.proofs.plan.plan.Goals as goal
 
@@ -12,18 +11,16 @@ returns-in_err-app g c =
     leaves _ _ _ c.from_residual-in_err-app.result c.in_err-app.field-0.0 (search (rules, c.from_residual-in_err-app.ensures))
     (plans_no_app _ _ _ _ c.in_ok-policy.ensures _ _ c.in_err-app.ensures)
 
-pub returns-in_err-make_trees : goal.returns-in_err-make_trees
-returns-in_err-make_trees g c =
-    leaves _ _ _ c.from_residual-in_err-make_trees.result c.in_err-make_trees.field-0.0 (search (rules, c.from_residual-in_err-make_trees.ensures))
-    (plans_no_trees _ _ _ _ c.in_ok-policy.ensures _ _ c.in_ok-app.ensures _ _ c.in_err-make_trees.ensures)
+pub returns-in_err-trees : goal.returns-in_err-trees
+returns-in_err-trees g c =
+    leaves _ _ _ c.from_residual-in_err-trees.result c.in_err-trees.field-0.0 (search (rules, c.from_residual-in_err-trees.ensures))
+    (plans_no_trees _ _ _ _ c.in_ok-policy.ensures _ _ c.in_ok-app.ensures _ _ c.in_err-trees.ensures)
 
 pub returns-in-Ok : goal.returns-in-Ok
-returns-in-Ok g c =
-    let typed = c.in_ok-app.ensures.app in
-    let tree = typed.0.tree in
-    plans_ready _ _ _ _ c.in_ok-policy.ensures _ _ c.in_ok-app.ensures _ _ c.in_ok-make_trees.ensures _ c.in-Ok.ensures.output
-    (is_output _ _ tree _ typed.0.application typed.1 c.in-Ok.ensures.output (c.in-Ok.ensures.spelled tree (app_spelled c.in_ok-app.app.bytes.items tree typed.0.application)))
-    c.in-Ok.ensures.done c.in-Ok.ensures.fault c.in-Ok.ensures.line
+returns-in-Ok g c = plans_ready _ _ _ _ c.in_ok-policy.ensures _ _ c.in_ok-app.ensures _ _ c.in_ok-trees.ensures _ c.in-Ok.ensures
 
 pub make_trees-requires : goal.make_trees-requires
 make_trees-requires g c = c.in_ok-policy.ensures.policy.limits
+
+pub ready_for-requires : goal.ready_for-requires
+ready_for-requires g c = c.in_ok-trees.ensures.built.sound
