@@ -1,7 +1,8 @@
 //! Rows of tables: a status, a name, and the words of a call, which name the files that it reads.
 
 use crate::calling::{add_file, files_of, joined, no_contents, said, sink_of};
-use outside::{Contents, MemFiles};
+use outside::{Contents, MemFiles, MemSink};
+use std::alloc::Global;
 use std::fs;
 use virt_base::Items;
 
@@ -17,8 +18,13 @@ fn add_named(rt: &HostRuntime, word: &str, contents: &mut Contents) -> Option<()
     Some(())
 }
 
+/// A sink for the lines of a run.
+pub fn sink(alloc: Global) -> Option<MemSink> {
+    sink_of(alloc, ROOM, Items::empty(alloc))
+}
+
 /// The files that words name.
-fn files_for(rt: &HostRuntime, words: &str) -> Option<Box<MemFiles>> {
+pub fn files_for(rt: &HostRuntime, words: &str) -> Option<Box<MemFiles>> {
     let alloc = rt.alloc();
     let mut contents = no_contents(alloc);
     for word in words.split_whitespace() {
@@ -30,7 +36,7 @@ fn files_for(rt: &HostRuntime, words: &str) -> Option<Box<MemFiles>> {
 /// What the words of a row came to.
 fn came(rt: &HostRuntime, words: &str) -> Option<String> {
     let alloc = rt.alloc();
-    let mut out = sink_of(alloc, ROOM, Items::empty(alloc))?;
+    let mut out = sink(alloc)?;
     let mut files = files_for(rt, words)?;
     said(alloc, words, &mut *files, &mut out)
 }
@@ -42,7 +48,7 @@ fn lines_of(rt: &HostRuntime, name: &str) -> Option<String> {
 }
 
 /// What a row is to come to.
-fn wanted(rt: &HostRuntime, status: &str, name: &str) -> Option<String> {
+pub fn wanted(rt: &HostRuntime, status: &str, name: &str) -> Option<String> {
     let status = status.parse::<u8>().ok()?;
     joined(rt.alloc(), status, lines_of(rt, name)?.as_str())
 }
