@@ -179,8 +179,12 @@ def spelled_named(ty, define, leaf):
     return {"flags": b"\x6e", "enum": b"\x6d"}[form] + many([text(label) for label in ty[1]])
 
 
-def spelled_func(params, result, define, leaf):
-    names = [("self" if i == 0 else f"p{i}", spelled(ty, define, leaf)) for i, ty in enumerate(params)]
+def plain_label(place):
+    return f"p{place}"
+
+
+def spelled_func(params, result, define, leaf, label=plain_label):
+    names = [("self" if i == 0 else label(i), spelled(ty, define, leaf)) for i, ty in enumerate(params)]
     return define(func(names, None if result is None else spelled(result, define, leaf)))
 
 
@@ -226,30 +230,53 @@ class Definitions:
 
 # ---- a component
 
-def imported_type(resources, named, functions, outside):
-    """The instance type of an import; resources and named types of other imports stand outside under these indexes."""
-    known = {}
-    inside = Definitions(0, declares)
+class Imported:
+    """The instance type of an import in the making. What other imports brought stands outside under its index; what none did is brought here."""
 
-    def place(name):
-        if name not in known:
-            known[name] = inside.add(outer_type(outside[name]))
-        return known[name]
+    def __init__(self, outside, uses, label):
+        self.outside, self.uses, self.label = outside, uses, label
+        self.known, self.brought, self.inside = {}, [], Definitions(0, declares)
 
-    def leaf(ty):
+    def bring(self, key, made):
+        """Exports a new type."""
+        self.known[key] = made
+        self.brought.append(key)
+        return made
+
+    def equal(self, name, index):
+        return self.inside.add(b"\4\0" + text(name) + b"\3\0" + leb(index))
+
+    def outer(self, key):
+        index = self.inside.add(outer_type(self.outside[key]))
+        self.known[key] = self.equal(name_of(key), index) if self.uses else index
+        return self.known[key]
+
+    def resource(self, name):
+        if name in self.known:
+            return self.known[name]
+        return self.outer(name) if name in self.outside else self.bring(name, self.inside.add(exports_type(name)))
+
+    def named(self, ty):
+        key = ty[2:]
+        if key in self.known:
+            return self.known[key]
+        if key in self.outside:
+            return self.outer(key)
+        return self.bring(key, self.equal(ty[2], self.inside.define(spelled_named(ty, self.inside.define, self.leaf))))
+
+    def leaf(self, ty):
         if ty[0] in NAMED:
-            return signed(place(ty[2:]))
-        return signed(inside.define((own if ty[0] == "own" else borrow)(place(ty[1]))))
+            return signed(self.named(ty))
+        return signed(self.inside.define((own if ty[0] == "own" else borrow)(self.resource(ty[1]))))
 
-    for name in resources:
-        known[name] = inside.add(exports_type(name))
-    for ty in named:
-        index = inside.define(spelled_named(ty, inside.define, leaf))
-        known[ty[2:]] = inside.add(b"\4\0" + text(ty[2]) + b"\3\0" + leb(index))
-    for name, params, result in functions:
-        function = spelled_func(params, result, inside.define, leaf)
-        inside.items.append(exports_func(name, function))
-    return instance_type(*inside.items)
+    def function(self, name, params, result):
+        made = spelled_func(params, result, self.inside.define, self.leaf, self.label)
+        self.inside.items.append(exports_func(name, made))
+
+
+def name_of(key):
+    """The name of a resource, or of a named type."""
+    return key if isinstance(key, str) else key[0]
 
 
 def typed(params, results):
@@ -259,16 +286,20 @@ def typed(params, results):
 # the last place, rounded up to 8, is the answer; the next lies behind it
 REALLOC = b"\1\1\x7f\x23\0\x41\x07\x6a\x41\x78\x71\x22\4\x20\3\x6a\x24\0\x20\4\x0b"
 
-# a memory of 32 pages, and a realloc that gives the next place behind 4,096
-LIBRARY = (
-    b"\0asm\1\0\0\0"
-    + section(1, many([typed([I32] * 4, [I32])]))
-    + section(3, many([b"\0"]))
-    + section(5, many([b"\0\x20"]))
-    + section(6, many([b"\x7f\1\x41" + signed(4096) + b"\x0b"]))
-    + section(7, many([text("memory") + b"\2\0", text("realloc") + b"\0\0"]))
-    + section(10, many([leb(len(REALLOC)) + REALLOC]))
-)
+
+def library(pages):
+    """A memory of so many pages, and a realloc that gives the next place behind 4,096."""
+    return (
+        b"\0asm\1\0\0\0"
+        + section(1, many([typed([I32] * 4, [I32])]))
+        + section(3, many([b"\0"]))
+        + section(5, many([b"\0" + leb(pages)]))
+        + section(6, many([b"\x7f\1\x41" + signed(4096) + b"\x0b"]))
+        + section(7, many([text("memory") + b"\2\0", text("realloc") + b"\0\0"]))
+        + section(10, many([leb(len(REALLOC)) + REALLOC]))
+    )
+
+
 
 # where results are written
 PLACE = 1024
@@ -298,36 +329,80 @@ def passing(lowered):
     return b"\0asm\1\0\0\0" + section(1, many(made.items)) + section(2, many(ins)) + section(3, many(places)) + section(7, many(outs)) + section(10, many(codes))
 
 
-def passes(tables, names, drops):
-    """The component that exports these functions, and drops of these resources."""
+class World:
+    """What a component imports: the sections that say so, the index of each type, the next free one, and the functions in their order."""
+
+    def __init__(self):
+        self.sections, self.indexes, self.next_type, self.instances, self.rows = [], {}, 0, 0, []
+
+    def add(self, name, kept, named, functions, uses, label):
+        """An import with these resources, named types and functions."""
+        made = Imported(self.indexes, uses, label)
+        for it in kept:
+            made.resource(it)
+        for ty in named:
+            made.named(ty)
+        for _, at in functions:
+            made.function(*at)
+        self.sections.append(types(instance_type(*made.inside.items)))
+        self.sections.append(imports((name, an_instance(self.next_type))))
+        self.next_type += 1
+        found = [from_instance(TYPE, self.instances, name_of(it)) for it in made.brought]
+        self.sections.append(aliases(*found, *[from_instance(FUNC, self.instances, at[0]) for _, at in functions]))
+        for it in made.brought:
+            self.indexes[it] = self.next_type
+            self.next_type += 1
+        self.rows += functions
+        self.instances += 1
+
+
+def wanted_in(tables, names):
+    """The functions of each interface that are among these."""
     wanted = {interface: [(name, at) for name, at in functions.items() if name in names] for interface, (_, functions) in tables.items()}
     missing = set(names) - {name for rows in wanted.values() for name, _ in rows}
     if missing:
         sys.exit(f"no functions {missing}")
-    met = [ty for rows in wanted.values() for _, (_, params, result) in rows for ty in [*params, result]]
-    kinds = {*drops} | {name for ty in met for name in resources_in(ty)}
+    return wanted
+
+
+def met_in(rows):
+    """The types of parameters and results."""
+    return [ty for _, (_, params, result) in rows for ty in [*params, result]]
+
+
+def is_spared(wanted, interface, kept, named):
+    """Whether others bring all types of an interface that none of the functions stands in, so that it need not be imported."""
+    others = [ty for other, rows in wanted.items() if other != interface for ty in met_in(rows)]
+    brought = {name for ty in others for name in resources_in(ty)}
+    plain = all(not resources_in(ty) and named_in(ty) == [ty] for ty in named)
+    return not wanted[interface] and plain and set(kept) <= brought
+
+
+def world(tables, names, drops, version=lambda interface: "0.2.0", uses=False, label=plain_label, fewer=False):
+    """The imports of these functions, and of resources for their drops; an import may export what it uses of others, as tools write it.
+
+    `label` names a parameter by its place, from 1 on. With `fewer` an interface is left out whose types others can bring."""
+    wanted = wanted_in(tables, names)
+    met = [ty for rows in wanted.values() for ty in met_in(rows)]
     named = []
     for ty in [inner for outer in met for inner in named_in(outer)]:
         if ty not in named:
             named.append(ty)
-    sections, indexes, next_type, instance, rows = [], {}, 0, 0, []
+    kinds = {*drops} | {name for ty in [*met, *named] for name in resources_in(ty)}
+    made = World()
     for interface, (resources, _) in tables.items():
         kept = [name for name in resources if name in kinds]
         here = [ty for ty in named if ty[3] == interface]
-        functions = wanted[interface]
-        if not kept and not here and not functions:
-            continue
-        sections.append(types(imported_type(kept, here, [at for _, at in functions], indexes)))
-        sections.append(imports((f"{interface}@0.2.0", an_instance(next_type))))
-        next_type += 1
-        found = [*kept, *[ty[2] for ty in here]]
-        sections.append(aliases(*[from_instance(TYPE, instance, name) for name in found], *[from_instance(FUNC, instance, at[0]) for _, at in functions]))
-        for name in [*kept, *[ty[2:] for ty in here]]:
-            indexes[name] = next_type
-            next_type += 1
-        rows += functions
-        instance += 1
-    sections += [core_module(LIBRARY), core_instances(of_module(0)), aliases(from_core(2, 0, "memory"), from_core(0, 0, "realloc"))]
+        if (kept or here or wanted[interface]) and not (fewer and is_spared(wanted, interface, kept, here)):
+            made.add(f"{interface}@{version(interface)}", kept, here, wanted[interface], uses, label)
+    return made
+
+
+def passes(tables, names, drops, pages=32):
+    """The component that exports these functions, and drops of these resources."""
+    imported = world(tables, names, drops)
+    sections, indexes, next_type, rows = imported.sections, imported.indexes, imported.next_type, imported.rows
+    sections += [core_module(library(pages)), core_instances(of_module(0)), aliases(from_core(2, 0, "memory"), from_core(0, 0, "realloc"))]
     options = [memory_option(0), realloc_option(0)]
     sections.append(canons(*[lower(i, *options) for i in range(len(rows))], *[resource_drop(indexes[name]) for name in drops]))
     cores = [(name, core_type(params, result)) for name, (_, params, result) in rows] + [(f"drop-{name}", ([I32], [], False)) for name in drops]
