@@ -57,12 +57,12 @@ def options():
     return parser.parse_args()
 
 
-def chosen_functions(rng):
+def chosen_functions(rng, profile):
     """All functions, or those of some interfaces."""
-    if rng.random() < 0.35:
+    if profile == "edges" or rng.random() < 0.35:
         return list(FUNCTIONS.values())
     some = set(rng.sample(sorted({it.interface for it in FUNCTIONS.values()}), rng.randrange(3, 16)))
-    if rng.random() < 0.7:
+    if profile in ("scratch", "virtual") or rng.random() < 0.6:
         some |= {"wasi:filesystem/types", "wasi:filesystem/preopens", "wasi:io/streams", "wasi:io/poll"}
     return [it for it in FUNCTIONS.values() if it.interface in some and rng.random() < 0.95]
 
@@ -72,7 +72,7 @@ def made_case(program, folder, profile, number, args, report):
     rng = random.Random(f"{args.seed}/{profile}/{number}")
     policy = EDGES[number][0](rng) if profile == "edges" else PROFILES[profile](rng)
     policy.write(folder)
-    functions = list(FUNCTIONS.values()) if profile == "edges" else chosen_functions(rng)
+    functions = chosen_functions(rng, profile)
     planner = Planner(rng, policy, functions, KINDS, Counter())
 
     def saw(step, outcome):

@@ -13,10 +13,11 @@ VERSIONS = ["0.2.0", "0.2.0", "0.2.0", "0.2.1", "0.2.3", "0.2.6", "0.2.10", "0.2
 
 @dataclass
 class App:
-    """A component's file in the case's folder, and its scripts by their files' names."""
+    """A component's file in the case's folder, and its scripts by their files' names. One that is given may be refused."""
 
     file: str
     scripts: list = field(default_factory=list)
+    given: bool = False
 
 
 @dataclass
@@ -31,7 +32,9 @@ def shape(rng):
     versions = {"": rng.choice(VERSIONS)} if rng.random() < 0.7 else Packages(package)
     more = frozenset(rng.sample(sorted(FUNCTIONS), rng.randrange(1, 30))) if rng.random() < 0.4 else frozenset()
     kinds = frozenset(rng.sample(KINDS, rng.randrange(1, 6))) if rng.random() < 0.3 else frozenset()
-    return Shape(versions, rng.random() < 0.6, rng.random() < 0.3, rng.random() < 0.3, rng.choice(["p", "arg", "the-value"]), more, kinds, rng.random() < 0.2)
+    # (an engine refuses the adapter where an import is left out and those that use it don't show what they use)
+    fewer = rng.random() < 0.2
+    return Shape(versions, fewer or rng.random() < 0.6, rng.random() < 0.3, rng.random() < 0.3, rng.choice(["p", "arg", "the-value"]), more, kinds, fewer)
 
 
 class Packages(dict):

@@ -20,9 +20,7 @@ class Director:
         function = FUNCTIONS[key]
         handles = [it for it in (args[0] if key == "poll" else args) if hasattr(it, "content")]
         if answer is None:
-            answer = Answers(self.planner.rng, self.planner.policy).of(function, 0)
-        if answer == "trap":
-            answer = {}
+            answer = no_trap(self, function)
         asked = asks_host(self.planner.policy, function, handles) and not self.planner.is_full(function)
         return self.attempt(Step(function, list(args)), answer, answer if asked else None)
 
@@ -145,18 +143,22 @@ MAKERS = [
 ]
 
 
+def no_trap(director, function):
+    """An answer of the host's other than a trap."""
+    while True:
+        made = Answers(director.planner.rng, director.planner.policy).of(function, 0)
+        if made != "trap":
+            return made
+
+
 def some_answer(director, key):
     """An answer that makes handles."""
-    rng, policy, function = director.planner.rng, director.planner.policy, FUNCTIONS[key]
-    made = Answers(rng, policy).of(function, 0)
-    if function.result is None or made == "trap":
-        return {}
+    function = FUNCTIONS[key]
     if key == "input-stream-read":
         return {"value": {"err": {"last-operation-failed": 9}}}
-    if function.result[0] == "result":
-        while "ok" not in made["value"]:
-            made = Answers(rng, policy).of(function, 0)
-            made = {"value": {}} if made == "trap" else made
+    made = no_trap(director, function)
+    while function.result[0] == "result" and "ok" not in made["value"]:
+        made = no_trap(director, function)
     return made
 
 
@@ -334,7 +336,7 @@ EDGES = {
     "tables-1": (lambda rng: with_slots(allowed(rng), 1), tables),
     "tables-2": (lambda rng: with_slots(allowed(rng), 2), tables),
     "tables-3": (lambda rng: with_slots(ruled(rng, True), 3), tables),
-    "tables-virtual-1": (lambda rng: virtual_slots(rng, 2), tables),
+    "tables-virtual-2": (lambda rng: virtual_slots(rng, 2), tables),
     "tables-virtual-3": (lambda rng: virtual_slots(rng, 3), tables),
     "chains": (tree_policy, chains),
     "wide": (tree_policy, wide),

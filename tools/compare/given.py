@@ -53,7 +53,7 @@ def at_random(program, folder, file, profile, number, args, report):
         return None
     write_script(folder, SCRIPT, answers, calls)
     case = Case(folder)
-    case.apps.append(App(name, [SCRIPT]))
+    case.apps.append(App(name, [SCRIPT], True))
     return case
 
 
@@ -107,7 +107,7 @@ def with_script(folder, component, script, policy):
     for it in (component, script):
         shutil.copy(it, folder)
     case = Case(folder, os.path.basename(policy))
-    case.apps.append(App(os.path.basename(component), [os.path.basename(script)]))
+    case.apps.append(App(os.path.basename(component), [os.path.basename(script)], True))
     return case
 
 
@@ -121,5 +121,5 @@ def rows_of(table):
 def of_row(folder, table, words):
     copied(folder, os.path.dirname(table))
     case = Case(folder, words[words.index("-p") + 1])
-    case.apps.append(App(words[1], [words[words.index("-s") + 1]]))
+    case.apps.append(App(words[1], [words[words.index("-s") + 1]], True))
     return case

@@ -92,25 +92,34 @@ class Planner:
     def next(self):
         """A call or a drop, and the host's answer where it will be asked for one."""
         rng = self.rng
-        droppable = [it for it in self.live if it.kind in self.drops]
+        droppable = [it for it in self.live if it.kind in self.drops and (it.content != "ScratchRoot" or rng.random() < 0.2)]
         if droppable and rng.random() < (0.25 if len(droppable) > 25 or (self.policy.slots or 99) < 6 else 0.1):
             handle = rng.choice(droppable)
             self.live.remove(handle)
             return Step(None, [handle]), None
         pool = self.denied if self.denied and rng.random() < 0.02 else self.functions
-        found = [it for it in (self.candidate(rng.choice(pool)) for _ in range(8)) if it]
+        found = [it for it in (self.candidate(rng.choice(pool)) for _ in range(6)) if it]
+        found += [it for it in (self.about_a_handle() for _ in range(4)) if it]
         if not found:
             found = [it for it in map(self.candidate, self.functions) if it]
         if not found:
             return None
+        roots = [it for it in self.functions if it.key == "get-directories" and self.lacks_folders()]
+        if roots and rng.random() < 0.3:
+            found = [(roots[0], [])]
         function, handles = min(found, key=lambda it: self.rank(*it))
         self.by_function[function.key] = self.by_function.get(function.key, 0) + 1
         self.seen[key_of(function, handles)] += 1
         return self.call(function, handles)
 
+    def lacks_folders(self):
+        """Whether no folder of the policy is open."""
+        own = self.policy.trees or self.policy.scratch
+        return own and not any(it.content in ("Node", "ScratchRoot") for it in self.live)
+
     def rank(self, function, handles):
         """Low for what was rarely called, and for what the policy is about."""
-        made = (1 + self.seen[key_of(function, handles)] + self.by_function.get(function.key, 0)) * self.rng.random()
+        made = (1 + 2 * self.seen[key_of(function, handles)] + 0.3 * self.by_function.get(function.key, 0)) * self.rng.random()
         return made * 0.3 if is_about(self.policy.name, function, handles) else made
 
     def call(self, function, handles):
@@ -140,6 +149,20 @@ class Planner:
             if not handles and self.rng.random() < 0.95:
                 return None
         return function, handles
+
+    def about_a_handle(self):
+        """A method of a handle, whose content is chosen first."""
+        if not self.live:
+            return None
+        wanted = self.rng.choice(sorted({it.content for it in self.live}))
+        handle = self.rng.choice([it for it in self.live if it.content == wanted])
+        methods = [it for it in self.functions if it.kind == handle.kind]
+        makers = [it for it in methods if own_kinds(it.result) and it.short != "subscribe"]
+        opens = [it for it in makers if it.short == "open-at" and handle.content in ("Node", "ScratchRoot")]
+        if makers and handle.content != "Host" and self.rng.random() < 0.5:
+            methods = opens if opens and self.rng.random() < 0.7 else makers
+        found = self.candidate(self.rng.choice(methods)) if methods else None
+        return (found[0], [handle, *found[1][1:]]) if found else None
 
     def polled(self):
         there = self.of_kind("pollable")
@@ -190,7 +213,7 @@ class Planner:
         if ty[2] == "path-flags":
             return ["symlink-follow"] if self.rng.random() < 0.5 else []
         if ty[2] == "open-flags":
-            return self.rng.choice(OPENS)
+            return self.rng.choice(OPENS) if self.rng.random() < 0.6 else ["create"]
         return self.rng.choice(FLAGS) if self.rng.random() < 0.9 else anything(self.rng, ty)
 
     def datagram(self):
@@ -220,7 +243,9 @@ class Planner:
         """A path below a folder: mostly one that is there, or was, with steps aside."""
         rng = self.rng
         if handle.content.startswith("Scratch"):
-            return rng.choice(["a", "a", "a", "b", "b", "c", "d", "./a", "a/", "b//", ".", "..", "", "/a", "a/b", "x/a", "n" * 255, "n" * 256, "a\0b", "./.", "é", "../a", ".a", "..."])
+            if rng.random() < 0.6:
+                return rng.choice("abc")
+            return rng.choice(["a", "a", "b", "b", "c", "d", "./a", "a/", "b//", ".", "..", "", "/a", "a/b", "x/a", "n" * 255, "n" * 256, "a\0b", "./.", "é", "../a", ".a", "..."])
         if handle.content != "Node":
             return rng.choice(["a", "a/b", ".", "..", "", "/etc", "é", "x" * 300])
         note = handle.note or {}
