@@ -84,12 +84,12 @@ def file_is_there(text, document):
     """Whether a path is one of a file, with or without its ending, that stands at one of the places from which documents name files."""
     pattern = re.sub(r"(?<![A-Za-z0-9])[A-Z][A-Z0-9]+(?![A-Za-z0-9])(?!\.md)", "*", text.rstrip("/"))
     beside = os.path.dirname(document)
-    places = [TOP, beside, f"{beside}/*", f"{TOP}/crates", f"{TOP}/crates/*", f"{TOP}/crates/*/src", f"{TOP}/crates/*/specs", f"{TOP}/tools"]
+    places = [TOP, beside, f"{beside}/*", f"{TOP}/crates", f"{TOP}/crates/*", f"{TOP}/crates/*/src", f"{TOP}/crates/*/specs", f"{TOP}/crates/*/proofs", f"{TOP}/crates/*/data", f"{TOP}/tools"]
     return any(glob.glob(f"{place}/{pattern}{end}") for place in places for end in ("", ".antt", ".rt"))
 
 
 def is_path(text):
-    if not PATH.match(text):
+    if not PATH.match(text) or text in ENDINGS:
         return False
     first = text.split("/")[0]
     return text.endswith(ENDINGS) or first in ("docs", "crates", "tools", "examples", "specs", "proofs", "src", "must-fail") and "/" in text
