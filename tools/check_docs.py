@@ -8,7 +8,8 @@ It reads README.md, docs/, examples/README.md and tools/README.md. Of each text 
 - `crate::name`: the crate is there and its sources have the name;
 - a name of one word is a word of the sources, of crates.txt, of the tools or of the examples. In docs/PROVED.md it is a word of the crates
   that the heading or the line names;
-- each crate of crates.txt has a place in docs/ARCHITECTURE.md and docs/PROVED.md.
+- each crate of crates.txt has a place in docs/ARCHITECTURE.md and docs/PROVED.md, and the map of the layers names no others but those in
+  brackets, which are still to come.
 
 usage: check_docs.py
 It prints FILE:LINE: what is wrong, a line each, and exits with 1; or nothing, and exits with 0.
@@ -147,6 +148,15 @@ def unplaced(document, sources):
     return [(1, f"the crate `{name}` has no place") for name in sources.crates if name not in named]
 
 
+def map_faults(document, sources):
+    """The names in the map of the layers, which stands in lines with arrows, that are no crates."""
+    for number, line in enumerate(read(document).splitlines(), 1):
+        if not line.startswith("    ") or not re.search(r" (->|<-) ", line) or ";" not in line and "<-" not in line:
+            continue
+        names = re.findall(r"[a-z][a-z0-9_]*", re.sub(r"\[[^\]]*\]", "", line[18:]))
+        yield from ((number, f"no crate {name}") for name in names if name not in sources.words)
+
+
 def main():
     sources = Sources()
     count = 0
@@ -154,6 +164,8 @@ def main():
         faults = list(check(document, sources))
         if os.path.basename(document) in ("ARCHITECTURE.md", "PROVED.md"):
             faults += unplaced(document, sources)
+        if os.path.basename(document) == "ARCHITECTURE.md":
+            faults += map_faults(document, sources)
         for number, fault in faults:
             print(f"{os.path.relpath(document, TOP)}:{number}: {fault}")
         count += len(faults)
