@@ -4,7 +4,7 @@
 It reads README.md, docs/, examples/README.md and tools/README.md. Of each text between backquotes, and of each link, it asks:
 
 - a file or folder is there: from the top of the repository, beside the document, or in a crate (`specs/Told`, `plan.rt`). A `*`, and a
-  word in capitals (`NAME`), stand for anything;
+  word in capitals (`NAME`), stand for anything, and what is built (`out/`) is passed over;
 - `crate::name`: the crate is there and its sources have the name;
 - a name of one word is a word of the sources, of crates.txt, of the tools or of the examples. In docs/PROVED.md it is a word of the crates
   that the heading or the line names;
@@ -90,7 +90,7 @@ def file_is_there(text, document):
 
 
 def is_path(text):
-    if not PATH.match(text) or text in ENDINGS:
+    if not PATH.match(text) or text in ENDINGS or "/out/" in text:
         return False
     first = text.split("/")[0]
     return text.endswith(ENDINGS) or first in ("docs", "crates", "tools", "examples", "specs", "proofs", "src", "must-fail") and "/" in text

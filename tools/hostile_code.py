@@ -1,5 +1,7 @@
 #!/usr/bin/env python3
-"""hostile_code.py KIND COUNT OUT: a core module, small for what it asks of a validator that compares types element by element.
+"""Writes a core module that is small for what it asks of a validator that compares types element by element.
+
+usage: tools/hostile_code.py KIND COUNT OUT
 
   nested   COUNT blocks of one type with COUNT parameters, behind one another
   unlike   the same, each block where the parameters of an equal type of another index stand
@@ -12,23 +14,7 @@
 """
 import sys
 
-
-def leb(n):
-    out = bytearray()
-    while True:
-        n, low = n >> 7, n & 127
-        out.append(low | (128 if n else 0))
-        if not n:
-            return bytes(out)
-
-
-def vec(items):
-    items = list(items)
-    return leb(len(items)) + b"".join(items)
-
-
-def section(number, body):
-    return bytes([number]) + leb(len(body)) + body
+from encoders import MODULE, leb, many, section_of
 
 
 def func(params, results):
@@ -37,7 +23,7 @@ def func(params, results):
 
 def module(types, functions, bodies):
     code = [leb(len(b) + 1) + b"\x00" + b for b in bodies]
-    return b"\0asm\1\0\0\0" + section(1, vec(types)) + section(3, vec(map(leb, functions))) + section(10, vec(code))
+    return MODULE + section_of(1, types) + section_of(3, map(leb, functions)) + section_of(10, code)
 
 
 def made(kind, n):
@@ -55,7 +41,7 @@ def made(kind, n):
         # two types that differ below the operands which the dead code has; the default is the inner block
         half = n // 2
         other = b"\x7f" * (n - half - 1) + b"\x7e" + b"\x7f" * half
-        table = b"\x0e" + vec(leb(1) for _ in range(n)) + leb(0)
+        table = b"\x0e" + many(leb(1) for _ in range(n)) + leb(0)
         body = b"\x02\x00\x02\x01\x00" + b"\x41\x00" * half + table + b"\x0b\x00\x0b\x00\x0b"
         return module([func(b"", wide), func(b"", other), func(b"", b"")], [2], [body])
     if kind == "ending":
@@ -65,7 +51,7 @@ def made(kind, n):
     if kind == "tables":
         half = n // 2
         other = b"\x7f" * (n - half - 1) + b"\x7e" + b"\x7f" * half
-        tables = (b"\x10\x00" + b"\x41\x00" + b"\x0e" + vec([leb(1)]) + leb(0)) * n
+        tables = (b"\x10\x00" + b"\x41\x00" + b"\x0e" + many([leb(1)]) + leb(0)) * n
         body = b"\x02\x00\x02\x01\x00" + tables + b"\x0b\x00\x0b\x00\x0b"
         types = [func(b"", wide), func(b"", other), func(b"", b""), func(b"", wide[:half])]
         return module(types, [3, 2], [b"\x00\x0b", body])
@@ -76,5 +62,6 @@ if __name__ == "__main__":
     if len(sys.argv) != 4:
         sys.exit(__doc__)
     made_module = made(sys.argv[1], int(sys.argv[2]))
-    open(sys.argv[3], "wb").write(made_module)
+    with open(sys.argv[3], "wb") as out:
+        out.write(made_module)
     print(f"{sys.argv[1]} {sys.argv[2]}: {len(made_module)} bytes")

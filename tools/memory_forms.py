@@ -1,24 +1,12 @@
 #!/usr/bin/env python3
-"""Writes components that are one short form over and over, for what reading keeps of them: tools/memory_forms.py FOLDER [BYTES]"""
+"""Writes components that are one short form over and over, for what reading keeps of them.
 
-import os
+usage: tools/memory_forms.py FOLDER [BYTES]: of so many bytes each, 1,000,000 without the number
+"""
+
 import sys
 
-MODULE = b"\0asm\1\0\0\0"
-COMPONENT = b"\0asm\x0d\0\1\0"
-
-
-def leb(number):
-    out = b""
-    while True:
-        low, number = number & 0x7F, number >> 7
-        if not number:
-            return out + bytes([low])
-        out += bytes([low | 0x80])
-
-
-def section(number, body):
-    return bytes([number]) + leb(len(body)) + body
+from encoders import COMPONENT, MODULE, leb, section, write_all
 
 
 def in_module(*sections):
@@ -103,12 +91,7 @@ def forms(size):
     }
 
 
-def main():
-    folder, size = sys.argv[1], int(sys.argv[2]) if len(sys.argv) > 2 else 1_000_000
-    os.makedirs(folder, exist_ok=True)
-    for name, content in forms(size).items():
-        with open(os.path.join(folder, name + ".wasm"), "wb") as file:
-            file.write(content)
-
-
-main()
+if __name__ == "__main__":
+    if len(sys.argv) not in (2, 3) or sys.argv[1].startswith("-"):
+        sys.exit(__doc__)
+    write_all(sys.argv[1], forms(int(sys.argv[2]) if len(sys.argv) > 2 else 1_000_000).items())

@@ -12,8 +12,11 @@ import os
 import re
 import sys
 
-from run_components import (
+from encoders import (
     FUNC,
+    I32,
+    I64,
+    MODULE,
     TYPE,
     aliases,
     an_instance,
@@ -47,12 +50,12 @@ from run_components import (
     signed,
     text,
     types,
+    write_all,
 )
 
 CRATES = os.path.join(os.path.dirname(os.path.abspath(__file__)), "..", "crates")
 
 PRIMS = {"bool": 0x7F, "u8": 0x7D, "u16": 0x7B, "u32": 0x79, "u64": 0x77, "string": 0x73}
-I32, I64 = 0x7F, 0x7E
 
 # forms of types that stand under a name
 NAMED = ("record", "variant", "enum", "flags")
@@ -290,7 +293,7 @@ REALLOC = b"\1\1\x7f\x23\0\x41\x07\x6a\x41\x78\x71\x22\4\x20\3\x6a\x24\0\x20\4\x
 def library(pages):
     """A memory of so many pages, and a realloc that gives the next place behind 4,096."""
     return (
-        b"\0asm\1\0\0\0"
+        MODULE
         + section(1, many([typed([I32] * 4, [I32])]))
         + section(3, many([b"\0"]))
         + section(5, many([b"\0" + leb(pages)]))
@@ -326,7 +329,7 @@ def passing(lowered):
         body = many([]) + b"".join(b"\x20" + leb(p) for p in range(given)) + place + b"\x10" + leb(i) + place + b"\x0b"
         codes.append(leb(len(body)) + body)
         outs.append(text(name) + b"\0" + leb(len(lowered) + i))
-    return b"\0asm\1\0\0\0" + section(1, many(made.items)) + section(2, many(ins)) + section(3, many(places)) + section(7, many(outs)) + section(10, many(codes))
+    return MODULE + section(1, many(made.items)) + section(2, many(ins)) + section(3, many(places)) + section(7, many(outs)) + section(10, many(codes))
 
 
 class World:
@@ -457,12 +460,8 @@ PASSING = {
 }
 
 
-def main(folder):
-    tables = read_tables()
-    for name, (functions, drops) in PASSING.items():
-        with open(os.path.join(folder, f"{name}.wasm"), "wb") as file:
-            file.write(passes(tables, functions, drops))
-
-
 if __name__ == "__main__":
-    main(sys.argv[1])
+    if len(sys.argv) != 2 or sys.argv[1].startswith("-"):
+        sys.exit(__doc__)
+    found = read_tables()
+    write_all(sys.argv[1], ((name, passes(found, functions, drops)) for name, (functions, drops) in PASSING.items()))

@@ -1,233 +1,59 @@
 #!/usr/bin/env python3
 """Writes the small components of crates/engine_rows that show handles, instances in one another and closed instances.
 
-Each is put together section by section, as the Component Model's Binary.md has them; core modules as WebAssembly Core 2.0 has them.
+usage: tools/run_components.py FOLDER
 """
 
-import os
 import sys
 
-U32, U64, STRING = 0x79, 0x77, 0x73
-I32 = 0x7F
-
-
-def leb(n):
-    out = b""
-    while True:
-        low, n = n & 127, n >> 7
-        if n == 0:
-            return out + bytes([low])
-        out += bytes([low | 128])
-
-
-def signed(n):
-    out = b""
-    while True:
-        low, n = n & 127, n >> 7
-        if (n == 0 and not low & 64) or (n == -1 and low & 64):
-            return out + bytes([low])
-        out += bytes([low | 128])
-
-
-def text(s):
-    return leb(len(s)) + s.encode()
-
-
-def many(items):
-    return leb(len(items)) + b"".join(items)
-
-
-def section(number, body):
-    return bytes([number]) + leb(len(body)) + body
-
-
-# ---- core modules
-
-def const(n):
-    return b"\x41" + signed(n)
-
-
-def call(n):
-    return b"\x10" + leb(n)
-
-
-def local(n):
-    return b"\x20" + leb(n)
-
-
-DROP = b"\x1a"
-
-
-def module(imports=(), functions=(), exports=(), start=None, memory=False):
-    """Imports are (module, name, type), functions (type, locals, body), exports (name, kind, index); a type is (params, results)."""
-    types = []
-
-    def place(ty):
-        if ty not in types:
-            types.append(ty)
-        return types.index(ty)
-
-    ins = [text(m) + text(n) + b"\0" + leb(place(ty)) for m, n, ty in imports]
-    funcs = [leb(place(ty)) for ty, _, _ in functions]
-    out = b"\0asm\x01\0\0\0"
-    out += section(1, many([b"\x60" + many([bytes([I32])] * p) + many([bytes([I32])] * r) for p, r in types]))
-    if ins:
-        out += section(2, many(ins))
-    out += section(3, many(funcs))
-    if memory:
-        out += section(5, many([b"\0\1"]))
-    out += section(7, many([text(n) + bytes([k]) + leb(i) for n, k, i in exports]))
-    if start is not None:
-        out += section(8, leb(start))
-    bodies = []
-    for _, locals_, body in functions:
-        code = (many([leb(locals_) + bytes([I32])]) if locals_ else many([])) + body + b"\x0b"
-        bodies.append(leb(len(code)) + code)
-    return out + section(10, many(bodies))
-
-
-# ---- components
-
-def component(*sections):
-    return b"\0asm\x0d\0\1\0" + b"".join(sections)
-
-
-def core_module(m):
-    return section(1, m)
-
-
-def nested(c):
-    return section(4, c)
-
-
-def core_instances(*items):
-    return section(2, many(items))
-
-
-def of_module(index, **args):
-    return b"\0" + leb(index) + many([text(name.replace("_", "-")) + b"\x12" + leb(i) for name, i in args.items()])
-
-
-def of_core_items(*items):
-    """Of functions alone, or of (name, kind, index)."""
-    return b"\1" + many([text(n) + bytes([k]) + leb(i) for n, k, i in items])
-
-
-def instances(*items):
-    return section(5, many(items))
-
-
-def of_component(index, *args):
-    return b"\0" + leb(index) + many([text(n) + bytes([sort]) + leb(i) for n, sort, i in args])
-
-
-FUNC, TYPE, INSTANCE = 1, 3, 5
-
-
-def aliases(*items):
-    return section(6, many(items))
-
-
-def from_instance(sort, instance, name):
-    return bytes([sort, 0]) + leb(instance) + text(name)
-
-
-def from_core(kind, instance, name):
-    return bytes([0, kind, 1]) + leb(instance) + text(name)
-
-
-def types(*items):
-    return section(7, many(items))
-
-
-def func(params, result=None):
-    return b"\x40" + many([text(n) + ty for n, ty in params]) + (b"\0" + result if result is not None else b"\1\0")
-
-
-def prim(ty):
-    return bytes([ty])
-
-
-def own(i):
-    return b"\x69" + leb(i)
-
-
-def borrow(i):
-    return b"\x68" + leb(i)
-
-
-def option(ty):
-    return b"\x6b" + ty
-
-
-def result():
-    return b"\x6a\0\0"
-
-
-def outer_type(i):
-    """A type of the component around an instance type."""
-    return b"\2\3\2\1" + leb(i)
-
-
-def instance_type(*items):
-    return b"\x42" + many(items)
-
-
-def declares(ty):
-    return b"\1" + ty
-
-
-def exports_type(name):
-    return b"\4\0" + text(name) + b"\3\1"
-
-
-def exports_func(name, ty):
-    return b"\4\0" + text(name) + b"\1" + leb(ty)
-
-
-def canons(*items):
-    return section(8, many(items))
-
-
-def lift(f, ty, *options):
-    return b"\0\0" + leb(f) + many(options) + leb(ty)
-
-
-def lower(f, *options):
-    return b"\1\0" + leb(f) + many(options)
-
-
-def resource_new(r):
-    return b"\2" + leb(r)
-
-
-def resource_drop(r):
-    return b"\3" + leb(r)
-
-
-def memory_option(i):
-    return b"\3" + leb(i)
-
-
-def realloc_option(i):
-    return b"\4" + leb(i)
-
-
-def post_option(i):
-    return b"\5" + leb(i)
-
-
-def imports(*items):
-    return section(10, many([b"\0" + text(n) + desc for n, desc in items]))
-
-
-def an_instance(ty):
-    return b"\5" + leb(ty)
-
-
-def exports(*items):
-    return section(11, many([b"\0" + text(n) + bytes([sort]) + leb(i) + b"\0" for n, sort, i in items]))
-
+from encoders import (
+    aliases,
+    an_instance,
+    borrow,
+    call,
+    canons,
+    component,
+    const,
+    core_instances,
+    core_module,
+    declares,
+    exports,
+    exports_func,
+    exports_type,
+    from_core,
+    from_instance,
+    func,
+    imports,
+    instance_type,
+    instances,
+    leb,
+    lift,
+    local,
+    lower,
+    memory_option,
+    module,
+    nested,
+    of_component,
+    of_core_items,
+    of_module,
+    option,
+    outer_type,
+    own,
+    post_option,
+    prim,
+    realloc_option,
+    resource_drop,
+    resource_new,
+    result,
+    types,
+    write_all,
+    DROP,
+    FUNC,
+    INSTANCE,
+    STRING,
+    TYPE,
+    U32,
+)
 
 # a host with things that can be opened, looked at and given away
 THINGS = instance_type(
@@ -506,11 +332,7 @@ MADE = {
 }
 
 
-def main(folder):
-    for name, made in MADE.items():
-        with open(os.path.join(folder, f"{name}.wasm"), "wb") as file:
-            file.write(made())
-
-
 if __name__ == "__main__":
-    main(sys.argv[1])
+    if len(sys.argv) != 2 or sys.argv[1].startswith("-"):
+        sys.exit(__doc__)
+    write_all(sys.argv[1], ((name, made()) for name, made in MADE.items()))

@@ -3,13 +3,14 @@
 
 usage: tools/stored_rows.py [PROGRAM]: without one, crates/virt_cli/out/virt_cli, which ./wasi-virt builds. Ends with 1 if a row comes out otherwise.
 """
+
 import os
 import subprocess
 import sys
 
 ROOT = os.path.dirname(os.path.dirname(os.path.abspath(__file__)))
 DATA = f"{ROOT}/crates/engine_rows/data"
-PROGRAM = os.path.abspath(sys.argv[1]) if len(sys.argv) > 1 else f"{ROOT}/crates/virt_cli/out/virt_cli"
+BUILT = f"{ROOT}/crates/virt_cli/out/virt_cli"
 
 
 def rows():
@@ -23,14 +24,24 @@ def rows():
                 yield int(status), row, words.split()
 
 
-def comes_out(status, name, words):
-    ran = subprocess.run([PROGRAM, *words], cwd=DATA, capture_output=True, check=False)
+def comes_out(program, status, name, words):
+    ran = subprocess.run([program, *words], cwd=DATA, capture_output=True, check=False)
     with open(f"{DATA}/{name}.lines", "rb") as lines:
         return ran.returncode == status and ran.stdout == lines.read()
 
 
-otherwise = [name for status, name, words in rows() if not comes_out(status, name, words)]
-for name in otherwise:
-    print(f"{name}: otherwise")
-print(f"{len(otherwise)} rows come out otherwise")
-sys.exit(1 if otherwise else 0)
+def main(words):
+    if len(words) > 1 or words and words[0].startswith("-"):
+        sys.exit(__doc__)
+    program = os.path.abspath(words[0]) if words else BUILT
+    if not os.path.exists(program):
+        sys.exit(f"{program} is not there: ./wasi-virt builds it")
+    otherwise = [name for status, name, row in rows() if not comes_out(program, status, name, row)]
+    for name in otherwise:
+        print(f"{name}: otherwise")
+    print(f"{len(otherwise)} rows come out otherwise")
+    return 1 if otherwise else 0
+
+
+if __name__ == "__main__":
+    sys.exit(main(sys.argv[1:]))

@@ -3,7 +3,7 @@
 from dataclasses import dataclass, field
 
 from pass_components import core_type, flat, world
-from run_components import (
+from encoders import (
     FUNC,
     INSTANCE,
     aliases,
@@ -14,18 +14,17 @@ from run_components import (
     exports,
     from_core,
     func,
+    inline,
+    instances,
     leb,
     lift,
     lower,
-    many,
     memory_option,
     of_core_items,
     of_module,
     post_option,
     realloc_option,
     resource_drop,
-    section,
-    text,
     types,
 )
 
@@ -359,5 +358,5 @@ def exported(imported, made, first, shape):
     ours = len(imported.rows)
     if not shape.in_instance:
         return [*sections, exports(*[(name, FUNC, ours + i) for i, name in enumerate(made)])]
-    inline = b"\1" + many([b"\0" + text(name) + bytes([FUNC]) + leb(ours + i) for i, name in enumerate(made)])
-    return [*sections, section(5, many([inline])), exports((IN_INSTANCE, INSTANCE, imported.instances))]
+    inside = inline(*[(name, FUNC, ours + i) for i, name in enumerate(made)])
+    return [*sections, instances(inside), exports((IN_INSTANCE, INSTANCE, imported.instances))]

@@ -1,8 +1,6 @@
 """Core code by small functions: each gives the bytes of its instructions."""
 
-from run_components import leb, many, section, signed, text
-
-I32, I64 = 0x7F, 0x7E
+from encoders import I32, I64, MODULE, call, leb, many, section, signed, text
 
 
 def i32(n):
@@ -35,10 +33,6 @@ def get_global(n):
 
 def set_global(n):
     return b"\x24" + leb(n)
-
-
-def call(n):
-    return b"\x10" + leb(n)
 
 
 def load(at=0):
@@ -132,7 +126,7 @@ class Module:
         self.exports.append(text(name) + bytes([kind]) + leb(index))
 
     def bytes(self):
-        out = b"\0asm\1\0\0\0" + section(1, many(self.types))
+        out = MODULE + section(1, many(self.types))
         if self.imports:
             out += section(2, many(self.imports))
         out += section(3, many(self.functions))
