@@ -325,56 +325,65 @@ def counted(n, one, many=None):
     return f"{n:,} {one if n == 1 else many or one + 's'}"
 
 
-def document(library):
-    clauses, reached = closure(library)
-    by_file, types, constants, kit = rows_of(library, reached)
-    total = sum(map(len, by_file.values()))
-    lines = sum(lines_of(library, home, names) for home, names in by_file.items())
-    crates = [it for it in library.crates if it in types or any(home[0] == it for home in by_file)]
-    out = [
-        "# What a reader must believe",
-        "",
-        "What is proved of the program is said by the clauses of `wasi_virt` (`crates/virt_engine/src/engine.rt`). A clause is made of definitions, and these of others. This list has all of them: "
-        f"{counted(total, 'definition')} in {counted(len(by_file), 'file')} of `specs/` ({counted(lines, 'line')} without comments), and {counted(sum(map(len, types.values())), 'type')} that are declared in code, in {counted(len(crates), 'crate')}. "
-        "If you have read them and agree with them, you need to read no other code and no proof. `README.md` says what else is trusted: the toolchain and its logic, the C library, the machine's files.",
-        "",
-        "This file is generated: `tools/trusted.py` writes it, and `tools/trusted.py --check` says whether it is stale. `tools/trusted.py --why CRATE NAME` says by which definitions one is reached.",
-        "",
-        "## The clauses",
-        "",
-        "| Clause | Begins with |",
-        "|---|---|",
-    ]
-    module = own_text(library, CLAUSES[0], read(f"{TOP}/crates/{CLAUSES[0]}/src/{CLAUSES[1]}.rt"))
-    for _, name, body in clauses:
+def heading(by_file, types, lines, crates):
+    total = f"{counted(sum(map(len, by_file.values())), 'definition')} in {counted(len(by_file), 'file')} of `specs/` ({counted(lines, 'line')} without comments)"
+    declared = f"{counted(sum(map(len, types.values())), 'type')} that are declared in code, in {counted(len(crates), 'crate')}"
+    return f"""# What a reader must believe
+
+What is proved of the program is said by the clauses of `wasi_virt` (`crates/virt_engine/src/engine.rt`). A clause is made of definitions, and these of others. This list has all of them: {total}, and {declared}. If you have read them and agree with them, you need to read no other code and no proof. `README.md` says what else is trusted: the toolchain and its logic, the C library, the machine's files.
+
+This file is generated: `tools/trusted.py` writes it, and `tools/trusted.py --check` says whether it is stale. `tools/trusted.py --why CRATE NAME` says by which definitions one is reached.
+"""
+
+
+def clause_table(library, clauses):
+    crate, name, _ = CLAUSES
+    module = own_text(library, crate, read(f"{TOP}/crates/{crate}/src/{name}.rt"))
+    yield "## The clauses\n\n| Clause | Begins with |\n|---|---|"
+    for _, clause, body in clauses:
         first = sorted({key[3] for key in library.met(module, set(TOKEN.findall(body))) if key and key[0] == "definition"})
-        out.append(f"| `{name}` | {', '.join(f'`{it}`' for it in first)} |")
-    out += ["", "They are said over any `Files` and `Sink`, so the contracts of these traits (`outside`) belong to them.", "", "## By standard", ""]
-    out += ["A file counts under each standard that its head names.", "", "| Standard | Files | Definitions |", "|---|---|---|"]
+        yield f"| `{clause}` | {', '.join(f'`{it}`' for it in first)} |"
+    yield "\nThey are said over any `Files` and `Sink`, so the contracts of these traits (`outside`) belong to them.\n"
+
+
+def standard_table(library, by_file, kit):
     sums = collections.defaultdict(lambda: [0, 0])
     for home, names in by_file.items():
         for standard in standards_of(library.modules[home].head):
             sums[standard][0] += 1
             sums[standard][1] += len(names)
+    yield "## By standard\n\nA file counts under each standard that its head names.\n\n| Standard | Files | Definitions |\n|---|---|---|"
     for standard in [*(name for name, _ in STANDARDS), NONE]:
         if standard in sums:
-            out.append(f"| {standard} | {sums[standard][0]} | {sums[standard][1]:,} |")
-    out += ["", "From the kit, by which definitions here are written: " + "; ".join(f"{counted(len(names), 'name')} of `{crate}`" for crate, names in sorted(kit.items())) + ".", ""]
-    out += ["## Crate by crate", "", "In the order of `crates.txt`. A line is a file of `specs/`: what its head says, the standard and the section, and the definitions.", ""]
+            yield f"| {standard} | {sums[standard][0]} | {sums[standard][1]:,} |"
+    named = "; ".join(f"{counted(len(names), 'name')} of `{crate}`" for crate, names in sorted(kit.items()))
+    yield f"\nFrom the kit, by which definitions here are written: {named}.\n"
+
+
+def crate_lines(library, crate, by_file, types, constants):
+    files = sorted(home for home in by_file if home[0] == crate)
+    count = counted(sum(len(by_file[home]) for home in files), "definition")
+    yield f"### `{crate}`: {count}" + (f", {counted(len(types[crate]), 'type')}" if types.get(crate) else "") + "\n"
+    for home in files:
+        module = library.modules[home]
+        names = [it for it in module.definitions if it in by_file[home]]
+        cited = citations(module.head)
+        yield f"- **{home[1]}** ({len(names)}): {subject(module.head)}." + (f" *{cited}.*" if cited else "") + " " + ", ".join(f"`{it}`" for it in names)
+    for what, names in (("Types", types), ("Constants", constants)):
+        if names.get(crate):
+            yield f"- {what} of the code: " + ", ".join(f"`{it}`" for it in sorted(names[crate]))
+    yield ""
+
+
+def document(library):
+    clauses, reached = closure(library)
+    by_file, types, constants, kit = rows_of(library, reached)
+    lines = sum(lines_of(library, home, names) for home, names in by_file.items())
+    crates = [it for it in library.crates if it in types or any(home[0] == it for home in by_file)]
+    out = [heading(by_file, types, lines, crates), *clause_table(library, clauses), *standard_table(library, by_file, kit)]
+    out.append("## Crate by crate\n\nIn the order of `crates.txt`. A line is a file of `specs/`: what its head says, the standard and the section, and the definitions.\n")
     for crate in crates:
-        files = sorted(home for home in by_file if home[0] == crate)
-        n = sum(len(by_file[home]) for home in files)
-        out.append(f"### `{crate}`: {counted(n, 'definition')}" + (f", {counted(len(types[crate]), 'type')}" if types.get(crate) else ""))
-        out.append("")
-        for home in files:
-            module = library.modules[home]
-            names = [it for it in module.definitions if it in by_file[home]]
-            cited = citations(module.head)
-            out.append(f"- **{home[1]}** ({len(names)}): {subject(module.head)}." + (f" *{cited}.*" if cited else "") + " " + ", ".join(f"`{it}`" for it in names))
-        for what, names in (("Types", types), ("Constants", constants)):
-            if names.get(crate):
-                out.append(f"- {what} of the code: " + ", ".join(f"`{it}`" for it in sorted(names[crate])))
-        out.append("")
+        out += crate_lines(library, crate, by_file, types, constants)
     return "\n".join(out).rstrip() + "\n"
 
 
