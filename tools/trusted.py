@@ -33,7 +33,7 @@ STANDARDS = [
     ("JSON, RFC 8259", r"RFC 8259"),
     ("WASI 0.2", r"WASI"),
 ]
-NONE = "none named: this project's own"
+NONE = "none named in the head"
 
 
 class Definition:
@@ -123,18 +123,21 @@ def camel(text):
 
 
 class Declared:
-    """The types and traits of a crate's code, by name, each with its file and its text."""
+    """The types and traits of a crate's code, by name, each with its file and its text; and the models by which contracts see types."""
 
-    START = re.compile(r"(?m)^pub(?:\([a-z]+\))? (struct|enum|type|trait) ([A-Z]\w*)")
+    START = re.compile(r"(?m)^(?:pub(?:\([a-z]+\))? )?(struct|enum|type|trait) ([A-Z]\w*)")
+    MODEL = re.compile(r"(?m)^impl(?:<[^>]*>)? Model for ([A-Z]\w*)")
 
     def __init__(self, crate):
-        self.found = {}
+        self.found, self.models = {}, {}
         for path in files_below(f"{TOP}/crates/{crate}/src"):
             if not path.endswith(".rt"):
                 continue
             text = re.sub(r"//[^\n]*", "", read(path))
             for it in self.START.finditer(text):
                 self.found.setdefault(it.group(2), (it.group(1), text, text[it.start():self._end(text, it.end())]))
+            for it in self.MODEL.finditer(text):
+                self.models[it.group(1)] = (text, text[it.start():self._end(text, it.end())])
 
     @staticmethod
     def _end(text, at):
@@ -163,10 +166,16 @@ class Library:
                     name = os.path.relpath(path, folder)[:-5].replace("/", ".")
                     self.modules[crate, name] = Module(crate, name, read(path))
 
-    def types(self, crate):
+    def code(self, crate):
         if crate not in self.declared:
             self.declared[crate] = Declared(crate)
-        return self.declared[crate].found
+        return self.declared[crate]
+
+    def types(self, crate):
+        return self.code(crate).found
+
+    def models(self, crate):
+        return self.code(crate).models
 
     def named(self, crate, path, name):
         """What `Rattle.crate.specs.path.name` is: a key of a definition, of a type or constant of code or of something of the kit, or nothing."""
@@ -206,7 +215,7 @@ class Library:
                 yield self.within(module, first)
 
 
-def own_text(library, crate, text):
+def own_text(crate, text):
     """A file of code as a module: the definitions that its `ghost use` lines import."""
     module = Module(crate, "", "")
     for line in text.splitlines():
@@ -252,14 +261,17 @@ def followed(library, key):
             kind, text, body = found
             yield from types_in(library, key[1], text, body)
             if kind == "trait":
-                yield from library.met(own_text(library, key[1], text), set(TOKEN.findall(body)))
+                yield from library.met(own_text(key[1], text), set(TOKEN.findall(body)))
+        if key[2] in library.models(key[1]):
+            text, body = library.models(key[1])[key[2]]
+            yield from library.met(own_text(key[1], text), set(TOKEN.findall(body)))
 
 
 def closure(library):
     """All that the clauses reach, each with what it was first reached from."""
     crate, name, function = CLAUSES
     text = read(f"{TOP}/crates/{crate}/src/{name}.rt")
-    module = own_text(library, crate, text)
+    module = own_text(crate, text)
     clauses = clauses_of(text, function)
     reached, due = {}, collections.deque()
 
@@ -338,7 +350,7 @@ This file is generated: `tools/trusted.py` writes it, and `tools/trusted.py --ch
 
 def clause_table(library, clauses):
     crate, name, _ = CLAUSES
-    module = own_text(library, crate, read(f"{TOP}/crates/{crate}/src/{name}.rt"))
+    module = own_text(crate, read(f"{TOP}/crates/{crate}/src/{name}.rt"))
     yield "## The clauses\n\n| Clause | Begins with |\n|---|---|"
     for _, clause, body in clauses:
         first = sorted({key[3] for key in library.met(module, set(TOKEN.findall(body))) if key and key[0] == "definition"})
@@ -371,7 +383,8 @@ def crate_lines(library, crate, by_file, types, constants):
         yield f"- **{home[1]}** ({len(names)}): {subject(module.head)}." + (f" *{cited}.*" if cited else "") + " " + ", ".join(f"`{it}`" for it in names)
     for what, names in (("Types", types), ("Constants", constants)):
         if names.get(crate):
-            yield f"- {what} of the code: " + ", ".join(f"`{it}`" for it in sorted(names[crate]))
+            models = library.models(crate)
+            yield f"- {what} of the code: " + ", ".join(f"`{it}`" + ("*" if it in models else "") for it in sorted(names[crate]))
     yield ""
 
 
@@ -381,7 +394,7 @@ def document(library):
     lines = sum(lines_of(library, home, names) for home, names in by_file.items())
     crates = [it for it in library.crates if it in types or any(home[0] == it for home in by_file)]
     out = [heading(by_file, types, lines, crates), *clause_table(library, clauses), *standard_table(library, by_file, kit)]
-    out.append("## Crate by crate\n\nIn the order of `crates.txt`. A line is a file of `specs/`: what its head says, the standard and the section, and the definitions.\n")
+    out.append("## Crate by crate\n\nIn the order of `crates.txt`. A line is a file of `specs/`: what its head says, the standard and the section, and the definitions. A type with a star has a model, by which contracts see it: `impl Model for` it in the crate's `src/`.\n")
     for crate in crates:
         out += crate_lines(library, crate, by_file, types, constants)
     return "\n".join(out).rstrip() + "\n"
