@@ -12,10 +12,11 @@ pub fn own_resources_are_new()
     ensures { OwnResourcesAreNew }
 {}
 
-/// Where each call of an import, each return and each drop is done alike on both sides and keeps the relation, a component over the
-/// first host is seen to do what it does over the adapter over the second, and the other way round.
+/// Where each call of an import that the component makes, each return from one and each drop of a handle that it drops is done alike
+/// on both sides and keeps the relation, the component over the first host is seen to do what it does over the adapter over the
+/// second, and the other way round.
 pub fn components_are_seen_alike<W: Worlds>()
-    ensures { (tree : Tree) → Related W.host (group_of tree).imported (hosted W.one) (stack W.adapter (hosted W.two)) W.idle W.answered W.live →
+    ensures { (tree : Tree) → Related (group_of tree) W.host (hosted W.one) (stack W.adapter (hosted W.two)) W.idle W.answered W.live →
         ComponentSeenAlike W.adapter W.one W.two W.host W.idle tree }
 {
     related_hosts_are_seen_alike::<W>();

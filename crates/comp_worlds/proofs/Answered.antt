@@ -14,7 +14,8 @@ use Rattle.comp_worlds.specs.Passing.{Handle, Passed, params_tuple, answer_tuple
 use Rattle.comp_worlds.specs.Groups.{Endless, Options, Lifting, Target, Mine, Theirs, type_of, Import, Group, Config, World, Due, Nothing, Served, Below, Answer, Origin, Ports}
 use Rattle.comp_worlds.specs.Locals.{Local, done, also, with_map, enter, Args, lifts, lends_nothing, has_no_borrow, adds_handles, has_place}
 use Rattle.comp_worlds.specs.Calls.{number_if, set, with_config, on, owns, borrowed, plainly, lowers_closed, lowers_params, finds_place, answers, leaves, runs}
-use Rattle.comp_worlds.specs.Related.{Both, one_of, two_of, passed_over, Gives, EachHandle, Good, Answered as HasAnswered, Left, OwnsNone}
+use Rattle.comp_worlds.specs.Related.{Both, one_of, two_of, passed_over, Gives, EachHandle, Good, Answered as HasAnswered, Left, Asks, PassesAll, OwnsNone}
+use Rattle.comp_worlds.proofs.Embedding.{LeadsTo}
 use Rattle.comp_worlds.proofs.Maps.{map_is, some_is, relent, Has, Holds, AddedAll, add_all_from, add_all_once}
 use Rattle.comp_worlds.proofs.Loans.{each_handle_map, count}
 use Rattle.comp_worlds.proofs.Natural.{handles_over, config_over, local_over, args_over, itself, pairs, handles_of_over, enter_over, has_no_borrow_over, lifts_over, adds_handles_over, has_place_over}
@@ -93,13 +94,13 @@ module _ {S T : Type 0} (G : Group) (p : Ports S) (q : Ports T) (host : ℕ → 
       (finds_similar (spills_over most_results ty) options ty at J' t (J k).entered w' v' h' e3 e4)
       (λ w'' x v'' s. similar_closed G p q host live none below U D k options at (lower_result ty (renumbered ty passed.value indexes)) s.joint t (J k).entered w'' v'' s.met s.map_is s.entered_is))
 
-module _ {S T : Type 0} (G : Group) (p : Ports S) (q : Ports T) (idle : S → T → Type 0) (answered : S → Due → T → Due → Type 0) (live : S → T → ℕ → Both → Type 0) (host : ℕ → Bool) (none : OwnsNone host G) (rel : Simulates host G.imported p q idle answered live) where
+module _ {S T : Type 0} (G : Group) (p : Ports S) (q : Ports T) (idle : S → T → Type 0) (answered : S → Due → T → Due → Type 0) (live : S → T → ℕ → Both → Type 0) (host : ℕ → Bool) (none : OwnsNone host G) (rel : Simulates G host p q idle answered live) where
   -- core code does the same at depth D
   abbrev pub Runs : ℕ → Type 1
   Runs D = (k f : ℕ) (args : List CoreValue) (U : Keep) (J : ℕ → Config Both) (w : World S) (v : World T) → Met host live idle U J w v → Similar D (Ran {A = List CoreValue} host live idle U J) (λ d. runs G p d Endless k f args w) (λ d. runs G q d Endless k f args v)
 
   module _ (D : ℕ) (hyp : Runs D) (U : Keep) (J : ℕ → Config Both) (w : World S) (v : World T) (h : Met host live idle U J w v) (from : Origin) (passed : Passed Both) where
-    module _ (import : Import) (typed : is_of (params_tuple import.ty) passed.value ≡ true) (pass : IsPassing host live U J w.below v.below (handles_of (params_tuple import.ty) passed)) where
+    module _ (import : Import) (asked : Asks G from import) (typed : is_of (params_tuple import.ty) passed.value ≡ true) (all : PassesAll from (params_tuple import.ty) passed) (pass : IsPassing host live U J w.below v.below (handles_of (params_tuple import.ty) passed)) where
       abbrev asked_with : List (Handle Both)
       asked_with = handles_of (params_tuple import.ty) passed
 
@@ -117,7 +118,7 @@ module _ {S T : Type 0} (G : Group) (p : Ports S) (q : Ports T) (idle : S → T 
       theirs =
           similar_then D Asked Import_replies _ _ _ _ w v
           (similar_below D (λ s a t b. HasAnswered host answered live w.below v.below asked_with (answer_tuple import.ty) s a t b) Asked (p.ask Endless from import (passed_over one_of passed)) (q.ask Endless from import (passed_over two_of passed)) w v
-          (rel.asks D from w.below v.below import passed h.stands typed pass.each pass.once (λ r x hr n g. pass.unguarded r x hr (pass.lends r x hr n) g))
+          (rel.asks D from w.below v.below import passed asked h.stands typed all pass.each pass.once (λ r x hr n g. pass.unguarded r x hr (pass.lends r x hr n) g))
           (λ s a t b k. (λ m. refl, λ m. refl, k)))
           (λ w' a v' b k. let r = k.2 in similar_gives D Import_replies _ _ w' v' (record {
             passed = r.answer;
@@ -277,10 +278,10 @@ module _ {S T : Type 0} (G : Group) (p : Ports S) (q : Ports T) (idle : S → T 
           (lends_nothing l.answer.loans && not (has_borrow (set s3.joint k l.config k).map)) refl)))))
 
     -- a call is answered
-    pub similar_answers : (target : Target) → is_of (params_tuple (type_of target)) passed.value ≡ true → IsPassing host live U J w.below v.below (handles_of (params_tuple (type_of target)) passed) →
+    pub similar_answers : (target : Target) → LeadsTo (Asks G from) target → is_of (params_tuple (type_of target)) passed.value ≡ true → PassesAll from (params_tuple (type_of target)) passed → IsPassing host live U J w.below v.below (handles_of (params_tuple (type_of target)) passed) →
         Similar D (λ w' a v' b. Replied host live idle answered U J (answer_tuple (type_of target)) w' a v' b) (λ d. answers G p (runs G p d) Endless from target (passed_over one_of passed) w) (λ d. answers G q (runs G q d) Endless from target (passed_over two_of passed) v)
-    similar_answers (Mine k lifting) typed pass = mine k lifting pass (J k).entered refl
-    similar_answers (Theirs import) typed pass = theirs import typed pass
+    similar_answers (Mine k lifting) asked typed all pass = mine k lifting pass (J k).entered refl
+    similar_answers (Theirs import) asked typed all pass = theirs import asked typed all pass
 
   -- an answered call is left
   pub similar_leaves : (D : ℕ) (due due' : Due) (U : Keep) (J : ℕ → Config Both) (w : World S) (v : World T) → Met host live (Owed idle answered due due') U J w v →

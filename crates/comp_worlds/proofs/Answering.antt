@@ -1,5 +1,5 @@
 -- What is owed by a call that was answered, and what holds when a part of a group has run.
-use Rattle.std.proofs.Common.{◌≡◌, ◌≢◌, ℕ, zero, suc, ◌||◌, inl, inr, List, [], ◌∷◌, Option, Some, None, Bool, true, false, not, cond, refl, sym, ◌∙◌, ap, subst, subst₂}
+use Rattle.std.proofs.Common.{◌≡◌, ◌≢◌, ℕ, zero, suc, ◌||◌, inl, inr, List, [], ◌∷◌, length, Option, Some, None, Bool, true, false, not, cond, refl, sym, ◌∙◌, ap, subst, subst₂}
 use Rattle.std.specs.Option.{option_map}
 use Rattle.std.specs.List.{list_any}
 use Rattle.wit_types.specs.Plain.{Plain, OwnType, BorrowType}
@@ -10,15 +10,15 @@ use Rattle.abi_layout.specs.Handles as abi
 use Rattle.abi_layout.specs.Handles.{handles, with_numbers}
 use Rattle.abi_layout.proofs.HandleLaws.{handles_keep, types_keep}
 use Rattle.abi_layout.proofs.TypeLaws.{loads_typed, lifts_typed}
-use Rattle.host_port.specs.declared.call.Resource.{Resource}
 use Rattle.handle_space.specs.HandleMap.{Entry, HandleMap, Answered, Held, entry_at, without, lend, take, take_own}
 use Rattle.handle_space.proofs.MapLaws.{take_is, entry_of_is}
 use Rattle.comp_worlds.specs.Acts.{Act, ◌>>◌}
 use Rattle.comp_worlds.specs.Passing.{Handle, Own, Borrow, reps_in, Kind, IsOwn, IsBorrow, and_kind, kinds_in, handles_by, handles_of, Passed, params_tuple, answer_tuple, Named, OwnAt, BorrowAt, and_named, named_in, Lifted, and_lifted, lift_handles, is_borrow, lift_words, spills_over, blank}
-use Rattle.comp_worlds.specs.Groups.{Endless, Import, Options, Config, World, Due, Nothing, Served, Below, Answer, Origin, Ports}
+use Rattle.comp_worlds.specs.Groups.{Endless, Import, Options, Group, Config, World, Due, Nothing, Served, Below, Answer, Origin, Inside, Ports}
 use Rattle.comp_worlds.specs.Locals.{Local, bytes_in, Args, args_of, lifts, only_one, what_is_owned, removed, removes}
 use Rattle.comp_worlds.specs.Calls.{set, with_config}
-use Rattle.comp_worlds.specs.Related.{Both, one_of, two_of, passed_over, Gives, Lends, EachHandle, OnceEach, LentApart, Good, Answered as HasAnswered, Left, Gone}
+use Rattle.comp_worlds.specs.Parts.{DropsSome}
+use Rattle.comp_worlds.specs.Related.{Both, one_of, two_of, passed_over, Gives, Lends, EachHandle, OnceEach, LentApart, Good, Answered as HasAnswered, Left, Gone, Asks, PassesAll}
 use Rattle.comp_worlds.proofs.Maps.{and_then_is, map_is, some_is, at, made_of, Has, Holds, Free, Keeps, keeps_trans, keeps_refl, without_at, without_keeps, found_is, EachOnce}
 use Rattle.comp_worlds.proofs.Loans.{Clear, LiftedFrom, Lending, lift_lending, lift_from, counted_free}
 use Rattle.comp_worlds.proofs.Natural.{config_over}
@@ -28,14 +28,14 @@ use Rattle.comp_worlds.proofs.Meeting.{Keep, Met, met_set, fits_fewer}
 use Rattle.comp_worlds.proofs.Closed.{also_is}
 
 -- the second shows what the first shows, and the first what the second
-pub record Simulates {S T : Type 0} (host : ℕ → Bool) (name : ℕ → Resource) (p : Ports S) (q : Ports T) (idle : S → T → Type 0) (answered : S → Due → T → Due → Type 0) (live : S → T → ℕ → Both → Type 0) : Type 0 where
-  pub asks : (D : ℕ) (from : Origin) (s : S) (t : T) (import : Import) (passed : Passed Both) → idle s t → is_of (params_tuple import.ty) passed.value ≡ true →
+pub record Simulates {S T : Type 0} (G : Group) (host : ℕ → Bool) (p : Ports S) (q : Ports T) (idle : S → T → Type 0) (answered : S → Due → T → Due → Type 0) (live : S → T → ℕ → Both → Type 0) : Type 0 where
+  pub asks : (D : ℕ) (from : Origin) (s : S) (t : T) (import : Import) (passed : Passed Both) → Asks G from import → idle s t → is_of (params_tuple import.ty) passed.value ≡ true → PassesAll from (params_tuple import.ty) passed →
       EachHandle (λ r x. Good host live s t r x) (handles_of (params_tuple import.ty) passed) → OnceEach host (handles_of (params_tuple import.ty) passed) → LentApart host (handles_of (params_tuple import.ty) passed) →
       Similar D (λ s' a t' b. HasAnswered host answered live s t (handles_of (params_tuple import.ty) passed) (answer_tuple import.ty) s' a t' b) (λ d. p.ask Endless from import (passed_over one_of passed) s) (λ d. q.ask Endless from import (passed_over two_of passed) t)
   pub leaves : (D : ℕ) (s : S) (due : Due) (t : T) (due' : Due) → answered s due t due' →
       Similar D (λ s' a t' b. Left host idle live s t s' t') (λ d. p.leave Endless due s) (λ d. q.leave Endless due' t)
-  pub drops : (D : ℕ) (s : S) (t : T) (r : ℕ) (x : Both) → idle s t → Good host live s t r x →
-      Similar D (λ s' a t' b. Gone host idle live s t r x s' t') (λ d. p.drop Endless (name r) x.one s) (λ d. q.drop Endless (name r) x.two t)
+  pub drops : (D : ℕ) (s : S) (t : T) (r : ℕ) (x : Both) → DropsSome G r → G.owner r ≡ None → idle s t → Good host live s t r x →
+      Similar D (λ s' a t' b. Gone host idle live s t r x s' t') (λ d. p.drop Endless (G.imported r) x.one s) (λ d. q.drop Endless (G.imported r) x.two t)
 
 pub same_good : {S T : Type 0} → (host : ℕ → Bool) (live : S → T → ℕ → Both → Type 0) (s s' : S) (t t' : T) (r : ℕ) (x : Both) → Good host live s t r x → (host r ≡ true → live s t r x → live s' t' r x) → Good host live s' t' r x
 same_good host live s s' t t' r x g f = record { paired = λ hr. f hr (g.paired hr); equal = g.equal }
@@ -191,6 +191,19 @@ by_kinds {R} (BorrowAt r i ∷ ns) m l h =
     let q = map_is (and_lifted (Borrow r p.0.answer.rep) p.0.answer.owned i) (lift_handles ns p.0.map) l p.2 in
     subst (λ z. handles_by (IsBorrow r ∷ kinds_of ns) (reps_in z.handles) ≡ z.handles) q.2 (ap (λ z. Borrow r p.0.answer.rep ∷ z) (by_kinds ns p.0.map q.0 q.1))
 
+-- as many handles were lifted as were named
+as_many : {R : Type 0} → (ns : List Named) (m : HandleMap R) (l : Lifted R) → lift_handles ns m ≡ Some l → length (reps_in l.handles) ≡ length (kinds_of ns)
+unfolding kinds_of
+as_many [] m l h = subst (λ z. length (reps_in z.handles) ≡ 0) (some_is (record { handles = []; map = m; loans = [] }) l h) refl
+as_many {R} (OwnAt r i ∷ ns) m l h =
+    let p = and_then_is (λ (a : Answered R R). option_map (and_lifted (Own r a.answer) false i) (lift_handles ns a.map)) (take_own m i r) l h in
+    let q = map_is (and_lifted (Own r p.0.answer) false i) (lift_handles ns p.0.map) l p.2 in
+    subst (λ z. length (reps_in z.handles) ≡ length (IsOwn r ∷ kinds_of ns)) q.2 (ap suc (as_many ns p.0.map q.0 q.1))
+as_many {R} (BorrowAt r i ∷ ns) m l h =
+    let p = and_then_is (λ (a : Answered R (Held R)). option_map (and_lifted (Borrow r a.answer.rep) a.answer.owned i) (lift_handles ns a.map)) (lend m i r) l h in
+    let q = map_is (and_lifted (Borrow r p.0.answer.rep) p.0.answer.owned i) (lift_handles ns p.0.map) l p.2 in
+    subst (λ z. length (reps_in z.handles) ≡ length (IsBorrow r ∷ kinds_of ns)) q.2 (ap suc (as_many ns p.0.map q.0 q.1))
+
 words_typed : (most : ℕ) (ty : Plain) (memory words : List ℕ) (v : PlainValue) → lift_words most ty memory words ≡ Some v → is_of ty v ≡ true
 words_typed most ty memory words v h = at_test (spills_over most ty) h
   where
@@ -200,6 +213,7 @@ words_typed most ty memory words v h = at_test (spills_over most ty) h
 
 pub record LiftsFrom {R : Type 0} (host : ℕ → Bool) (ty : Plain) (c : Config R) (l : Local R (Args R)) : Type 0 where
   pub typed : is_of ty l.answer.passed.value ≡ true
+  pub all : PassesAll Inside ty l.answer.passed
   pub lending : Lending c.map (lifted_of ty l)
   pub from : LiftedFrom host c.map (lifted_of ty l)
 
@@ -207,12 +221,12 @@ pub lifts_from : {R : Type 0} → (host : ℕ → Bool) (most : ℕ) (ty : Plain
 lifts_from {R} host most ty options words c l h once clear =
     let p = and_then_is (λ v. option_map (args_of ty v c) (lift_handles (named_in (handles ty v)) c.map)) (lift_words most ty (bytes_in options c.store) words) l h in
     let q = map_is (args_of ty p.0 c) (lift_handles (named_in (handles ty p.0)) c.map) l p.2 in
-    let same : handles_of ty (record { value = blank ty p.0; reps = reps_in q.0.handles }) ≡ q.0.handles =
-    ap (λ ks. handles_by ks (reps_in q.0.handles)) (ap kinds_in (handles_keep ty p.0 []) ∙ kinds_numbered (handles ty p.0) [] ∙ sym (kinds_named (handles ty p.0)))
-    ∙ by_kinds (named_in (handles ty p.0)) c.map q.0 q.1 in
+    let kinds : kinds_in (handles ty (blank ty p.0)) ≡ kinds_of (named_in (handles ty p.0)) = ap kinds_in (handles_keep ty p.0 []) ∙ kinds_numbered (handles ty p.0) [] ∙ sym (kinds_named (handles ty p.0)) in
+    let same : handles_of ty (record { value = blank ty p.0; reps = reps_in q.0.handles }) ≡ q.0.handles = ap (λ ks. handles_by ks (reps_in q.0.handles)) kinds ∙ by_kinds (named_in (handles ty p.0)) c.map q.0 q.1 in
     let lifted : q.0 ≡ lifted_of ty (args_of ty p.0 c q.0) = ap (λ hs. record { handles = hs; map = q.0.map; loans = q.0.loans }) (sym same) in
     subst (LiftsFrom host ty c) q.2 (record {
       typed = types_keep ty p.0 [] ∙ words_typed most ty (bytes_in options c.store) words p.0 p.1;
+      all = as_many (named_in (handles ty p.0)) c.map q.0 q.1 ∙ ap length (sym kinds);
       lending = subst (Lending c.map) lifted (lift_lending (named_in (handles ty p.0)) c.map q.0 q.1);
       from = subst (LiftedFrom host c.map) lifted (lift_from host (named_in (handles ty p.0)) c.map q.0 q.1 once clear);
     })

@@ -11,10 +11,12 @@ use Rattle.abi_layout.specs.Functions.{lowered}
 use Rattle.handle_space.specs.HandleMap.{Entry, HandleMap, Answered, entry_at, own_entry, add}
 use Rattle.comp_worlds.specs.Acts.{Act, ◌>>◌, gives}
 use Rattle.comp_worlds.specs.Passing.{Handle, Own, Borrow, Passed, params_tuple, answer_tuple, handles_of, unlend_all, most_params}
-use Rattle.comp_worlds.specs.Groups.{Nesting, Endless, store_at, Options, Target, type_of, Func, LoweredFunc, ResourceNew, ResourceDrop, ResourceRep, Owner, Group, Config, World, Due, Nothing, Served, Below, Answer, Inside, Ports}
+use Rattle.comp_worlds.specs.Groups.{Nesting, Endless, store_at, Options, Target, Mine, Theirs, type_of, Func, LoweredFunc, ResourceNew, ResourceDrop, ResourceRep, Owner, Group, Config, World, Due, Nothing, Served, Below, Answer, Inside, Ports}
 use Rattle.comp_worlds.specs.Locals.{Local, done, also, with_map, with_store, is_open, enter, Args, lifts, ends_loans, adds_handles, only_one, Numbers, new_entry, makes, reads, removes}
 use Rattle.comp_worlds.specs.Calls.{set, with_config, on, Pause, Finished, Question, owns, unborrowed, plainly, lowers_result, answers, during, place_in, leaves, destructs, visits, drops, destructs_own, drops_by, drops_if, performs, goes_on, drives, runs}
-use Rattle.comp_worlds.specs.Related.{Both, one_of, two_of, passed_over, Gives, Lends, EachHandle, Good, Gone, OwnsNone}
+use Rattle.comp_worlds.specs.Parts.{DropsSome}
+use Rattle.comp_worlds.specs.Related.{Both, one_of, two_of, passed_over, Gives, Lends, EachHandle, Good, Gone, Asks, OwnsNone}
+use Rattle.comp_worlds.proofs.Embedding.{LeadsTo, KnownIn}
 use Rattle.comp_worlds.proofs.Maps.{and_then_is, map_is, some_is, made_of, Has, Holds, Free, add_from, added_has, added_free, AddedAll, add_all_from, add_all_none, add_all_once}
 use Rattle.comp_worlds.proofs.Loans.{each_handle_map, unlend_stays, unlend_sound, given_back, lent_still}
 use Rattle.comp_worlds.proofs.Natural.{config_over, local_over, args_over, itself, pairs, is_open_over, enter_over, lifts_over, ends_loans_over, makes_over, removes_over}
@@ -51,7 +53,16 @@ makes_from ns own r args c l h =
     let q = map_is (new_entry c) (add c.map (own_entry r (ns.made p.0))) l p.2 in
     (a.0, p.0, q.0, q.1, ap (λ z. z.config) q.2)
 
-module _ {S T : Type 0} (G : Group) (p : Ports S) (q : Ports T) (idle : S → T → Type 0) (answered : S → Due → T → Due → Type 0) (live : S → T → ℕ → Both → Type 0) (host : ℕ → Bool) (none : OwnsNone host G) (rel : Simulates host G.imported p q idle answered live) where
+-- core code asks what the group lowers, and drops what it drops
+known_in : (G : Group) (k n : ℕ) (f : Option Func) → G.canons k n ≡ f → KnownIn (Asks G Inside) (DropsSome G) f
+known_in G k n None is = tt
+known_in G k n (Some (LoweredFunc (Mine m lifting) options)) is = tt
+known_in G k n (Some (LoweredFunc (Theirs f) options)) is = (k, n, options, is)
+known_in G k n (Some (ResourceNew r)) is = tt
+known_in G k n (Some (ResourceDrop r)) is = (k, n, is)
+known_in G k n (Some (ResourceRep r)) is = tt
+
+module _ {S T : Type 0} (G : Group) (p : Ports S) (q : Ports T) (idle : S → T → Type 0) (answered : S → Due → T → Due → Type 0) (live : S → T → ℕ → Both → Type 0) (host : ℕ → Bool) (none : OwnsNone host G) (rel : Simulates G host p q idle answered live) where
   module _ (U : Keep) (J : ℕ → Config Both) (w : World S) (v : World T) (h : Met host live idle U J w v) (k : ℕ) where
     abbrev Runs_on : {A : Type 0} → World S → A → World T → A → Type 0
     Runs_on w' a v' b = Ran host live idle U J w' a v' b
@@ -252,17 +263,17 @@ module _ {S T : Type 0} (G : Group) (p : Ports S) (q : Ports T) (idle : S → T 
             (finishes_at (during Endless a.due) (during Endless b.due) (during_endless a.due) (during_endless b.due) a.passed b.passed r.is_first r.is_second)
 
     -- a call of a lowered function
-    calls_on : (D : ℕ) → Runs G p q idle answered live host none rel D → (target : Target) (options : Options) (args : List ℕ) → Similar D (Runs_on {A = List CoreValue})
+    calls_on : (D : ℕ) → Runs G p q idle answered live host none rel D → (target : Target) → LeadsTo (Asks G Inside) target → (options : Options) (args : List ℕ) → Similar D (Runs_on {A = List CoreValue})
         (λ d. (on k (lifts most_params (params_tuple (type_of target)) options args) >> λ l. answers G p (runs G p d) Endless Inside target l.passed >> λ answer. on k (ends_loans l.loans) >> λ _. lowers_result G p (runs G p d) (during Endless answer.due) k options (answer_tuple (type_of target)) (place_in (type_of target) args) answer.passed >> λ results. leaves G p (runs G p d) Endless answer.due >> λ _. gives (values_in 0 (lowered (type_of target)).results results)) w)
         (λ d. (on k (lifts most_params (params_tuple (type_of target)) options args) >> λ l. answers G q (runs G q d) Endless Inside target l.passed >> λ answer. on k (ends_loans l.loans) >> λ _. lowers_result G q (runs G q d) (during Endless answer.due) k options (answer_tuple (type_of target)) (place_in (type_of target) args) answer.passed >> λ results. leaves G q (runs G q d) Endless answer.due >> λ _. gives (values_in 0 (lowered (type_of target)).results results)) v)
-    calls_on D hyp target options args =
+    calls_on D hyp target asked options args =
         let ty = params_tuple (type_of target) in
         then_on D Runs_on k (args_over one_of) (args_over two_of) (lifts most_params ty options args) (lifts most_params ty options args) _ _ w v (lifts most_params ty options args (J k))
         (ap (lifts most_params ty options args) (h.one k) ∙ lifts_over one_of most_params ty options args (J k)) (ap (lifts most_params ty options args) (h.two k) ∙ lifts_over two_of most_params ty options args (J k))
         (λ l e.
         let f = lifts_from host most_params ty options args (J k) l e (met_once host live idle U J w v h k) (met_clear host live idle U J w v h k) in
         similar_then D (Replied host live idle answered (U2 D hyp target options args l f) (J2 D hyp target options args l f) (answer_tuple (type_of target))) Runs_on _ _ _ _ (w2 D hyp target options args l f) (v2 D hyp target options args l f)
-        (similar_answers G p q idle answered live host none rel D hyp (U2 D hyp target options args l f) (J2 D hyp target options args l f) (w2 D hyp target options args l f) (v2 D hyp target options args l f) (h2 D hyp target options args l f) Inside l.answer.passed target f.typed (pass2 D hyp target options args l f))
+        (similar_answers G p q idle answered live host none rel D hyp (U2 D hyp target options args l f) (J2 D hyp target options args l f) (w2 D hyp target options args l f) (v2 D hyp target options args l f) (h2 D hyp target options args l f) Inside l.answer.passed target asked f.typed f.all (pass2 D hyp target options args l f))
         (λ w3 a v3 b r. finishes D hyp target options args l f w3 a v3 b r))
 
     -- only the instance k has changed, and not its map
@@ -363,10 +374,10 @@ module _ {S T : Type 0} (G : Group) (p : Ports S) (q : Ports T) (idle : S → T 
       })))
 
   -- a handle is dropped which is held nowhere and not kept
-  similar_drops : (D : ℕ) → Runs G p q idle answered live host none rel D → (r : ℕ) (x : Both) (U : Keep) (J : ℕ → Config Both) (w : World S) (v : World T) (h : Met host live idle U J w v) → Good host live w.below v.below r x → ((m i : ℕ) → host r ≡ true → Holds (J m).map i r x → ⊥) → (host r ≡ true → U r x → ⊥) → (o : Option Owner) → G.owner r ≡ o →
+  similar_drops : (D : ℕ) → Runs G p q idle answered live host none rel D → (r : ℕ) → DropsSome G r → (x : Both) (U : Keep) (J : ℕ → Config Both) (w : World S) (v : World T) (h : Met host live idle U J w v) → Good host live w.below v.below r x → ((m i : ℕ) → host r ≡ true → Holds (J m).map i r x → ⊥) → (host r ≡ true → U r x → ⊥) → (o : Option Owner) → G.owner r ≡ o →
       Similar D (Ran {A = Unit {0}} host live idle U J) (λ d. drops G p (runs G p d) Endless r (one_of x) o w) (λ d. drops G q (runs G q d) Endless r (two_of x) o v)
-  similar_drops D hyp r x U J w v h good away unguarded None is =
-      similar_below D (λ s a t b. Gone host idle live w.below v.below r x s t) _ (p.drop Endless (G.imported r) (one_of x)) (q.drop Endless (G.imported r) (two_of x)) w v (rel.drops D w.below v.below r x h.stands good)
+  similar_drops D hyp r dropped x U J w v h good away unguarded None is =
+      similar_below D (λ s a t b. Gone host idle live w.below v.below r x s t) _ (p.drop Endless (G.imported r) (one_of x)) (q.drop Endless (G.imported r) (two_of x)) w v (rel.drops D w.below v.below r x dropped is h.stands good)
       (λ s a t b k. record {
         same = refl;
         joint = J;
@@ -388,7 +399,7 @@ module _ {S T : Type 0} (G : Group) (p : Ports S) (q : Ports T) (idle : S → T 
       gone : (b' : Bool) (m i r' : ℕ) (x' : Both) → host r' ≡ true → Has b' (J m).map i r' x' → r ≡ r' → x ≡ x' → ⊥
       gone true m i r' x' hr held e e' = away m i (ap host e ∙ hr) (subst₂ (λ a b. Holds (J m).map i a b) (sym e) (sym e') held)
       gone false m i r' x' hr held e e' = unguarded (ap host e ∙ hr) (subst₂ U (sym e) (sym e') (h.lent m i r' x' hr held))
-  similar_drops D hyp r x U J w v h good away unguarded (Some o) is =
+  similar_drops D hyp r dropped x U J w v h good away unguarded (Some o) is =
       subst (λ n. Similar D (Ran {A = Unit {0}} host live idle U J) (λ d. visits G p (runs G p d) Endless o (one_of x) w) (λ d. visits G q (runs G q d) Endless o n v)) (good.equal (none r o is))
       (similar_visits D hyp o (one_of x) U J w v h (J o.instance).entered refl)
 
@@ -397,7 +408,7 @@ module _ {S T : Type 0} (G : Group) (p : Ports S) (q : Ports T) (idle : S → T 
     Ran_on w' a v' b = Ran host live idle U J w' a v' b
 
     -- an entry is gone from the instance k
-    module _ (r : ℕ) (l : Local Both (Option Both)) (f : RemovedFrom (J k) r l) where
+    module _ (r : ℕ) (dropped : DropsSome G r) (l : Local Both (Option Both)) (f : RemovedFrom (J k) r l) where
       abbrev Jd : ℕ → Config Both
       Jd = set J k l.config
 
@@ -436,7 +447,7 @@ module _ {S T : Type 0} (G : Group) (p : Ports S) (q : Ports T) (idle : S → T 
           (ran_own U Jd wd vd hd k D hyp (one_of x) (G.owner r))
       drops_one x is false own =
           let came = f.came x is in
-          similar_drops D hyp r x U Jd wd vd hd (h.lives true k came.0 r x (0, came.1))
+          similar_drops D hyp r dropped x U Jd wd vd hd (h.lives true k came.0 r x (0, came.1))
           (λ m i hr. by_place k (λ m'. Holds (Jd m').map i r x → ⊥)
           (λ a. let a' = subst (λ c. Holds c.map i r x) (set_here J k l.config) a in
           let same = (h.once k k i came.0 r x hr (fewer_d true i r x a') (0, came.1)).1 in
@@ -458,16 +469,16 @@ module _ {S T : Type 0} (G : Group) (p : Ports S) (q : Ports T) (idle : S → T 
         (λ w' a v' s'. similar_gives D Ran_on (g a) (g a) w' v' (record { same = refl; joint = s'.joint; met = s'.met; locks = s'.locks; less = s'.less }))
 
     -- a question is answered
-    ran_performs : (args : List ℕ) (f : Option Func) → Similar D (Ran_on {A = List CoreValue}) (λ d. performs G p (runs G p d) Endless k args f w) (λ d. performs G q (runs G q d) Endless k args f v)
-    ran_performs args None = similar_traps D Ran_on w v
-    ran_performs args (Some (LoweredFunc target options)) =
+    ran_performs : (args : List ℕ) (f : Option Func) → KnownIn (Asks G Inside) (DropsSome G) f → Similar D (Ran_on {A = List CoreValue}) (λ d. performs G p (runs G p d) Endless k args f w) (λ d. performs G q (runs G q d) Endless k args f v)
+    ran_performs args None known = similar_traps D Ran_on w v
+    ran_performs args (Some (LoweredFunc target options)) known =
         then_on D Ran_on k itself itself is_open is_open _ _ w v (is_open (J k)) (ap is_open (h.one k) ∙ is_open_over one_of (J k)) (ap is_open (h.two k) ∙ is_open_over two_of (J k))
         (λ l e.
         let is : l.config ≡ J k = sym (ap (λ z. z.config) (some_is (done (J k)) l (also_is (not (J k).closed) (Some (done (J k))) l e).1)) in
         let each : (m : ℕ) → set J k l.config m ≡ J m = set_all J k l.config (λ m c. c ≡ J m) is (λ m d. refl) in
         let h1 = met_set host live idle U J w v h k l.config (config_over one_of l.config) (config_over two_of l.config) refl refl (fits_fewer host live idle U J w v h k l.config (none_fewer _ _ (ap (λ c. c.map) is))) in
         similar_weaken D _ Ran_on _ _
-        (calls_on U (set J k l.config) (with_config w k (config_over one_of l.config)) (with_config v k (config_over two_of l.config)) h1 k D hyp target options args)
+        (calls_on U (set J k l.config) (with_config w k (config_over one_of l.config)) (with_config v k (config_over two_of l.config)) h1 k D hyp target known options args)
         (λ w' a v' b s. record {
           same = s.same;
           joint = s.joint;
@@ -475,14 +486,14 @@ module _ {S T : Type 0} (G : Group) (p : Ports S) (q : Ports T) (idle : S → T 
           locks = λ r hr m i e' is' n. s.locks r hr m i e' (ap (λ c. entry_at c.map i) (each m) ∙ is') n;
           less = λ m i r x held. subst (λ c. Has false c.map i r x) (each m) (s.less m i r x held);
         }))
-    ran_performs args (Some (ResourceNew r)) = ran_gives (map values.I32) (λ d. on k (makes plainly (owns G k r) r args)) (λ d. on k (makes plainly (owns G k r) r args)) (ran_makes U J w v h k D r args)
-    ran_performs args (Some (ResourceRep r)) =
+    ran_performs args (Some (ResourceNew r)) known = ran_gives (map values.I32) (λ d. on k (makes plainly (owns G k r) r args)) (λ d. on k (makes plainly (owns G k r) r args)) (ran_makes U J w v h k D r args)
+    ran_performs args (Some (ResourceRep r)) known =
         ran_gives (map values.I32) (λ d. on k (reads plainly (owns G k r) r args)) (λ d. on k (reads plainly (owns G k r) r args))
         (ran_shut U J w v h k D (J k).entered (J k).closed _ _ (similar_reads G p q host live none idle U D J w v h k r args))
-    ran_performs args (Some (ResourceDrop r)) =
+    ran_performs args (Some (ResourceDrop r)) known =
         then_on D Ran_on k (option_map one_of) (option_map two_of) (removes r args) (removes r args) _ _ w v (removes r args (J k))
         (ap (removes r args) (h.one k) ∙ removes_over one_of r args (J k)) (ap (removes r args) (h.two k) ∙ removes_over two_of r args (J k))
-        (λ l e. drops_some r l (removes_from r args (J k) l e) l.answer refl)
+        (λ l e. drops_some r known l (removes_from r args (J k) l e) l.answer refl)
 
   abbrev Drives : ℕ → Type 1
   Drives D = (k f : ℕ) (args : List CoreValue) (store : State) (replies : List Reply) (U : Keep) (J : ℕ → Config Both) (w : World S) (v : World T) → Met host live idle U J w v →
@@ -502,7 +513,7 @@ module _ {S T : Type 0} (G : Group) (p : Ports S) (q : Ports T) (idle : S → T 
     goes again w' (Question number asked now used) v' s =
         then_call D _ _ _ w' v'
         (after_ran host live idle D U s.joint (Ran {A = List CoreValue} host live idle U J) _ _ _ _ w' v'
-        (ran_performs U s.joint w' v' s.met k D hyp (words asked) (G.canons k number))
+        (ran_performs U s.joint w' v' s.met k D hyp (words asked) (G.canons k number) (known_in G k number (G.canons k number) refl))
         (λ w'' results v'' s2. similar_store D _ k _ _ w'' v'' (s2.joint k).store (ap (λ c. c.store) (s2.met.one k)) (ap (λ c. c.store) (s2.met.two k))
         (similar_more D _ used _ _ w'' v''
         (similar_weaken D (Ran {A = List CoreValue} host live idle U s2.joint) _ _ _

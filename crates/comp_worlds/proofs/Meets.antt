@@ -1,9 +1,8 @@
 -- Two that come to the same end after finitely many steps show the same.
 use Rattle.std.proofs.Common.{◌≡◌, ℕ, ◌+◌, ◌-◌, Bool, sym, subst, arith}
 use native.Mathlib.Decide.{dec_le}
-use Rattle.host_port.specs.declared.call.Resource.{Resource}
 use Rattle.comp_worlds.specs.Acts.{Out, Next, Over, Spent, seen_of, IsPrefixOf, Extends}
-use Rattle.comp_worlds.specs.Groups.{Endless, Due, Ports}
+use Rattle.comp_worlds.specs.Groups.{Endless, Group, Due, Ports}
 use Rattle.comp_worlds.specs.Laws.{PortsGrow}
 use Rattle.comp_worlds.specs.Related.{Both, one_of, two_of, passed_over, Alike, Meet, Related}
 use Rattle.comp_worlds.proofs.Similar.{Matches, Flip, Follows, Similar}
@@ -71,9 +70,9 @@ meet_similar D P x y g g' h = record {
   grows' = λ D' n k le. g' n k;
 }
 
-pub related_simulates : {S T : Type 0} → (host : ℕ → Bool) (name : ℕ → Resource) (p : Ports S) (q : Ports T) (idle : S → T → Type 0) (answered : S → Due → T → Due → Type 0) (live : S → T → ℕ → Both → Type 0) → PortsGrow p → PortsGrow q → Related host name p q idle answered live → Simulates host name p q idle answered live
-related_simulates host name p q idle answered live g g' rel = record {
-  asks = λ D from s t import passed st typed each once apart. meet_similar D _ _ _ (g.ask Endless from import (passed_over one_of passed) s) (g'.ask Endless from import (passed_over two_of passed) t) (rel.asks from s t import passed st typed each once apart);
+pub related_simulates : {S T : Type 0} → (G : Group) (host : ℕ → Bool) (p : Ports S) (q : Ports T) (idle : S → T → Type 0) (answered : S → Due → T → Due → Type 0) (live : S → T → ℕ → Both → Type 0) → PortsGrow p → PortsGrow q → Related G host p q idle answered live → Simulates G host p q idle answered live
+related_simulates G host p q idle answered live g g' rel = record {
+  asks = λ D from s t import passed asked st typed all each once apart. meet_similar D _ _ _ (g.ask Endless from import (passed_over one_of passed) s) (g'.ask Endless from import (passed_over two_of passed) t) (rel.asks from s t import passed asked st typed all each once apart);
   leaves = λ D s due t due' st. meet_similar D _ _ _ (g.leave Endless due s) (g'.leave Endless due' t) (rel.leaves s due t due' st);
-  drops = λ D s t r x st good. meet_similar D _ _ _ (g.drop Endless (name r) x.one s) (g'.drop Endless (name r) x.two t) (rel.drops s t r x st good);
+  drops = λ D s t r x dropped none st good. meet_similar D _ _ _ (g.drop Endless (G.imported r) x.one s) (g'.drop Endless (G.imported r) x.two t) (rel.drops s t r x dropped none st good);
 }

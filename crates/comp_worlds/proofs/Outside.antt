@@ -9,12 +9,13 @@ use Rattle.host_port.specs.Hosts.{HostStep}
 use Rattle.handle_space.specs.HandleMap.{entry_at, empty}
 use Rattle.comp_worlds.specs.Acts.{◌>>◌, shows}
 use Rattle.comp_worlds.specs.Passing.{Kind, handles_by, answer_tuple, out_of_tuple}
-use Rattle.comp_worlds.specs.Groups.{Endless, Target, type_of, Stage, Provides, Makes, Begins, Group, Config, World, Due, Answer, Outside, Ports}
+use Rattle.comp_worlds.specs.Groups.{Endless, Target, Mine, Theirs, type_of, Stage, Provides, Makes, Begins, Group, Config, World, Due, Answer, Outside, Ports}
 use Rattle.comp_worlds.specs.Locals.{Local, done, with_store, provides, makes_module}
 use Rattle.comp_worlds.specs.Calls.{on, runs, answers_if, starts, does, does_all, is_made, at_rest}
 use Rattle.comp_worlds.specs.Hosts.{hosted}
 use Rattle.comp_worlds.specs.Observed.{State, stack, first_state, are_made, Call, AreCallsOf, without_handles, asks_export, makes_calls, runs_calls}
-use Rattle.comp_worlds.specs.Related.{Both, one_of, two_of, Related, OwnsNone, Opens, SeenAlike}
+use Rattle.comp_worlds.specs.Related.{Both, one_of, two_of, Related, Asks, OwnsNone, Opens, SeenAlike}
+use Rattle.comp_worlds.proofs.Embedding.{LeadsTo}
 use Rattle.comp_worlds.proofs.Maps.{some_is, Has}
 use Rattle.comp_worlds.proofs.Natural.{config_over, makes_module_over}
 use Rattle.comp_worlds.proofs.Similar.{Flip, matches_seen, Similar, similar_then, similar_weaken, similar_gives, then_step, similar_step}
@@ -60,7 +61,7 @@ similar_shows D o s t = record {
 abbrev Any : {S T : Type 0} → S → Unit {0} → T → Unit {0} → Type 0
 Any s a t b = Unit {0}
 
-module _ {S T : Type 0} (G : Group) (p : Ports S) (q : Ports T) (idle : S → T → Type 0) (answered : S → Due → T → Due → Type 0) (live : S → T → ℕ → Both → Type 0) (host : ℕ → Bool) (none : OwnsNone host G) (rel : Simulates host G.imported p q idle answered live) where
+module _ {S T : Type 0} (G : Group) (p : Ports S) (q : Ports T) (idle : S → T → Type 0) (answered : S → Due → T → Due → Type 0) (live : S → T → ℕ → Both → Type 0) (host : ℕ → Bool) (none : OwnsNone host G) (rel : Simulates G host p q idle answered live) where
   -- the instances are one up to what handles stand for, and nothing is on its way
   abbrev Rests : World S → World T → Type 0
   Rests w v = (J : ℕ → Config Both) × Met host live idle nothing J w v
@@ -139,10 +140,14 @@ module _ {S T : Type 0} (G : Group) (p : Ports S) (q : Ports T) (idle : S → T 
       similar_deep (Replies target) _ _ w v (λ D'.
       subst (λ o. Similar D' (Replies target) (λ d. answers_if G p (runs G p d) Endless Outside o (without_handles call) w) (λ d. answers_if G q (runs G q d) Endless Outside o (without_handles call) v)) (sym is)
       (similar_weaken D' _ _ _ _
-      (similar_answers G p q idle answered live host none rel D' (runs_on G p q idle answered live host none rel D') nothing st.0 w v st.1 Outside (record { value = RecordValue call.args; reps = [] }) target typed
+      (similar_answers G p q idle answered live host none rel D' (runs_on G p q idle answered live host none rel D') nothing st.0 w v st.1 Outside (record { value = RecordValue call.args; reps = [] }) target (asked target is) typed refl
       (subst (IsPassing host live nothing st.0 w.below v.below) (sym (no_handles _))
       (record { each = tt; once = tt; away = λ m i r x hr g a. g; unguarded = λ r x hr u g. u; lends = λ r x hr n. n })))
       (λ w' a v' b s. (st.0, s)))) D
+    where
+      asked : (t : Target) → G.exports call.interface call.function ≡ Some t → LeadsTo (Asks G Outside) t
+      asked (Mine k lifting) is' = tt
+      asked (Theirs f) is' = (call.interface, call.function, is')
 
   pub similar_calls : (D : ℕ) (calls : List Call) → AreCallsOf G calls → (w : World S) (v : World T) → Rests w v → Similar D Any (λ d. makes_calls G p Endless calls w) (λ d. makes_calls G q Endless calls v)
   similar_calls D [] each w v st = similar_gives D Any tt tt w v tt
@@ -161,9 +166,9 @@ module _ {S T : Type 0} (G : Group) (p : Ports S) (q : Ports T) (idle : S → T 
 
 -- ---- from the making on
 
-module _ {S T : Type 0} (adapter : List Group) (h : HostStep S) (h' : HostStep T) (host : ℕ → Bool) (idle : S → State adapter T → Type 0) (answered : S → Due → State adapter T → Due → Type 0) (live : S → State adapter T → ℕ → Both → Type 0) (G : Group) (rel : Related host G.imported (hosted h) (stack adapter (hosted h')) idle answered live) where
-  simulates : Simulates host G.imported (hosted h) (stack adapter (hosted h')) idle answered live
-  simulates = related_simulates host G.imported (hosted h) (stack adapter (hosted h')) idle answered live (host_grows h) (stack_grows (hosted h') (host_grows h') adapter) rel
+module _ {S T : Type 0} (adapter : List Group) (h : HostStep S) (h' : HostStep T) (host : ℕ → Bool) (idle : S → State adapter T → Type 0) (answered : S → Due → State adapter T → Due → Type 0) (live : S → State adapter T → ℕ → Both → Type 0) (G : Group) (rel : Related G host (hosted h) (stack adapter (hosted h')) idle answered live) where
+  simulates : Simulates G host (hosted h) (stack adapter (hosted h')) idle answered live
+  simulates = related_simulates G host (hosted h) (stack adapter (hosted h')) idle answered live (host_grows h) (stack_grows (hosted h') (host_grows h') adapter) rel
 
   abbrev Made : World S → Unit {0} → World (State adapter T) → Unit {0} → Type 0
   Made w a v b = (J : ℕ → Config Both) × Met host live idle nothing J w v

@@ -1,12 +1,13 @@
 -- When what is above cannot tell two things apart that meet its imports. Each side may give a handle another number.
-use Rattle.std.specs.Prelude.{◌≡◌, ◌⊎◌, ℕ, List, [], ◌∷◌, map, Some, Bool, true, false}
-use Rattle.wit_types.specs.Plain.{Plain}
+use Rattle.std.specs.Prelude.{◌≡◌, ◌⊎◌, ℕ, List, [], ◌∷◌, length, map, Some, None, Bool, true, false}
+use Rattle.wit_types.specs.Plain.{Name, Plain}
 use Rattle.wit_types.specs.HasType.{is_of}
-use Rattle.host_port.specs.declared.call.Resource.{Resource}
+use Rattle.abi_layout.specs.Handles.{handles}
 use Rattle.host_port.specs.Hosts.{HostStep}
 use Rattle.comp_worlds.specs.Acts.{Out, Next, Over, Spent}
-use Rattle.comp_worlds.specs.Passing.{Handle, Own, Borrow, Passed, params_tuple, answer_tuple, handles_of}
-use Rattle.comp_worlds.specs.Groups.{Endless, Import, Owner, Group, Due, Answer, Origin, Ports}
+use Rattle.comp_worlds.specs.Passing.{Handle, Own, Borrow, kinds_in, Passed, params_tuple, answer_tuple, handles_of}
+use Rattle.comp_worlds.specs.Groups.{Endless, Import, Options, Theirs, LoweredFunc, Owner, Group, Due, Answer, Origin, Inside, Outside, Ports}
+use Rattle.comp_worlds.specs.Parts.{DropsSome}
 use Rattle.comp_worlds.specs.Hosts.{hosted}
 use Rattle.comp_worlds.specs.Observed.{State, first_state, are_made, Call, AreCallsOf, seen, SameObservations}
 
@@ -95,17 +96,28 @@ pub record Gone {S T : Type 0} (host : ℕ → Bool) (idle : S → T → Type 0)
   pub stands : idle s' t'
   pub stay : (r : ℕ) (x : Both) → host r ≡ true → live s t r x → ((gone ≡ r) × (rep ≡ x) → ⊥) → live s' t' r x
 
--- Each call with arguments of the import's types, each drop and each return is done on both sides, alike, and keeps the relation.
+-- Such calls of an import the group makes: core code where it lowers the import, and others where it exports it as it is.
+abbrev pub Asks : Group → Origin → Import → Type 0
+Asks G Inside f = (k : ℕ) × (n : ℕ) × (options : Options) × (G.canons k n ≡ Some (LoweredFunc (Theirs f) options))
+Asks G Outside f = (interface : Name) × (function : Name) × (G.exports interface function ≡ Some (Theirs f))
+
+-- Core code passes as many as its value has handles; from outside none pass.
+abbrev pub PassesAll : {R : Type 0} → Origin → Plain → Passed R → Type 0
+PassesAll Inside ty p = length p.reps ≡ length (kinds_in (handles ty p.value))
+PassesAll Outside ty p = p.reps ≡ []
+
+-- Each call that the group makes, each return from one, and each drop of a handle that the group drops and does not define is done on
+-- both sides, alike, and keeps the relation. Other imports may be met as they like.
 -- `idle` relates the two between calls, `answered` when an answer was given and not yet left; `live` are the pairs of handles of
--- the resources of `host`, which have these names.
-pub record Related {S T : Type 0} (host : ℕ → Bool) (name : ℕ → Resource) (p : Ports S) (q : Ports T) (idle : S → T → Type 0) (answered : S → Due → T → Due → Type 0) (live : S → T → ℕ → Both → Type 0) : Type 0 where
-  pub asks : (from : Origin) (s : S) (t : T) (import : Import) (passed : Passed Both) → idle s t → is_of (params_tuple import.ty) passed.value ≡ true →
+-- the resources of `host`.
+pub record Related {S T : Type 0} (G : Group) (host : ℕ → Bool) (p : Ports S) (q : Ports T) (idle : S → T → Type 0) (answered : S → Due → T → Due → Type 0) (live : S → T → ℕ → Both → Type 0) : Type 0 where
+  pub asks : (from : Origin) (s : S) (t : T) (import : Import) (passed : Passed Both) → Asks G from import → idle s t → is_of (params_tuple import.ty) passed.value ≡ true → PassesAll from (params_tuple import.ty) passed →
       EachHandle (λ r x. Good host live s t r x) (handles_of (params_tuple import.ty) passed) → OnceEach host (handles_of (params_tuple import.ty) passed) → LentApart host (handles_of (params_tuple import.ty) passed) →
       Meet (λ s' a t' b. Answered host answered live s t (handles_of (params_tuple import.ty) passed) (answer_tuple import.ty) s' a t' b) (p.ask Endless from import (passed_over one_of passed) s) (q.ask Endless from import (passed_over two_of passed) t)
   pub leaves : (s : S) (due : Due) (t : T) (due' : Due) → answered s due t due' →
       Meet (λ s' a t' b. Left host idle live s t s' t') (p.leave Endless due s) (q.leave Endless due' t)
-  pub drops : (s : S) (t : T) (r : ℕ) (x : Both) → idle s t → Good host live s t r x →
-      Meet (λ s' a t' b. Gone host idle live s t r x s' t') (p.drop Endless (name r) x.one s) (q.drop Endless (name r) x.two t)
+  pub drops : (s : S) (t : T) (r : ℕ) (x : Both) → DropsSome G r → G.owner r ≡ None → idle s t → Good host live s t r x →
+      Meet (λ s' a t' b. Gone host idle live s t r x s' t') (p.drop Endless (G.imported r) x.one s) (q.drop Endless (G.imported r) x.two t)
 
 -- the group defines no resource of `host`
 abbrev pub OwnsNone : (ℕ → Bool) → Group → Type 0

@@ -48,9 +48,10 @@ pub trait Worlds {
     fn known(self);
 }
 
-/// The law of related hosts: where each call of an import, each return and each drop is done alike on both sides and keeps the
-/// relation, a group over the first host is seen to do what it does over the adapter over the second, and the other way round.
+/// The law of related hosts: where each call of an import that the group makes, each return from one and each drop of a handle that
+/// it drops is done alike on both sides and keeps the relation, the group over the first host is seen to do what it does over the
+/// adapter over the second, and the other way round.
 pub fn related_hosts_are_seen_alike<W: Worlds>()
-    ensures { (G : Group) → Related W.host G.imported (hosted W.one) (stack W.adapter (hosted W.two)) W.idle W.answered W.live →
+    ensures { (G : Group) → Related G W.host (hosted W.one) (stack W.adapter (hosted W.two)) W.idle W.answered W.live →
         SeenAlike W.adapter W.one W.two W.host W.idle G }
 {}

@@ -2,12 +2,11 @@
 use Rattle.std.proofs.Common.{◌≡◌, ℕ, suc, ◌*◌, ◌<◌, List, [], ◌∷◌, Option, Some, None, true, false, refl, sym, ap, subst, arith, inl, inr}
 use Rattle.wit_types.specs.Plain.{Plain, BoolType, SignedType, UnsignedType, CharType, StringType, ListType, RecordType, VariantType, FlagsType, OwnType, BorrowType}
 use Rattle.wit_types.specs.PlainValue.{RecordValue, HandleValue, End, More}
-use Rattle.host_port.specs.declared.call.Resource.{Resource}
 use Rattle.host_port.specs.Calls.{PlainObservation}
 use Rattle.comp_worlds.specs.Acts.{Out, Next, Over, Spent, seen_before, ◌>>◌, takes_step}
 use Rattle.comp_worlds.specs.Passing.{Handle, Passed, params_tuple, answer_tuple, answer_parts, handles_of}
 use Rattle.wit_types.specs.Plain.{AsTuple}
-use Rattle.comp_worlds.specs.Groups.{Endless, Import, Nothing, Answer, Origin, Inside, Outside}
+use Rattle.comp_worlds.specs.Groups.{Endless, Import, Group, Nothing, Answer, Origin, Inside, Outside}
 use Rattle.comp_worlds.specs.Calls.{finds_room}
 use Rattle.comp_worlds.specs.Hosts.{answered_by, reacts, loses, stays, asks_host, hosted}
 use Rattle.comp_worlds.specs.Related.{Both, one_of, two_of, passed_over, Meet, Alike, Answered, Related}
@@ -80,10 +79,10 @@ counters_meet Inside n m import passed same = (0, 0, alike n m same (handles_of 
 counters_meet Outside n m import passed same =
     (1, 1, alike_behind _ (reacts single import (passed_over one_of passed) n 0) (reacts double import (passed_over two_of passed) m 0) (alike n m same (handles_of (params_tuple import.ty) passed) _ import.ty.answer 0))
 
-pub counters_related : (name : ℕ → Resource) → Related of_hosts name (hosted single) (hosted double) SameCount SameAnswered Given
+pub counters_related : (G : Group) → Related G of_hosts (hosted single) (hosted double) SameCount SameAnswered Given
 unfolding loses stays
-counters_related name = record {
-  asks = λ from n m import passed same typed each once apart. counters_meet from n m import passed same;
+counters_related G = record {
+  asks = λ from n m import passed asked same typed all each once apart. counters_meet from n m import passed same;
   leaves = λ n due m due' same. (0, 0, (refl, record { stands = same; stay = λ r x hr l. l }));
-  drops = λ n m r x same good. (0, 0, (refl, record { stands = same; stay = λ r' x' hr l not. l }));
+  drops = λ n m r x dropped none same good. (0, 0, (refl, record { stands = same; stay = λ r' x' hr l not. l }));
 }
