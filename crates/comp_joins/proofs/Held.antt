@@ -12,7 +12,7 @@ use Rattle.comp_types.specs.Items.{Item, Entries, FuncItem, InstanceItem, KindIt
 use Rattle.comp_types.specs.Substitution.{partner_in}
 use Rattle.comp_grammar.specs.Trees.{Tree}
 use Rattle.comp_types.specs.GivenResources.{named_in_func}
-use Rattle.comp_worlds.specs.Groups.{Target, Mine, Theirs, Import, Func as Canon, LoweredFunc, ResourceNew, ResourceDrop, ResourceRep, Owner, Begins}
+use Rattle.comp_worlds.specs.Groups.{Target, Mine, Theirs, Import, Func as Canon, ResourceDrop, Owner, Begins}
 use Rattle.comp_worlds.specs.Parts.{DropsSome}
 use Rattle.comp_link.specs.Plans.{Named, AFunc, AnInstanceAt, AResource, AValueType, NamedArg, Plan, Planned, End, Then, OfModule, OfCoreItems, CoreItemOf, OfComponent, OfItems, ItemOf, NewResource, Lifts, Lowers, MakesResource, DropsResource, ReadsResource, Imports, Exports, plan_of}
 use Rattle.comp_link.specs.Linking.{Given, Givens, GivenFunc, GivenInstance, GivenResource, GivenType, Nothing, Giving, find, and_given, bound, all_bound, bound_if, Placed, Owned, Whole, Making, begun, and_stage, core_find, and_core_item, given_at, and_some_given, givens_of, and_item, item_in, and_export, with_lowered, lifting_of, own_bound, link_item, link, outside, all_outside, Known, known, all_known, canon_in, owner_in, linked, group_of}
@@ -91,7 +91,7 @@ module _ (P : ℕ → Type 0) (T : Target → Type 0) where
       go false e (inl same) later = absurd (eqb-false p.0 r e same)
       go false e (inr rest) later = later rest
 
-  found_held : (name : Name) (gs : Givens) → AllHold P T gs → SomeHolds P T (find name gs)
+  pub found_held : (name : Name) (gs : Givens) → AllHold P T gs → SomeHolds P T (find name gs)
   found_held name Nothing h = tt
   found_held name (Giving n item rest) h = go (same_name n name) (found_held name rest h.1)
     where

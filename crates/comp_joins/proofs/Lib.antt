@@ -49,3 +49,4 @@ pub mod Standing
 pub mod Passing
 pub mod AgreesNumbers
 pub mod Handing
+pub mod Imported

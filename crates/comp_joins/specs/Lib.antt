@@ -12,3 +12,4 @@ pub mod Settled
 pub mod SettledLaws
 pub mod Numbers
 pub mod Handing
+pub mod Imported

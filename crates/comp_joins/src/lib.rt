@@ -3,6 +3,7 @@
 #![tactic(auto)]
 
 mod agrees;
+mod asks;
 mod knows;
 mod laws;
 mod making;
@@ -10,6 +11,7 @@ mod settled;
 mod sound;
 
 pub use agrees::{handed_exports_fit, valid_components_agree};
+pub use asks::valid_components_ask_what_they_import;
 pub use knows::{
     plans_know_in_order, valid_components_know_what_they_name,
     valid_components_link_inside_as_alone,
