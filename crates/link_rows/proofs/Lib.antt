@@ -11,3 +11,4 @@ pub mod Plugged
 pub mod Taking
 pub mod Sharing
 pub mod GivingMore
+pub mod Places
