@@ -12,3 +12,4 @@ pub mod Taking
 pub mod Sharing
 pub mod GivingMore
 pub mod Places
+pub mod OtherNumbers

@@ -14,3 +14,4 @@ pub mod Taking
 pub mod Sharing
 pub mod GivingMore
 pub mod Places
+pub mod OtherNumbers

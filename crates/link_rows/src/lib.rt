@@ -12,8 +12,9 @@ ghost use Rattle.link_rows.specs.GivingMore.{GivingMoreExamples, GivingMorePremi
 
 pub use worlds::{
     Counters, Keepers, Readers, clocks_are_read, counters_are_seen_alike, destructors_run,
-    handles_have_places, instances_are_entered, kept_borrows_trap, places_are_seen_alike,
-    readers_are_joined, readers_do_what_both_do, resources_are_renumbered, room_is_asked,
+    handles_have_places, instances_are_entered, kept_borrows_trap, kinds_have_other_numbers,
+    places_are_seen_alike, readers_are_joined, readers_do_what_both_do, resources_are_renumbered,
+    room_is_asked,
 };
 pub use wraps::{
     components_are_called, exports_are_of_their_types, hosts_are_asked, outputs_are_called,

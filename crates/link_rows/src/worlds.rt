@@ -13,6 +13,7 @@ ghost use Rattle.link_rows.specs.Counters.{single, double, of_hosts, SameCount, 
 ghost use Rattle.link_rows.specs.Samples.{clock, reader};
 ghost use Rattle.link_rows.specs.Joined.{both_readers, at_first, at_second, meets_reader, JoinedExamples};
 ghost use Rattle.link_rows.specs.Renumbered.{dropper_at, seven_more};
+ghost use Rattle.link_rows.specs.OtherNumbers.{KindsExamples};
 ghost use Rattle.link_rows.specs.Places.{Books, keeper, opening, adapter, app, of_table, Idle, Answered, Held, PlacesExamples};
 ghost use Rattle.link_rows.specs.WorldsRows.{ClockExamples, ReallocExamples, BorrowExamples, DestructorExamples, EnteredExamples};
 
@@ -122,6 +123,12 @@ pub fn places_are_seen_alike()
 {
     components_are_seen_alike::<Keepers>();
 }
+
+/// Two components that import two resources in another order are seen to do the same, but for the types of a host's calls. It does
+/// nothing when it runs.
+pub fn kinds_have_other_numbers()
+    ensures { KindsExamples }
+{}
 
 /// One reader of the clock over another, and the group of both. It does nothing when it runs.
 #[tactic(auto, using(crate::proofs::Joining::joined_examples))]

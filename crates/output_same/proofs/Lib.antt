@@ -10,3 +10,4 @@ pub mod Wrapping
 pub mod Places
 pub mod Strategies
 pub mod Same
+pub mod Shown
