@@ -1,4 +1,5 @@
 pub mod SpliceLemmas
+pub mod BlockLemmas
 pub mod PieceLemmas
 pub mod ResizeLemmas
 pub mod ReplaceLemmas

@@ -1,38 +1,12 @@
 -- A file that gets another length, or other bytes.
-use Rattle.std.proofs.Common.{◌≡◌, ℕ, zero, suc, ◌+◌, ◌*◌, ◌-◌, ◌≤◌, ◌<◌, refl, sym, ap, ◌∙◌, List, [], ◌∷◌, ◌++◌, length, take, drop, set, get_or, Option, Some, None, ◌⊎◌, inl, inr, arith}
-use Rattle.std.specs.Prelude.{replicate, IsSome, option_map, nat_le}
+use Rattle.std.proofs.Common.{min, ◌≡◌, ℕ, zero, suc, ◌+◌, ◌*◌, ◌-◌, ◌≤◌, ◌<◌, refl, sym, ap, ◌∙◌, List, [], ◌∷◌, ◌++◌, length, take, drop, set, get_or, Option, Some, None, ◌⊎◌, inl, inr, arith}
+use Rattle.std.specs.Prelude.{replicate, IsSome, nat_le}
 use Rattle.std.specs.List.{splice}
 use Rattle.std.proofs.lemmas.List.{length-take-le, drop-drop, take-take, length-drop, length-replicate, length-append, drop-append-le, drop-take, take-append-drop}
-use Rattle.tree_table.specs.Scratches.{ScratchFile, ScratchMap, blocks_of, grown, resized, with_content, content_at, holding, has_room, use_of, file_blocks}
+use Rattle.tree_table.specs.Scratches.{blocks_of, resized, with_content, content_at, has_room, use_of, file_blocks}
 use Rattle.overlay_tree.specs.Pieces.{Entry, entry_blocks, blocks_in, piece_of, pieces, map_of, len_of, with_len, as_long}
 use Rattle.overlay_tree.proofs.PieceLemmas.{pieces_set, pieces_get, blocks_split, within_blocks, blocks_grow, length_pieces, use_pieces, use_set, file_blocks_of}
-use Rattle.overlay_tree.proofs.SpliceLemmas.{front, seam, splice_front, splice_behind, splice_from, less_alike, later_alike, take_all, drop_all}
-
--- what is behind a file is moved to stand behind its new blocks
-abbrev pub moved : List ℕ → (to from len : ℕ) → List ℕ
-moved bs to from len = splice bs to (to + len) (take len (drop from bs))
-
-pub length_part : (bs : List ℕ) (from len : ℕ) → from + len ≤ length bs → length (take len (drop from bs)) ≡ len
-length_part bs from len h = length-take-le len (drop from bs) (omega (arith, length-drop from bs, h))
-
-pub length_splice : (xs ys : List ℕ) (i j : ℕ) → j ≡ i + length ys → j ≤ length xs → length (splice xs i j ys) ≡ length xs
-length_splice xs ys i j e h =
-    omega (arith, length-append (take i xs) (ys ++ drop j xs), length-append ys (drop j xs), length-take-le i xs (omega (arith, e, h)), length-drop j xs, e, h)
-
-pub moved_front : (bs : List ℕ) (to from len k : ℕ) → k ≤ to → to ≤ length bs → take k (moved bs to from len) ≡ take k bs
-moved_front bs to from len k h l = splice_front bs (take len (drop from bs)) to (to + len) k h l
-
-pub moved_part : (bs : List ℕ) (to from len : ℕ) → to ≤ length bs → from + len ≤ length bs → take len (drop to (moved bs to from len)) ≡ take len (drop from bs)
-moved_part bs to from len l h =
-    let part = take len (drop from bs) in
-    let long : length part ≡ len = length_part bs from len h in
-    ap (take len) (splice_from bs part to (to + len) l) ∙ ap (λ n. take n (part ++ drop (to + len) bs)) (sym long) ∙ take_all part (drop (to + len) bs)
-
-moved_long : (bs : List ℕ) (to from len : ℕ) → from + len ≤ length bs → to + len ≡ to + length (take len (drop from bs))
-moved_long bs to from len h = ap (λ n. to + n) (sym (length_part bs from len h))
-
-pub length_moved : (bs : List ℕ) (to from len : ℕ) → to + len ≤ length bs → from + len ≤ length bs → length (moved bs to from len) ≡ length bs
-length_moved bs to from len l h = length_splice bs (take len (drop from bs)) to (to + len) (moved_long bs to from len h) l
+use Rattle.overlay_tree.proofs.SpliceLemmas.{front, splice_front, splice_behind, less_alike, later_alike, take_all}
 
 -- cut, where it isn't longer
 pub resized_cut : (c : List ℕ) (len : ℕ) → len ≤ length c → resized c len ≡ take len c
@@ -92,75 +66,67 @@ resized_by es bs cs n len b e lt there front behind own =
     rw (all, was, own) refl
 
 -- the file becomes shorter
-pub shrunk : (es : List (Option Entry)) (bs : List ℕ) (n len b : ℕ) (e : Entry) → n < length es → get_or es n None ≡ Some e → len ≤ e.len → blocks_in es * 4096 ≤ length bs
-    → map_of b (set es n (Some (as_long len e))) (moved bs (blocks_in (take n es) * 4096 + blocks_of len * 4096) (blocks_in (take n es) * 4096 + blocks_of e.len * 4096) (blocks_in es * 4096 - (blocks_in (take n es) * 4096 + blocks_of e.len * 4096))) ≡ with_content (map_of b es bs) n (resized (content_at (map_of b es bs) n) len)
-shrunk es bs n len b e lt there le fits =
+shrunk : (es : List (Option Entry)) (bs cs : List ℕ) (n len b : ℕ) (e : Entry) → n < length es → get_or es n None ≡ Some e → len ≤ e.len → blocks_in es * 4096 ≤ length bs
+    → take ((blocks_in (take n es) + min (blocks_of e.len) (blocks_of len)) * 4096) cs ≡ take ((blocks_in (take n es) + min (blocks_of e.len) (blocks_of len)) * 4096) bs
+    → take (blocks_in (drop (suc n) es) * 4096) (drop (blocks_in (take n es) * 4096 + blocks_of len * 4096) cs) ≡ take (blocks_in (drop (suc n) es) * 4096) (drop (blocks_in (take n es) * 4096 + blocks_of e.len * 4096) bs)
+    → map_of b (set es n (Some (as_long len e))) cs ≡ with_content (map_of b es bs) n (resized (content_at (map_of b es bs) n) len)
+shrunk es bs cs n len b e lt there le fits alike behind =
     let start = blocks_in (take n es) * 4096 in
-    let to = start + blocks_of len * 4096 in
-    let from = start + blocks_of e.len * 4096 in
-    let tail = blocks_in es * 4096 - from in
-    let rest = blocks_in (drop (suc n) es) * 4096 in
+    let kept = (blocks_in (take n es) + min (blocks_of e.len) (blocks_of len)) * 4096 in
     let split = blocks_split es n lt in
     let own_blocks : entry_blocks (get_or es n None) ≡ blocks_of e.len = ap entry_blocks there in
-    let less = blocks_grow len e.len le in
-    let is_rest : tail ≡ rest = omega (arith, split, own_blocks) in
-    let ends : from + tail ≤ length bs = omega (arith, split, own_blocks, fits) in
-    let inside : to ≤ length bs = omega (arith, split, own_blocks, fits, less) in
-    let cs = moved bs to from tail in
-    let front : take start cs ≡ take start bs = moved_front bs to from tail start (omega arith) inside in
-    let behind : take rest (drop to cs) ≡ take rest (drop from bs) = ap (λ k. take k (drop to cs)) (sym is_rest) ∙ moved_part bs to from tail inside ends ∙ ap (λ k. take k (drop from bs)) is_rest in
-    let same : take len (drop start cs) ≡ take len (drop start bs) = later_alike cs bs start len (moved_front bs to from tail (start + len) (omega (arith, within_blocks len)) inside) in
+    let front : take start cs ≡ take start bs = less_alike cs bs start kept (omega arith) alike in
+    let same : take len (drop start cs) ≡ take len (drop start bs) = later_alike cs bs start len (less_alike cs bs (start + len) kept (omega (arith, within_blocks len, blocks_grow len e.len le)) alike) in
     let content = take e.len (drop start bs) in
-    let long : length content ≡ e.len = length-take-le e.len (drop start bs) (omega (arith, length-drop start bs, within_blocks e.len, ends)) in
+    let long : length content ≡ e.len = length-take-le e.len (drop start bs) (omega (arith, length-drop start bs, within_blocks e.len, split, own_blocks, fits)) in
     let own : take len (drop start cs) ≡ resized content len = same ∙ sym (resized_cut content len (omega (arith, long, le)) ∙ take-take len e.len (drop start bs) le) in
     resized_by es bs cs n len b e lt there front behind own
 
--- the file becomes longer
-pub lengthened : (es : List (Option Entry)) (bs : List ℕ) (n len b : ℕ) (e : Entry) → n < length es → get_or es n None ≡ Some e → e.len < len → blocks_in es * 4096 ≤ length bs → blocks_in es * 4096 + blocks_of len * 4096 ≤ length bs + blocks_of e.len * 4096
-    → map_of b (set es n (Some (as_long len e))) (splice (moved bs (blocks_in (take n es) * 4096 + blocks_of len * 4096) (blocks_in (take n es) * 4096 + blocks_of e.len * 4096) (blocks_in es * 4096 - (blocks_in (take n es) * 4096 + blocks_of e.len * 4096))) (blocks_in (take n es) * 4096 + e.len) (blocks_in (take n es) * 4096 + e.len + (len - e.len)) (replicate (len - e.len) 0)) ≡ with_content (map_of b es bs) n (resized (content_at (map_of b es bs) n) len)
-lengthened es bs n len b e lt there more fits room =
+-- the file becomes longer: what it had no bytes of is set to zero
+lengthened : (es : List (Option Entry)) (bs ms : List ℕ) (n len b : ℕ) (e : Entry) → n < length es → get_or es n None ≡ Some e → e.len < len → blocks_in es * 4096 ≤ length bs → blocks_in es * 4096 + blocks_of len * 4096 ≤ length bs + blocks_of e.len * 4096
+    → length ms ≡ length bs
+    → take ((blocks_in (take n es) + min (blocks_of e.len) (blocks_of len)) * 4096) ms ≡ take ((blocks_in (take n es) + min (blocks_of e.len) (blocks_of len)) * 4096) bs
+    → take (blocks_in (drop (suc n) es) * 4096) (drop (blocks_in (take n es) * 4096 + blocks_of len * 4096) ms) ≡ take (blocks_in (drop (suc n) es) * 4096) (drop (blocks_in (take n es) * 4096 + blocks_of e.len * 4096) bs)
+    → map_of b (set es n (Some (as_long len e))) (splice ms (blocks_in (take n es) * 4096 + e.len) (blocks_in (take n es) * 4096 + e.len + (len - e.len)) (replicate (len - e.len) 0)) ≡ with_content (map_of b es bs) n (resized (content_at (map_of b es bs) n) len)
+lengthened es bs ms n len b e lt there more fits room same_length alike behind =
     let start = blocks_in (take n es) * 4096 in
+    let kept = (blocks_in (take n es) + min (blocks_of e.len) (blocks_of len)) * 4096 in
     let to = start + blocks_of len * 4096 in
-    let from = start + blocks_of e.len * 4096 in
-    let tail = blocks_in es * 4096 - from in
     let rest = blocks_in (drop (suc n) es) * 4096 in
     let extra = len - e.len in
     let split = blocks_split es n lt in
     let own_blocks : entry_blocks (get_or es n None) ≡ blocks_of e.len = ap entry_blocks there in
-    let is_rest : tail ≡ rest = omega (arith, split, own_blocks) in
-    let ends : from + tail ≤ length bs = omega (arith, split, own_blocks, fits) in
-    let room_behind : to + tail ≤ length bs = omega (arith, split, own_blocks, fits, room) in
-    let inside : to ≤ length bs = omega (arith, room_behind) in
-    let ms = moved bs to from tail in
     let zeros = replicate extra 0 in
     let at = start + e.len in
     let stop = at + extra in
     let cs = splice ms at stop zeros in
-    let same_length : length ms ≡ length bs = length_moved bs to from tail room_behind ends in
     let before_to : stop ≤ to = omega (arith, within_blocks len, more) in
-    let at_inside : at ≤ length ms = omega (arith, same_length, before_to, inside) in
-    let front : take start cs ≡ take start bs = splice_front ms zeros at stop start (omega arith) at_inside ∙ moved_front bs to from tail start (omega arith) inside in
+    let inside : to ≤ length ms = omega (arith, same_length, split, own_blocks, fits, room) in
+    let at_inside : at ≤ length ms = omega (arith, before_to, inside) in
+    let front : take start cs ≡ take start bs = splice_front ms zeros at stop start (omega arith) at_inside ∙ less_alike ms bs start kept (omega arith) alike in
     let last : stop ≡ at + length zeros = ap (λ k. at + k) (sym (length-replicate {A = ℕ} extra 0)) in
-    let behind : take rest (drop to cs) ≡ take rest (drop from bs) =
-    ap (take rest) (splice_behind ms zeros at stop to at_inside last before_to) ∙ ap (λ k. take k (drop to ms)) (sym is_rest) ∙ moved_part bs to from tail inside ends ∙ ap (λ k. take k (drop from bs)) is_rest in
+    let others : take rest (drop to cs) ≡ take rest (drop (start + blocks_of e.len * 4096) bs) = ap (take rest) (splice_behind ms zeros at stop to at_inside last before_to) ∙ behind in
     let content = take e.len (drop start bs) in
-    let long : length content ≡ e.len = length-take-le e.len (drop start bs) (omega (arith, length-drop start bs, within_blocks e.len, ends)) in
-    let kept : take e.len (drop start ms) ≡ content = later_alike ms bs start e.len (moved_front bs to from tail (start + e.len) (omega (arith, before_to)) inside) in
+    let long : length content ≡ e.len = length-take-le e.len (drop start bs) (omega (arith, length-drop start bs, within_blocks e.len, split, own_blocks, fits)) in
+    let same : take e.len (drop start ms) ≡ content = later_alike ms bs start e.len (less_alike ms bs (start + e.len) kept (omega (arith, within_blocks e.len, blocks_grow e.len len (omega (arith, more)))) alike) in
     let sum : e.len + extra ≡ len = omega (arith, more) in
     let own : take len (drop start cs) ≡ resized content len =
-    ap (λ k. take k (drop start cs)) (sym sum) ∙ cleared ms start e.len extra (omega (arith, same_length, before_to, inside)) ∙ ap (λ c. c ++ zeros) kept ∙ ap (λ k. content ++ replicate (len - k) 0) (sym long) ∙ sym (resized_grown content len (omega (arith, long, more))) in
-    resized_by es bs cs n len b e lt there front behind own
+    ap (λ k. take k (drop start cs)) (sym sum) ∙ cleared ms start e.len extra (omega (arith, before_to, inside)) ∙ ap (λ c. c ++ zeros) same ∙ ap (λ k. content ++ replicate (len - k) 0) (sym long) ∙ sym (resized_grown content len (omega (arith, long, more))) in
+    resized_by es bs cs n len b e lt there front others own
 
 -- nothing is replaced
 pub splice_nothing : {A : Type 0} (xs : List A) (i n : ℕ) → n ≡ 0 → (y : A) → splice xs i (i + n) (replicate n y) ≡ xs
 splice_nothing xs i n e y = ap (λ k. splice xs i (i + k) (replicate k y)) e ∙ ap (λ k. take i xs ++ drop k xs) (omega arith) ∙ take-append-drop i xs
 
 -- shorter or longer
-pub resized_map : (es : List (Option Entry)) (bs : List ℕ) (n len b : ℕ) (e : Entry) → n < length es → get_or es n None ≡ Some e → blocks_in es * 4096 ≤ length bs → blocks_in es * 4096 + blocks_of len * 4096 ≤ length bs + blocks_of e.len * 4096
-    → map_of b (set es n (Some (as_long len e))) (splice (moved bs (blocks_in (take n es) * 4096 + blocks_of len * 4096) (blocks_in (take n es) * 4096 + blocks_of e.len * 4096) (blocks_in es * 4096 - (blocks_in (take n es) * 4096 + blocks_of e.len * 4096))) (blocks_in (take n es) * 4096 + e.len) (blocks_in (take n es) * 4096 + e.len + (len - e.len)) (replicate (len - e.len) 0)) ≡ with_content (map_of b es bs) n (resized (content_at (map_of b es bs) n) len)
-resized_map es bs n len b e lt there fits room = elim (le_or_lt len e.len) [
-  | inl le ↦ ap (map_of b (set es n (Some (as_long len e)))) (splice_nothing (moved bs (blocks_in (take n es) * 4096 + blocks_of len * 4096) (blocks_in (take n es) * 4096 + blocks_of e.len * 4096) (blocks_in es * 4096 - (blocks_in (take n es) * 4096 + blocks_of e.len * 4096))) (blocks_in (take n es) * 4096 + e.len) (len - e.len) (omega (arith, le)) 0) ∙ shrunk es bs n len b e lt there le fits
-  | inr more ↦ lengthened es bs n len b e lt there more fits room
+resized_map : (es : List (Option Entry)) (bs ms : List ℕ) (n len b : ℕ) (e : Entry) → n < length es → get_or es n None ≡ Some e → blocks_in es * 4096 ≤ length bs → blocks_in es * 4096 + blocks_of len * 4096 ≤ length bs + blocks_of e.len * 4096
+    → length ms ≡ length bs
+    → take ((blocks_in (take n es) + min (blocks_of e.len) (blocks_of len)) * 4096) ms ≡ take ((blocks_in (take n es) + min (blocks_of e.len) (blocks_of len)) * 4096) bs
+    → take (blocks_in (drop (suc n) es) * 4096) (drop (blocks_in (take n es) * 4096 + blocks_of len * 4096) ms) ≡ take (blocks_in (drop (suc n) es) * 4096) (drop (blocks_in (take n es) * 4096 + blocks_of e.len * 4096) bs)
+    → map_of b (set es n (Some (as_long len e))) (splice ms (blocks_in (take n es) * 4096 + e.len) (blocks_in (take n es) * 4096 + e.len + (len - e.len)) (replicate (len - e.len) 0)) ≡ with_content (map_of b es bs) n (resized (content_at (map_of b es bs) n) len)
+resized_map es bs ms n len b e lt there fits room same_length alike behind = elim (le_or_lt len e.len) [
+  | inl le ↦ ap (map_of b (set es n (Some (as_long len e)))) (splice_nothing ms (blocks_in (take n es) * 4096 + e.len) (len - e.len) (omega (arith, le)) 0) ∙ shrunk es bs ms n len b e lt there le fits alike behind
+  | inr more ↦ lengthened es bs ms n len b e lt there more fits room same_length alike behind
 ]
   where
     le_or_lt : (m n : ℕ) → (m ≤ n) ⊎ (n < m)
@@ -168,27 +134,39 @@ resized_map es bs n len b e lt there fits room = elim (le_or_lt len e.len) [
     le_or_lt (suc m) zero = inr (omega arith)
     le_or_lt (suc m) (suc n) = elim (le_or_lt m n) [ inl h ↦ inl (omega (arith, h)) | inr h ↦ inr (omega (arith, h)) ]
 
--- as the code finds it
-pub resized_code : (es : List (Option Entry)) (bs cs ds : List ℕ) (n len b start old end old_blocks new_blocks : ℕ) (slot : Option Entry) → n < length es → IsSome (get_or es n None)
+-- As the code finds it: what is in front of the file's blocks, and in those that it keeps, is as it was, and the other files' blocks behind
+-- it stand behind its new ones.
+pub resized_code : (es : List (Option Entry)) (bs ms cs : List ℕ) (n len b first used old held wanted : ℕ) (slot : Option Entry) → n < length es → IsSome (get_or es n None)
     → blocks_in es * 4096 ≤ length bs → blocks_in es * 4096 + blocks_of len * 4096 ≤ length bs + entry_blocks (get_or es n None) * 4096
-    → start ≡ blocks_in (take n es) * 4096 → old ≡ len_of (get_or es n None) → end ≡ blocks_in es → old_blocks ≡ blocks_of old → new_blocks ≡ blocks_of len → slot ≡ with_len len (get_or es n None)
-    → cs ≡ splice bs (start + new_blocks * 4096) (start + new_blocks * 4096 + (end * 4096 - (start + old_blocks * 4096))) (take (end * 4096 - (start + old_blocks * 4096)) (drop (start + old_blocks * 4096) bs))
-    → ds ≡ splice cs (start + old) (start + old + (len - old)) (replicate (len - old) 0)
-    → map_of b (set es n slot) ds ≡ with_content (map_of b es bs) n (resized (content_at (map_of b es bs) n) len)
-resized_code es bs cs ds n len b start old end old_blocks new_blocks slot lt live fits room is_start is_old is_end is_old_blocks is_new_blocks is_slot is_cs is_ds =
+    → first ≡ blocks_in (take n es) → old ≡ len_of (get_or es n None) → used ≡ blocks_in es → held ≡ blocks_of old → wanted ≡ blocks_of len → slot ≡ with_len len (get_or es n None)
+    → length ms ≡ length bs → take ((first + min held wanted) * 4096) ms ≡ take ((first + min held wanted) * 4096) bs
+    → take ((used - (first + held)) * 4096) (drop ((first + wanted) * 4096) ms) ≡ take ((used - (first + held)) * 4096) (drop ((first + held) * 4096) bs)
+    → cs ≡ splice ms (first * 4096 + old) (first * 4096 + old + (len - old)) (replicate (len - old) 0)
+    → map_of b (set es n slot) cs ≡ with_content (map_of b es bs) n (resized (content_at (map_of b es bs) n) len)
+resized_code es bs ms cs n len b first used old held wanted slot lt live fits room is_first is_old is_used is_held is_wanted is_slot same_length alike behind is_cs =
     by_entry (get_or es n None) refl live
   where
-    by_entry : (o : Option Entry) → get_or es n None ≡ o → IsSome o → map_of b (set es n slot) ds ≡ with_content (map_of b es bs) n (resized (content_at (map_of b es bs) n) len)
+    by_entry : (o : Option Entry) → get_or es n None ≡ o → IsSome o → map_of b (set es n slot) cs ≡ with_content (map_of b es bs) n (resized (content_at (map_of b es bs) n) len)
     by_entry None there some = absurd (no_some some)
       where
         no_some : IsSome {T = Entry} None → ⊥
         no_some h = cc
     by_entry (Some e) there some =
+        let before = blocks_in (take n es) in
+        let rest = blocks_in (drop (suc n) es) * 4096 in
         let len_is : old ≡ e.len = is_old ∙ ap len_of there in
-        let blocks_is : old_blocks ≡ blocks_of e.len = is_old_blocks ∙ ap blocks_of len_is in
+        let held_is : held ≡ blocks_of e.len = is_held ∙ ap blocks_of len_is in
         let slot_is : slot ≡ Some (as_long len e) = is_slot ∙ ap (with_len len) there in
-        let room' : blocks_in es * 4096 + blocks_of len * 4096 ≤ length bs + blocks_of e.len * 4096 = omega (arith, room, ap entry_blocks there) in
-        rw (is_ds, is_cs, slot_is, is_start, is_end, is_new_blocks, blocks_is, len_is) (resized_map es bs n len b e lt there fits room')
+        let own_blocks : entry_blocks (get_or es n None) ≡ blocks_of e.len = ap entry_blocks there in
+        let room' : blocks_in es * 4096 + blocks_of len * 4096 ≤ length bs + blocks_of e.len * 4096 = omega (arith, room, own_blocks) in
+        let kept : (first + min held wanted) * 4096 ≡ (before + min (blocks_of e.len) (blocks_of len)) * 4096 = ap (λ k. (k + min held wanted) * 4096) is_first ∙ ap (λ k. (before + min k wanted) * 4096) held_is ∙ ap (λ k. (before + min (blocks_of e.len) k) * 4096) is_wanted in
+        let alike' : take ((before + min (blocks_of e.len) (blocks_of len)) * 4096) ms ≡ take ((before + min (blocks_of e.len) (blocks_of len)) * 4096) bs = ap (λ k. take k ms) (sym kept) ∙ alike ∙ ap (λ k. take k bs) kept in
+        let count : (used - (first + held)) * 4096 ≡ rest = omega (arith, blocks_split es n lt, own_blocks, is_first, is_used, held_is) in
+        let to : (first + wanted) * 4096 ≡ before * 4096 + blocks_of len * 4096 = omega (arith, is_first, is_wanted) in
+        let from : (first + held) * 4096 ≡ before * 4096 + blocks_of e.len * 4096 = omega (arith, is_first, held_is) in
+        let behind' : take rest (drop (before * 4096 + blocks_of len * 4096) ms) ≡ take rest (drop (before * 4096 + blocks_of e.len * 4096) bs) =
+        ap (λ k. take k (drop (before * 4096 + blocks_of len * 4096) ms)) (sym count) ∙ ap (λ k. take ((used - (first + held)) * 4096) (drop k ms)) (sym to) ∙ behind ∙ ap (λ k. take k (drop ((first + held) * 4096) bs)) count ∙ ap (λ k. take rest (drop k bs)) from in
+        rw (is_cs, slot_is, is_first, len_is) (resized_map es bs ms n len b e lt there fits room' same_length alike' behind')
 
 -- ---- room
 

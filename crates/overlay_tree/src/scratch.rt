@@ -7,9 +7,9 @@ use crate::pieces::{
     clear_bytes, create_file, has_room, read_file, remove_file, rename_file, replace_bytes,
     resize_file,
 };
-use crate::slot::{BLOCK, Slot};
+use crate::slot::Slot;
 use crate::slots::{free_slots, place_free, place_named};
-use crate::space::zero_bytes;
+use crate::space::Space;
 use std::alloc::Global;
 use std::marker::Model;
 use virt_base::NoMemory;
@@ -18,22 +18,14 @@ use virt_base::NoMemory;
 #[derive(Debug, Clone, Copy, PartialEq, Eq)]
 pub struct InsufficientSpace;
 
-/// Files by number and name in so many blocks of memory, all of which is taken at the beginning. The bytes of a file stand
-/// in one piece.
+/// Files by number and name in so many blocks of memory, all of which is taken at the beginning.
 ///
 /// Contracts see the files as a map with a quota.
 #[derive(Debug, Drop)]
 pub struct Scratch {
     blocks: u32,
     slots: Vec<Slot>,
-    bytes: Vec<u8>,
-}
-
-fn are_bytes(bytes: &[u8])
-    ensures small { All (λ b. b < 256) bytes.now }
-    ensures count { length bytes.now < 2 ^ 64 }
-{
-    let _bytes = bytes;
+    space: Space,
 }
 
 impl Model for Scratch {
@@ -42,9 +34,9 @@ impl Model for Scratch {
 
     ghost Value = { ScratchMap };
 
-    ghost view = { λ s. map_of s.blocks s.slots.items s.bytes.items };
+    ghost view = { λ s. map_of s.blocks s.slots.items s.space };
 
-    ghost invariant = { λ s. IsKept s.blocks s.slots.items s.bytes.items };
+    ghost invariant = { λ s. IsKept s.blocks s.slots.items s.space };
 }
 
 impl Scratch {
@@ -53,11 +45,11 @@ impl Scratch {
         ensures { IfOk result (λ scratch. scratch ≡ empty_scratch blocks files) }
     {
         let slots = free_slots(alloc, files)?;
-        let bytes = zero_bytes(alloc, blocks as usize * BLOCK)?;
+        let space = Space::new(alloc, blocks)?;
         Ok(Scratch {
             blocks,
             slots,
-            bytes,
+            space,
         })
     }
 
@@ -129,7 +121,7 @@ impl Scratch {
         requires fits { has_room self.old number len ≡ true }
         ensures { self.new ≡ with_content self.old number (resized (content_at self.old number) len) }
     {
-        resize_file(&mut self.slots, &mut self.bytes, number as usize, len);
+        resize_file(&mut self.slots, &mut self.space, number as usize, len);
     }
 
     /// Takes a file away, whose number is free from then on.
@@ -137,7 +129,7 @@ impl Scratch {
         requires { IsSome (file_at self.old number) }
         ensures { self.new ≡ removed self.old number }
     {
-        remove_file(&mut self.slots, &mut self.bytes, number as usize);
+        remove_file(&mut self.slots, &mut self.space, number as usize);
     }
 
     /// Gives a file a name. Another file that has it is removed.
@@ -146,7 +138,7 @@ impl Scratch {
         requires short { IsShort name.now }
         ensures { self.new ≡ renamed self.old number name.now }
     {
-        rename_file(&mut self.slots, &mut self.bytes, number as usize, name);
+        rename_file(&mut self.slots, &mut self.space, number as usize, name);
     }
 
     /// Gives a file a length: it is cut, or grown by zeros.
@@ -172,7 +164,7 @@ impl Scratch {
         requires { IsSome (file_at self.old number) }
         ensures { self.new ≡ with_content self.old number [] }
     {
-        resize_file(&mut self.slots, &mut self.bytes, number as usize, 0);
+        resize_file(&mut self.slots, &mut self.space, number as usize, 0);
     }
 
     /// Replaces the bytes of a file that is long enough.
@@ -181,7 +173,7 @@ impl Scratch {
         requires long { at + length bytes.now ≤ length (content_at self.old number) }
         ensures { self.new ≡ with_content self.old number (splice (content_at self.old number) at (at + length bytes.now) bytes.now) }
     {
-        replace_bytes(&self.slots, &mut self.bytes, number as usize, at, bytes);
+        replace_bytes(&self.slots, &mut self.space, number as usize, at, bytes);
     }
 
     /// Writes bytes from a place on into a file, which grows where it is shorter, with zeros before the bytes. No bytes
@@ -216,7 +208,7 @@ impl Scratch {
         requires long { at + len ≤ length (content_at self.old number) }
         ensures { self.new ≡ with_content self.old number (splice (content_at self.old number) at (at + len) (replicate len 0)) }
     {
-        clear_bytes(&self.slots, &mut self.bytes, number as usize, at, len);
+        clear_bytes(&self.slots, &mut self.space, number as usize, at, len);
     }
 
     /// Writes so many zeros from a place on into a file, as `write` does of bytes.
@@ -251,7 +243,7 @@ impl Scratch {
         ensures count { (number : ℕ) → length (content_at self.now number) < 2 ^ 64 }
         ensures files { length self.now.files < 2 ^ 64 }
     {
-        are_bytes(self.bytes.as_slice());
+        self.space.are_bytes();
     }
 
     /// Copies the bytes of a file from a place on to the front of `out`, as many as there are and fit, and says how many.
@@ -260,6 +252,6 @@ impl Scratch {
         ensures count { result ≡ length (read_at (content_at self.now number) at (length out.old)) }
         ensures read { out.new ≡ read_at (content_at self.now number) at (length out.old) ++ drop result out.old }
     {
-        read_file(&self.slots, &self.bytes, number as usize, at, out)
+        read_file(&self.slots, &self.space, number as usize, at, out)
     }
 }

@@ -2,7 +2,7 @@ ghost use Rattle.std.specs.Prelude.{◌≡◌, ◌≤◌, ◌<◌, ◌*◌, ◌^
 ghost use Rattle.tree_table.specs.Scratches.{blocks_of};
 ghost use Rattle.overlay_tree.specs.Pieces.{Entry, entry_blocks, is_named, len_of, with_len};
 
-use crate::space::{write, zero_bytes};
+use crate::bytes::{write, zero_bytes};
 use std::alloc::Global;
 use std::marker::Model;
 use virt_base::NoMemory;

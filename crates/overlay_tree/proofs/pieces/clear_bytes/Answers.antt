@@ -10,8 +10,8 @@ use Rattle.overlay_tree.proofs.pieces.clear_bytes.Goals as goal
 pub returns-clause-files : goal.returns-clause-files
 returns-clause-files c b =
     let zeros = replicate c.args.len 0 in
-    let old = c.args.bytes.now.items in
-    let new = c.clear.new.bytes.items in
+    let old = c.args.space.now in
+    let new = c.clear.new.self in
     let start = c.start_of-start.result in
     let long : length zeros ≡ c.args.len = length-replicate {A = ℕ} c.args.len 0 in
     let cleared = c.clear.ensures ∙ ap (λ k. splice old (start + c.args.at) (start + c.args.at + k) zeros) (sym long) in

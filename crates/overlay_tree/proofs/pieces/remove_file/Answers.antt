@@ -1,13 +1,5 @@
-use Rattle.std.proofs.Common.{◌≡◌, ◌≤◌, ◌<◌, ◌+◌, ◌-◌, ◌*◌, ℕ, ◌∙◌, sym, ap, subst, None, Some, Option, get_or, set, length, true, false, List, rules, arith}
-use Rattle.std.proofs.lemmas.Grind.{common_steps}
-use Rattle.std.proofs.lemmas.List.{length-set, length-replicate}
-use Rattle.std.specs.Prelude.{option_map, position, is_none, max, replicate}
-use Rattle.std.specs.List.{splice}
-use Rattle.tree_table.specs.Scratches.{content_at, name_at, file_at, find_file, has_room, with_content, with_name, resized, removed, renamed, created, read_at, free_number}
-use Rattle.overlay_tree.specs.Pieces.{Entry, blocks_in, entry_blocks, len_of, with_len, map_of, is_named}
-use Rattle.overlay_tree.proofs.PieceLemmas.{free_in, blocks_free, pieces_free, blocks_set, find_pieces}
-use Rattle.overlay_tree.proofs.ResizeLemmas.{resized_code}
-use Rattle.overlay_tree.proofs.MapLemmas.{live_in, live_number, numbered_in, room_fits, size_in, kept_other, name_in, name_past, written_none, written_some, blocks_gone, place_live, place_free, created_map, named_map, same_blocks, set_twice, without_none, without_same, without_differ, cleared_map}
+use Rattle.std.proofs.Common.{◌∙◌, ap, None, set}
+use Rattle.overlay_tree.proofs.MapLemmas.{set_twice, cleared_map}
 use Rattle.overlay_tree.proofs.pieces.remove_file.Goals as goal
 
 pub returns-clause-slots : goal.returns-clause-slots
@@ -16,4 +8,4 @@ returns-clause-slots c =
 
 pub returns-clause-files : goal.returns-clause-files
 returns-clause-files c b =
-    cleared_map b c.args.slots.now.items c.args.bytes.now.items c.resize_file.new.bytes.items c.args.number c.resize_file.new.slots.items (set c.resize_file.new.slots.items c.args.number c.clear.new.self) c.requires.number c.requires.live c.resize_file.ensures.slots (ap (set c.resize_file.new.slots.items c.args.number) c.clear.ensures) (c.resize_file.ensures.files b)
+    cleared_map b c.args.slots.now.items c.args.space.now c.resize_file.new.space c.args.number c.resize_file.new.slots.items (set c.resize_file.new.slots.items c.args.number c.clear.new.self) c.requires.number c.requires.live c.resize_file.ensures.slots (ap (set c.resize_file.new.slots.items c.args.number) c.clear.ensures) (c.resize_file.ensures.files b)

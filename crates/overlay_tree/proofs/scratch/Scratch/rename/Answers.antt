@@ -1,20 +1,13 @@
-use Rattle.std.proofs.Common.{◌≡◌, ◌≤◌, ◌<◌, ◌+◌, ◌-◌, ◌*◌, ℕ, ◌∙◌, sym, ap, subst, None, Some, Option, get_or, set, length, true, false, List, rules, arith}
-use Rattle.std.proofs.lemmas.Grind.{common_steps}
-use Rattle.std.proofs.lemmas.List.{length-set, length-replicate}
-use Rattle.std.specs.Prelude.{option_map, position, is_none, max, replicate}
-use Rattle.std.specs.List.{splice}
-use Rattle.tree_table.specs.Scratches.{content_at, name_at, file_at, find_file, has_room, with_content, with_name, resized, removed, renamed, created, read_at, free_number}
-use Rattle.overlay_tree.specs.Pieces.{Entry, blocks_in, entry_blocks, len_of, with_len, map_of, is_named}
-use Rattle.overlay_tree.proofs.PieceLemmas.{free_in, blocks_free, pieces_free, blocks_set, find_pieces}
-use Rattle.overlay_tree.proofs.ResizeLemmas.{resized_code}
-use Rattle.overlay_tree.proofs.MapLemmas.{live_in, live_number, numbered_in, room_fits, size_in, kept_other, name_in, name_past, written_none, written_some, blocks_gone, place_live, place_free, created_map, named_map, same_blocks, set_twice, without_none, without_same, without_differ, cleared_map}
+use Rattle.std.proofs.Common.{◌∙◌, ap}
+use Rattle.tree_table.specs.Scratches.{renamed}
+use Rattle.overlay_tree.proofs.MapLemmas.{live_in, numbered_in}
 use Rattle.overlay_tree.proofs.scratch.Scratch.rename.Goals as goal
 
 pub rename_file-requires-clause-number : goal.rename_file-requires-clause-number
-rename_file-requires-clause-number c = numbered_in c.args.self.now c.self.inside.blocks c.self.inside.slots.items c.self.inside.bytes.items c.args.number c.self.view_is c.requires.live
+rename_file-requires-clause-number c = numbered_in c.args.self.now c.self.inside.blocks c.self.inside.slots.items c.self.inside.space c.args.number c.self.view_is c.requires.live
 
 pub rename_file-requires-clause-live : goal.rename_file-requires-clause-live
-rename_file-requires-clause-live c = live_in c.args.self.now c.self.inside.blocks c.self.inside.slots.items c.self.inside.bytes.items c.args.number c.self.view_is c.requires.live
+rename_file-requires-clause-live c = live_in c.args.self.now c.self.inside.blocks c.self.inside.slots.items c.self.inside.space c.args.number c.self.view_is c.requires.live
 
 pub returns : goal.returns
 returns c = c.rename_file.ensures.files c.self.inside.blocks ∙ ap (λ m. renamed m c.args.number c.args.name.now) c.self.view_is

@@ -1,29 +1,27 @@
-use Rattle.std.proofs.Common.{◌≡◌, ◌≤◌, ◌<◌, ◌+◌, ℕ, ◌∙◌, sym, ap, subst, None, Some, get_or, set, length, true, false, max, List, rules, arith}
-use Rattle.std.proofs.lemmas.Grind.{common_steps}
+use Rattle.std.proofs.Common.{◌≡◌, ◌+◌, ◌∙◌, ap, subst, length, arith}
 use Rattle.std.specs.List.{splice}
-use Rattle.tree_table.specs.Scratches.{content_at, name_at, file_at, has_room, with_content, resized, removed, renamed, created, read_at, free_number}
-use Rattle.overlay_tree.specs.Pieces.{blocks_in, entry_blocks, len_of, map_of}
-use Rattle.overlay_tree.proofs.PieceLemmas.{free_in, blocks_free, pieces_free}
-use Rattle.overlay_tree.proofs.MapLemmas.{live_in, numbered_in, room_fits, size_in, kept_resized, kept_put, name_in, written_none, written_some, long_enough, blocks_gone, place_free, cleared_map}
+use Rattle.tree_table.specs.Scratches.{content_at, with_content}
+use Rattle.overlay_tree.specs.Pieces.{map_of}
+use Rattle.overlay_tree.proofs.MapLemmas.{live_in, numbered_in, size_in}
 use Rattle.overlay_tree.proofs.scratch.Scratch.replace.Goals as goal
 
 pub replace_bytes-requires-clause-number : goal.replace_bytes-requires-clause-number
-replace_bytes-requires-clause-number c = rw c.deref.ensures.value (numbered_in c.args.self.now c.self.inside.blocks c.self.inside.slots.items c.self.inside.bytes.items c.args.number c.self.view_is c.requires.live)
+replace_bytes-requires-clause-number c = rw c.deref.ensures.value (numbered_in c.args.self.now c.self.inside.blocks c.self.inside.slots.items c.self.inside.space c.args.number c.self.view_is c.requires.live)
 
 pub replace_bytes-requires-clause-live : goal.replace_bytes-requires-clause-live
-replace_bytes-requires-clause-live c = rw c.deref.ensures.value (live_in c.args.self.now c.self.inside.blocks c.self.inside.slots.items c.self.inside.bytes.items c.args.number c.self.view_is c.requires.live)
+replace_bytes-requires-clause-live c = rw c.deref.ensures.value (live_in c.args.self.now c.self.inside.blocks c.self.inside.slots.items c.self.inside.space c.args.number c.self.view_is c.requires.live)
 
 pub replace_bytes-requires-clause-long : goal.replace_bytes-requires-clause-long
 replace_bytes-requires-clause-long c =
-    let lt = numbered_in c.args.self.now c.self.inside.blocks c.self.inside.slots.items c.self.inside.bytes.items c.args.number c.self.view_is c.requires.live in
-    let size = size_in c.self.inside.blocks c.self.inside.slots.items c.self.inside.bytes.items c.args.number c.self.invariant lt ∙ ap (λ m. length (content_at m c.args.number)) c.self.view_is in
+    let lt = numbered_in c.args.self.now c.self.inside.blocks c.self.inside.slots.items c.self.inside.space c.args.number c.self.view_is c.requires.live in
+    let size = size_in c.self.inside.blocks c.self.inside.slots.items c.self.inside.space c.args.number c.self.invariant lt ∙ ap (λ m. length (content_at m c.args.number)) c.self.view_is in
     rw c.deref.ensures.value (omega (arith, size, c.requires.long))
 
 pub returns : goal.returns
 returns c =
     let b = c.self.inside.blocks in
     let n = c.args.number in
-    let old = c.self.inside.bytes.items in
-    let new = c.replace_bytes.new.bytes.items in
+    let old = c.self.inside.space in
+    let new = c.replace_bytes.new.space in
     let files = subst (λ s. map_of b s new ≡ with_content (map_of b s old) n (splice (content_at (map_of b s old) n) c.args.at (c.args.at + length c.args.bytes.now) c.args.bytes.now)) c.deref.ensures.value (c.replace_bytes.ensures.files b) in
     files ∙ ap (λ m. with_content m n (splice (content_at m n) c.args.at (c.args.at + length c.args.bytes.now) c.args.bytes.now)) c.self.view_is
