@@ -71,6 +71,34 @@ descriptor.unlink-file-at [0,"a"] => {"ok":null}
 descriptor.read [3,2,4094] => {"ok":[[0,99],true]}
 descriptor.read [2,7,0] => {"ok":[[104,101,108,0,0],true]}
 
+# Blocks that a file gives up are another's, without their bytes; other files keep theirs
+fs.scratch = { name = "/s", blocks = 6, files = 3 }
+get-directories [] => [[0,"/s"]]
+descriptor.open-at [0,[],"a",["create"],["write"]] => {"ok":1}
+descriptor.open-at [0,[],"b",["create"],["write"]] => {"ok":2}
+descriptor.open-at [0,[],"c",["create"],["write"]] => {"ok":3}
+descriptor.write [2,[`4096*5,`6,7],0] => {"ok":4098}
+descriptor.write [3,[9,8],4095] => {"ok":2}
+descriptor.set-size [1,1] => {"ok":null}
+descriptor.set-size [1,4097] => {"ok":null}
+descriptor.set-size [1,8193] => {"err":"insufficient-space"}
+descriptor.read [2,4,4095] => {"ok":[[5,6,7],true]}
+descriptor.read [3,3,4094] => {"ok":[[0,9,8],true]}
+descriptor.set-size [2,4096] => {"ok":null}
+descriptor.set-size [1,8193] => {"ok":null}
+descriptor.read [1,3,8191] => {"ok":[[0,0],true]}
+descriptor.read [2,3,4094] => {"ok":[[5,5],true]}
+descriptor.read [3,3,4094] => {"ok":[[0,9,8],true]}
+descriptor.set-size [1,0] => {"ok":null}
+descriptor.write [2,[1,2,3],8190] => {"ok":3}
+descriptor.read [2,5,8189] => {"ok":[[0,1,2,3],true]}
+descriptor.read [2,3,4095] => {"ok":[[5,0,0],false]}
+descriptor.read [3,3,4094] => {"ok":[[0,9,8],true]}
+descriptor.write [1,[4],4096] => {"err":"insufficient-space"}
+descriptor.write [1,[4],4095] => {"ok":1}
+descriptor.read [1,2,4094] => {"ok":[[0,4],true]}
+descriptor.read [2,2,0] => {"ok":[[5,5],false]}
+
 # A file that is held is busy, by a descriptor, an input or an output
 fs.scratch = { name = "/s", blocks = 1, files = 2 }
 get-directories [] => [[0,"/s"]]
