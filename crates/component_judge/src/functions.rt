@@ -7,7 +7,7 @@ use comp_signature::ComponentType;
 use comp_types::{InstanceEntry, ItemType, KnownFunc};
 use host_script::{ExportType, ExportTypes};
 use std::alloc::Global;
-use virt_base::{Items, NoMemory, Text};
+use virt_base::{NoMemory, Text};
 use wit_types::copy_func;
 
 fn push(
@@ -88,7 +88,7 @@ pub fn callable(alloc: Global, ty: &ComponentType) -> Result<ExportTypes, NoMemo
     ensures { IfOk result (λ exports. exports_seen exports ≡ callable ty.now.exports) }
 {
     let entries = ty.exports.as_slice();
-    let mut exports = Items::empty(alloc);
+    let mut exports = ExportTypes::none(alloc);
     for entry in entries {
         push_functions(alloc, &mut exports, entry)?;
     }

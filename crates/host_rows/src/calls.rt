@@ -11,7 +11,7 @@ use host_script::{Call, ExportType, ExportTypes, Script, ScriptFault, read_scrip
 use std::alloc::Global;
 use std::rc::Rc;
 use std::test::Fail;
-use virt_base::{Items, Text};
+use virt_base::Text;
 use wasi_table::{Interface, NamedFunc};
 use wit_types::{FuncType, Values, copy_func};
 
@@ -38,7 +38,7 @@ fn first_args(calls: Vec<Call>) -> Result<Values, Fail> {
 
 /// Arguments of a function's types.
 fn args_of(alloc: Global, ty: &FuncType, args: &str) -> Result<Values, Fail> {
-    let mut exports = Items::empty(alloc);
+    let mut exports = ExportTypes::none(alloc);
     exports.push(ExportType {
         name: Text::from_str(alloc, "f")?,
         ty: copy_func(alloc, ty)?,

@@ -5,7 +5,7 @@ ghost use Rattle.policy_data.specs.Limits.{KeepsLimits};
 ghost use Rattle.mount_tree.specs.Woods.{AreBuilt};
 
 use crate::calls::script_of;
-use host_script::ScriptHost;
+use host_script::{ExportTypes, ScriptHost};
 use mount_tree::build;
 use outside::{Contents, Entry, EntryKind, MemFiles, Named};
 use policy_data::Policy;
@@ -66,7 +66,7 @@ fn policy_of(alloc: Global, text: &str) -> Result<Policy, Fail>
 
 /// The reference host under a policy for an application with these imports, over a host that gives these answers.
 pub fn host_of(alloc: Global, policy: &str, listed: &Listed, answers: &str) -> Result<Under, Fail> {
-    let host = ScriptHost::new(script_of(alloc, &Items::empty(alloc), answers, "")?.answers);
+    let host = ScriptHost::new(script_of(alloc, &ExportTypes::none(alloc), answers, "")?.answers);
     let policy = policy_of(alloc, policy)?;
     let trees = trees_of(alloc, &policy)?;
     Ok(Referenced::new(alloc, policy, trees, listed, host)?)

@@ -11,3 +11,4 @@ pub mod Parts
 pub mod Textual
 pub mod Typed
 pub mod Whole
+pub mod ExportPlaces

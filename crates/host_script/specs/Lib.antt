@@ -2,3 +2,4 @@ pub mod Json
 pub mod Reads
 pub mod Hosts
 pub mod Script
+pub mod Exports

@@ -7,8 +7,9 @@ ghost use Rattle.host_script.specs.Json.{untyped, untyped_items};
 ghost use Rattle.host_script.specs.Script.{Gives, Finds, text_of, items_of, two_in, pair_in, call_by, call_of, call_at, each_at, call_seen, exports_seen, params_named, AreTyped};
 
 use crate::answers::bad_item;
+use crate::exports::ExportTypes;
 use crate::fault::ScriptFault;
-use crate::script::{Call, Calls, ExportTypes};
+use crate::script::{Call, Calls};
 use crate::{ReadValueFault, read_args};
 use serde_json::Value as Json;
 use std::alloc::Global;
@@ -19,12 +20,10 @@ use wit_types::Fields;
 fn params_named<'a>(exports: &'a ExportTypes, name: &str) -> Option<&'a Fields>
     ensures { option_map (λ params. fields_in params.now) result ≡ params_named name.now (exports_seen exports.now) }
 {
-    for export in exports.as_slice() {
-        if export.name.as_str() == name {
-            return Some(&export.ty.params);
-        }
+    match exports.find(name) {
+        Some(export) => Some(&export.ty.params),
+        None => None,
     }
-    None
 }
 
 fn text_of(json: Json) -> Option<String>

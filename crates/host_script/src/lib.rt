@@ -4,19 +4,22 @@
 
 mod answers;
 mod calls;
+mod exports;
 mod fault;
 mod host;
 mod labels;
 mod members;
+mod places;
 mod reading;
 mod scalars;
 mod script;
 mod top;
 mod values_fault;
 
+pub use exports::ExportTypes;
 pub use fault::ScriptFault;
 pub use host::ScriptHost;
 pub use reading::{read_args, read_value};
-pub use script::{Answers, Call, Calls, ExportType, ExportTypes, Script, ScriptItem};
+pub use script::{Answers, Call, Calls, ExportType, Script, ScriptItem};
 pub use top::read_script;
 pub use values_fault::ReadValueFault;

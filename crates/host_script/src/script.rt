@@ -39,6 +39,3 @@ pub struct ExportType {
     pub name: Text,
     pub ty: FuncType,
 }
-
-/// The functions that can be called; of those with one name the first.
-pub type ExportTypes = Items<ExportType>;

@@ -7,8 +7,9 @@ ghost use Rattle.host_script.specs.Script.{Gives, IsBad, IsNoJson, array_in, val
 
 use crate::answers::read_answers;
 use crate::calls::{items_of, read_calls};
+use crate::exports::ExportTypes;
 use crate::fault::ScriptFault;
-use crate::script::{ExportTypes, Script};
+use crate::script::Script;
 use serde_json::{Error, Map, Value as Json};
 use std::alloc::Global;
 use virt_base::Text;

@@ -73,6 +73,16 @@ null => at|
 {"answers":[],"calls":[["f",[]],["a:b/c#f",["x",1]]]} => at|calls[1]
 {"answers":[],"calls":[["a:b/c#f",[]]]} => at|calls[0]
 {"answers":[],"calls":[["a:b/c",[1,"x"]]]} => at|calls[0]
+# i: a name is found whole, whatever other names begin with it;function f u8;function f-g string;function f-g-h;function e u8 u8
+{"answers":[],"calls":[["f",[1]],["f-g",["x"]],["f-g-h",[]],["e",[1,2]]]} => fine
+{"answers":[],"calls":[["f-g",[1]]]} => at|calls[0]
+{"answers":[],"calls":[["f-g-h",["x"]]]} => at|calls[0]
+{"answers":[],"calls":[["f",["x"]]]} => at|calls[0]
+{"answers":[],"calls":[["e",[1,2]],["f-",[1]]]} => at|calls[1]
+{"answers":[],"calls":[["",[1]]]} => at|calls[0]
+# i: of two functions with one name the first is called;function f u8;function g;function f string
+{"answers":[],"calls":[["g",[]],["f",[1]]]} => fine
+{"answers":[],"calls":[["g",[]],["f",["x"]]]} => at|calls[1]
 # i: arrays in one another, of which the innermost has no value;function f
 {"answers":[{"value":`1*[``1*]`}],"calls":[]} => fine
 {"answers":[{"value":`124*[``124*]`}],"calls":[]} => fine

@@ -7,13 +7,12 @@ use script_lines::print_observation;
 use std::alloc::Global;
 use std::rc::Rc;
 use std::test::Fail;
-use virt_base::Items;
 use wasi_table::Interface;
 use wit_types::{FuncType, Values, WitType, copy_func};
 
 /// The functions of an interface, as those that can be called.
 pub fn exports_of(alloc: Global, interface: &Interface) -> Result<ExportTypes, Fail> {
-    let mut exports = Items::empty(alloc);
+    let mut exports = ExportTypes::none(alloc);
     for function in interface.functions.as_slice() {
         exports.push(ExportType {
             name: function.name.copy(alloc)?,

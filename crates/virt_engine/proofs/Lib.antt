@@ -24,3 +24,4 @@ pub mod ComponentRuns
 pub mod InOrder
 pub mod TreesOnce
 pub mod Alike
+pub mod Results

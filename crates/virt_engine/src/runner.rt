@@ -30,12 +30,10 @@ pub struct Shown {
 fn result_named<'a>(exports: &'a ExportTypes, name: &Text) -> Option<&'a WitType>
     ensures { type_of result ≡ result_named name.now (exports_seen exports.now) }
 {
-    for export in exports.as_slice() {
-        if export.name.is_same(name) {
-            return export.ty.result.as_ref();
-        }
+    match exports.find(name.as_str()) {
+        Some(export) => export.ty.result.as_ref(),
+        None => None,
     }
-    None
 }
 
 /// What was seen behind the first ones.
