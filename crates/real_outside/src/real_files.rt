@@ -13,12 +13,16 @@ use virt_base::{Items, Text};
 /// So many bytes are read in one call.
 const PIECE: usize = 16_384;
 
-/// What an error of the machine is here; never that a file is too long.
-fn why(kind: ErrorKind) -> FileFail
+/// Why the machine's last call failed that did; nothing where none has, or where the fault is not of the machine.
+type Told = Option<io::Error>;
+
+/// What an error of the machine is here, which is kept; never that a file is too long.
+fn why(told: &mut Told, e: io::Error) -> FileFail
     ensures within { (limit : ℕ) → IsWithin limit (Err result) }
     ensures listing { IsListing (Err result) }
 {
-    match kind {
+    *told = Some(e);
+    match e.kind() {
         ErrorKind::NotFound => FileFail::Missing,
         ErrorKind::OutOfMemory => FileFail::NoMemory,
         _ => FileFail::Failed,
@@ -26,7 +30,12 @@ fn why(kind: ErrorKind) -> FileFail
 }
 
 /// Reads to the end, unless there are more bytes than the limit.
-fn read_all<R: Read>(file: &mut R, alloc: Global, limit: u64) -> Result<Vec<u8>, FileFail>
+fn read_all<R: Read>(
+    file: &mut R,
+    alloc: Global,
+    limit: u64,
+    told: &mut Told,
+) -> Result<Vec<u8>, FileFail>
     ensures { IsWithin limit result }
 {
     let mut bytes = Vec::new(alloc);
@@ -43,7 +52,10 @@ fn read_all<R: Read>(file: &mut R, alloc: Global, limit: u64) -> Result<Vec<u8>,
                     return Err(FileFail::NoMemory);
                 }
             }
-            Err(_) => break,
+            Err(e) => {
+                *told = Some(e);
+                break;
+            }
         }
     }
     Err(FileFail::Failed)
@@ -55,31 +67,45 @@ fn read_file<R: rt::Files>(
     alloc: Global,
     name: &str,
     limit: u64,
+    told: &mut Told,
 ) -> Result<Vec<u8>, FileFail>
     ensures { IsWithin limit result }
 {
     let mut file = match fs::open(rt, name) {
         Ok(file) => file,
-        Err(e) => return Err(why(e.kind())),
+        Err(e) => return Err(why(told, e)),
     };
     match file.metadata() {
         Ok(found) if found.is_file() && found.len() > limit => Err(FileFail::TooLong(found.len())),
-        Ok(_) => read_all(&mut file, alloc, limit),
-        Err(_) => Err(FileFail::Failed),
+        Ok(_) => read_all(&mut file, alloc, limit, told),
+        Err(e) => {
+            *told = Some(e);
+            Err(FileFail::Failed)
+        }
     }
 }
+
+const OTHER_KIND: &str = "an entry is neither a file nor a folder";
 
 /// An entry that is a file or a folder; another, as a symbolic link, is a failure.
 fn entry_of<R: rt::Files + Alloc>(
     alloc: Global,
     found: &DirEntry<R, R::A>,
+    told: &mut Told,
 ) -> Result<Entry, FileFail>
     ensures { IfErr result (λ fail. IsListing (Err fail)) }
 {
     let kind = match found.file_type() {
         Ok(kind) if kind.is_file() => EntryKind::File,
         Ok(kind) if kind.is_dir() => EntryKind::Folder,
-        _ => return Err(FileFail::Failed),
+        Ok(_) => {
+            *told = Some(io::Error::other(OTHER_KIND));
+            return Err(FileFail::Failed);
+        }
+        Err(e) => {
+            *told = Some(e);
+            return Err(FileFail::Failed);
+        }
     };
     match Text::from_str(alloc, found.file_name()) {
         Ok(name) => Ok(Entry { name, kind }),
@@ -96,19 +122,24 @@ fn list_folder<R: rt::Files + Alloc + Clone + Drop>(
     rt: &R,
     alloc: Global,
     name: &str,
+    told: &mut Told,
 ) -> Result<Entries, FileFail>
     ensures { IsListing result }
 {
     let folder = match fs::read_dir(rt, name) {
         Ok(folder) => folder,
-        Err(e) => return Err(why(e.kind())),
+        Err(e) => return Err(why(told, e)),
     };
     let mut entries = Vec::new(alloc);
     for found in folder {
-        let Ok(found) = found else {
-            return Err(FileFail::Failed);
+        let found = match found {
+            Ok(found) => found,
+            Err(e) => {
+                *told = Some(e);
+                return Err(FileFail::Failed);
+            }
         };
-        if entries.push(entry_of(alloc, &found)?).is_err() {
+        if entries.push(entry_of(alloc, &found, told)?).is_err() {
             return Err(FileFail::NoMemory);
         }
     }
@@ -139,12 +170,22 @@ fn write_whole<W: Write>(writer: &mut W, bytes: &[u8]) -> io::Result<()> {
 pub struct RealFiles<'r, R> {
     rt: &'r R,
     faults: u64,
+    told: Told,
 }
 
 impl<'r, R> RealFiles<'r, R> {
     /// The files that this runtime reaches, with no fault counted yet.
     pub fn new(rt: &'r R) -> RealFiles<'r, R> {
-        RealFiles { rt, faults: 0 }
+        RealFiles {
+            rt,
+            faults: 0,
+            told: None,
+        }
+    }
+
+    /// The machine's reason of the last fault, where the fault is the machine's.
+    pub fn reason(&self) -> Option<io::Error> {
+        self.told
     }
 }
 
@@ -154,7 +195,8 @@ impl<R: rt::Files + Alloc + Clone + Drop> Files for RealFiles<'_, R> {
     ghost state = { λ s. untold_files s.faults };
 
     fn read(&mut self, alloc: Global, name: &Text, limit: u64) -> Result<Vec<u8>, FileFail> {
-        let read = read_file(self.rt, alloc, name.as_str(), limit);
+        self.told = None;
+        let read = read_file(self.rt, alloc, name.as_str(), limit, &mut self.told);
         if let Err(FileFail::Missing | FileFail::Failed) = &read {
             self.faults = one_more(self.faults);
         }
@@ -162,7 +204,8 @@ impl<R: rt::Files + Alloc + Clone + Drop> Files for RealFiles<'_, R> {
     }
 
     fn list(&mut self, alloc: Global, folder: &Text) -> Result<Entries, FileFail> {
-        let listed = list_folder(self.rt, alloc, folder.as_str());
+        self.told = None;
+        let listed = list_folder(self.rt, alloc, folder.as_str(), &mut self.told);
         if let Err(FileFail::Missing | FileFail::Failed) = &listed {
             self.faults = one_more(self.faults);
         }
@@ -172,7 +215,8 @@ impl<R: rt::Files + Alloc + Clone + Drop> Files for RealFiles<'_, R> {
     fn create(&mut self, name: &Text) -> Result<(), WriteFailed> {
         match fs::create(self.rt, name.as_str()) {
             Ok(_) => Ok(()),
-            Err(_) => {
+            Err(e) => {
+                self.told = Some(e);
                 self.faults = one_more(self.faults);
                 Err(WriteFailed)
             }
@@ -187,7 +231,8 @@ impl<R: rt::Files + Alloc + Clone + Drop> Files for RealFiles<'_, R> {
         };
         match written {
             Ok(()) => Ok(()),
-            Err(_) => {
+            Err(e) => {
+                self.told = Some(e);
                 self.faults = one_more(self.faults);
                 Err(WriteFailed)
             }

@@ -1,7 +1,10 @@
 //! The program `wasi-virt`: the machine's files, standard output and words, around one call.
 #![tactic(auto)]
 
+mod reasons;
+
 use real_outside::{RealFiles, RealSink};
+use reasons::say_why;
 use std::io::BufWriter;
 use std::process::ExitCode;
 use std::{env, io};
@@ -45,10 +48,13 @@ fn run_words(rt: &HostRuntime, words: &[Text]) -> Status {
     let mut files = RealFiles::new(rt);
     let mut out = RealSink::new(writer);
     let status = wasi_virt(rt.alloc(), words, &mut files, &mut out);
-    match out.finish() {
+    let status = match out.finish() {
         Ok(()) => status,
         Err(_) => Status::SinkFault,
-    }
+    };
+    // What can not be said to people is no fault.
+    let _ = say_why(rt, words, &status, &files);
+    status
 }
 
 fn main(rt: HostRuntime) -> ExitCode {

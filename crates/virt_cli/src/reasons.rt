@@ -1,0 +1,150 @@
+use json::{Reader, Scratch};
+use real_outside::RealFiles;
+use std::alloc::Global;
+use std::{fs, io};
+use virt_base::Text;
+use virt_engine::{PolicyFault, Status};
+use virt_words::{Command, RunWords, VirtWords, read_words};
+
+/// Arrays and objects of a script stand at most so deep in one another.
+const DEPTH: usize = 127;
+
+/// A place in a text, by its line and the character in it, both from 1.
+#[derive(Clone, Copy)]
+struct Place {
+    line: usize,
+    column: usize,
+}
+
+fn place_of(text: &[u8], offset: usize) -> Place {
+    let mut place = Place { line: 1, column: 1 };
+    for byte in &text[..offset.min(text.len())] {
+        if *byte == b'\n' {
+            place.line = place.line.saturating_add(1);
+            place.column = 1;
+        } else if *byte & 0xC0 != 0x80 {
+            place.column = place.column.saturating_add(1);
+        }
+    }
+    place
+}
+
+/// Where a text that is no JSON stops to be one.
+fn json_stop(alloc: Global, text: &str) -> Option<usize> {
+    let mut scratch = Scratch::new(alloc);
+    let Ok(mut reader) = Reader::new(text, &mut scratch) else {
+        return None;
+    };
+    if reader.skip_value(DEPTH).is_err() {
+        return Some(reader.offset());
+    }
+    let end = reader.offset();
+    if reader.next().is_some() {
+        Some(end)
+    } else {
+        None
+    }
+}
+
+/// The same of bytes, which may be no text.
+fn script_stop(alloc: Global, bytes: &[u8]) -> Option<usize> {
+    match str::from_utf8(bytes) {
+        Ok(text) => json_stop(alloc, text),
+        Err(e) => Some(e.valid_up_to()),
+    }
+}
+
+/// The bytes of a file once more; none of what can be read only once, as a pipe.
+fn bytes_of(rt: &HostRuntime, name: &Text) -> Option<Vec<u8>> {
+    match fs::metadata(rt, name.as_str()) {
+        Ok(found) if found.is_file() => {}
+        _ => return None,
+    }
+    fs::read(rt, name.as_str()).ok()
+}
+
+/// The policy and the script that the words name.
+fn names_in(alloc: Global, words: &[Text]) -> (Option<Text>, Option<Text>) {
+    match read_words(alloc, words) {
+        Ok(Command::Virt(VirtWords { policy, .. })) => (Some(policy), None),
+        Ok(Command::Run(RunWords { policy, script, .. })) => (policy, Some(script)),
+        _ => (None, None),
+    }
+}
+
+fn say_place(
+    rt: &HostRuntime,
+    name: &Text,
+    bytes: &[u8],
+    offset: usize,
+    why: &str,
+) -> io::Result<()> {
+    let Place { line, column } = place_of(bytes, offset);
+    let name = name.as_str();
+    eprintln!(rt; "wasi-virt: {name}: line {line}, column {column}: {why}")
+}
+
+/// Where a policy is no TOML, and why.
+fn say_policy(rt: &HostRuntime, name: &Text) -> io::Result<()> {
+    let Some(bytes) = bytes_of(rt, name) else {
+        return Ok(());
+    };
+    let Err(e) = toml::table_from_slice(rt.alloc(), bytes.as_slice()) else {
+        return Ok(());
+    };
+    match e.span() {
+        Some(span) => say_place(rt, name, bytes.as_slice(), span.start, e.message()),
+        None => Ok(()),
+    }
+}
+
+/// Where a script is no JSON.
+fn say_script(rt: &HostRuntime, name: &Text) -> io::Result<()> {
+    let Some(bytes) = bytes_of(rt, name) else {
+        return Ok(());
+    };
+    match script_stop(rt.alloc(), bytes.as_slice()) {
+        Some(offset) => say_place(rt, name, bytes.as_slice(), offset, "no JSON from here on"),
+        None => Ok(()),
+    }
+}
+
+/// The machine's reason, without its number.
+fn say_fault(rt: &HostRuntime, name: &Text, e: io::Error) -> io::Result<()> {
+    let told = format!(in rt.alloc(); "{e}")?;
+    let reason = match told.as_str().split_once(" (os error") {
+        Some((reason, _)) => reason,
+        None => told.as_str(),
+    };
+    let name = name.as_str();
+    eprintln!(rt; "wasi-virt: {name}: {reason}")
+}
+
+/// Says on standard error why a call ended so, where there is more to say than what was put.
+pub fn say_why(
+    rt: &HostRuntime,
+    words: &[Text],
+    status: &Status,
+    files: &RealFiles<'_, HostRuntime>,
+) -> io::Result<()> {
+    match status {
+        Status::FileFault(name) => match files.reason() {
+            Some(e) => say_fault(rt, name, e),
+            None => Ok(()),
+        },
+        Status::PolicyRefused(PolicyFault::NotToml) => match names_in(rt.alloc(), words) {
+            (Some(policy), _) => say_policy(rt, &policy),
+            (None, _) => Ok(()),
+        },
+        Status::ScriptRefused(path) if path.as_str().is_empty() => {
+            match names_in(rt.alloc(), words) {
+                (_, Some(script)) => say_script(rt, &script),
+                (_, None) => Ok(()),
+            }
+        }
+        Status::NoMemory => eprintln!(rt;
+            "wasi-virt: no result: memory ran out, or a bound on it was passed"
+        ),
+        _ => Ok(()),
+    }
+}
