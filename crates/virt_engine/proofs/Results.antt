@@ -1,6 +1,7 @@
 -- The result type of the first function with a name.
-use Rattle.std.proofs.Common.{◌≡◌, ◌∙◌, refl, ap, sym, List, [], ◌∷◌, Bool, true, false, cond, Bor}
+use Rattle.std.proofs.Common.{◌≡◌, ◌∙◌, refl, ap, sym, List, [], ◌∷◌, Bool, true, false, cond}
 use Rattle.std.specs.Prelude.{Option, Some, None, option_copied}
+use Rattle.std.specs.Borrow.{Bor}
 use Rattle.std.specs.Str.{bytes_eq}
 use Rattle.wit_types.specs.Plain.{Name, Plain, plain_result}
 use Rattle.host_script.specs.Exports.{export_named}
