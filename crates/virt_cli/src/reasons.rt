@@ -63,12 +63,29 @@ fn bytes_of(rt: &HostRuntime, name: &Text) -> Option<Vec<u8>> {
     fs::read(rt, name.as_str()).ok()
 }
 
-/// The policy and the script that the words name.
-fn names_in(alloc: Global, words: &[Text]) -> (Option<Text>, Option<Text>) {
+/// The policy that the words name.
+fn policy_in(alloc: Global, words: &[Text]) -> Option<Text> {
     match read_words(alloc, words) {
-        Ok(Command::Virt(VirtWords { policy, .. })) => (Some(policy), None),
-        Ok(Command::Run(RunWords { policy, script, .. })) => (policy, Some(script)),
-        _ => (None, None),
+        Ok(Command::Virt(named)) => {
+            let VirtWords { policy, .. } = named;
+            Some(policy)
+        }
+        Ok(Command::Run(named)) => {
+            let RunWords { policy, .. } = named;
+            policy
+        }
+        _ => None,
+    }
+}
+
+/// The script that the words name.
+fn script_in(alloc: Global, words: &[Text]) -> Option<Text> {
+    match read_words(alloc, words) {
+        Ok(Command::Run(named)) => {
+            let RunWords { script, .. } = named;
+            Some(script)
+        }
+        _ => None,
     }
 }
 
@@ -109,15 +126,34 @@ fn say_script(rt: &HostRuntime, name: &Text) -> io::Result<()> {
     }
 }
 
-/// The machine's reason, without its number.
+/// What stands before the number of the machine's error.
+fn without_number(told: &str) -> &str {
+    match told.split_once(" (os error") {
+        None => told,
+        Some(parts) => parts.0,
+    }
+}
+
+/// The machine's reason.
 fn say_fault(rt: &HostRuntime, name: &Text, e: io::Error) -> io::Result<()> {
     let told = format!(in rt.alloc(); "{e}")?;
-    let reason = match told.as_str().split_once(" (os error") {
-        Some((reason, _)) => reason,
-        None => told.as_str(),
-    };
+    let reason = without_number(told.as_str());
     let name = name.as_str();
     eprintln!(rt; "wasi-virt: {name}: {reason}")
+}
+
+fn say_any_policy(rt: &HostRuntime, words: &[Text]) -> io::Result<()> {
+    match policy_in(rt.alloc(), words) {
+        Some(name) => say_policy(rt, &name),
+        None => Ok(()),
+    }
+}
+
+fn say_any_script(rt: &HostRuntime, words: &[Text]) -> io::Result<()> {
+    match script_in(rt.alloc(), words) {
+        Some(name) => say_script(rt, &name),
+        None => Ok(()),
+    }
 }
 
 /// Says on standard error why a call ended so, where there is more to say than what was put.
@@ -132,16 +168,8 @@ pub fn say_why(
             Some(e) => say_fault(rt, name, e),
             None => Ok(()),
         },
-        Status::PolicyRefused(PolicyFault::NotToml) => match names_in(rt.alloc(), words) {
-            (Some(policy), _) => say_policy(rt, &policy),
-            (None, _) => Ok(()),
-        },
-        Status::ScriptRefused(path) if path.as_str().is_empty() => {
-            match names_in(rt.alloc(), words) {
-                (_, Some(script)) => say_script(rt, &script),
-                (_, None) => Ok(()),
-            }
-        }
+        Status::PolicyRefused(PolicyFault::NotToml) => say_any_policy(rt, words),
+        Status::ScriptRefused(path) if path.as_str().is_empty() => say_any_script(rt, words),
         Status::NoMemory => eprintln!(rt;
             "wasi-virt: no result: memory ran out, or a bound on it was passed"
         ),
