@@ -28,6 +28,12 @@ struct Halves {
     /// What of the sought name is still to be compared, and how many bytes are compared at most.
     there: u32,
     least: u32,
+    /// How many bytes the sought name shares with the last name below it and with the first one above it that were compared; all
+    /// names between these two begin with the lesser of both.
+    shared_low: u32,
+    shared_high: u32,
+    /// How many bytes it shares with the name in the middle.
+    shared: u32,
     /// A byte of either.
     a: u32,
     b: u32,
@@ -59,6 +65,9 @@ impl Halves {
             one: spare.narrow(11),
             shift: spare.narrow(12),
             probes: spare.narrow(13),
+            shared_low: spare.narrow(14),
+            shared_high: spare.narrow(15),
+            shared: spare.narrow(16),
         }
     }
 }
@@ -93,20 +102,39 @@ fn read_middle(f: &Frame, list: ListAt, l: &Halves) -> Routine {
         .shift_left(l.element, l.middle, l.shift)
         .load(l.text, l.element, number(list.place))
         .load(l.count, l.element, number(list.place.saturating_add(4)))
-        .copy(l.there, l.name)
         .copy(l.least, l.length)
         .less(l.below, l.count, l.length)
         .when(l.below, shorter)
 }
 
+// What is known to be equal is not compared again.
+fn skip_shared(f: &Frame, l: &Halves) -> Routine {
+    let high = f.routine().copy(l.shared, l.shared_high);
+    f.routine()
+        .copy(l.shared, l.shared_low)
+        .less(l.below, l.shared_high, l.shared_low)
+        .when(l.below, high)
+        .add(l.text, l.text, l.shared)
+        .add(l.there, l.name, l.shared)
+        .subtract(l.least, l.least, l.shared)
+}
+
 fn probe(f: &Frame, list: ListAt, l: &Halves) -> Routine {
-    let behind = f.routine().add(l.low, l.middle, l.one);
-    let before = f.routine().copy(l.high, l.middle);
+    let behind = f
+        .routine()
+        .add(l.low, l.middle, l.one)
+        .copy(l.shared_low, l.shared);
+    let before = f
+        .routine()
+        .copy(l.high, l.middle)
+        .copy(l.shared_high, l.shared);
     f.routine()
         .less(l.below, l.low, l.high)
         .unless(l.below, f.routine().leave(PROBES))
         .part(read_middle(f, list, l))
+        .part(skip_shared(f, l))
         .repeat(COMPARED, l.one, compare(f, l))
+        .subtract(l.shared, l.there, l.name)
         .choose(l.below, behind, before)
 }
 
@@ -116,7 +144,7 @@ fn probes_in(count: u32) -> u64 {
 }
 
 /// Sets `found` to 1 where the list has the name, and else to 0. An element has two to the `shift` bytes, of which the first are its
-/// name's place and length; names stand in byte order, each once. Fourteen spare locals of 32 bits are lost.
+/// name's place and length; names stand in byte order, each once. Seventeen spare locals of 32 bits are lost.
 pub fn find_by_halves(
     f: &Frame,
     list: ListAt,
@@ -132,6 +160,8 @@ pub fn find_by_halves(
         .constant(l.high, list.count as u64)
         .constant(l.one, 1)
         .constant(l.shift, shift)
+        .constant(l.shared_low, 0)
+        .constant(l.shared_high, 0)
         .constant(l.probes, probes_in(list.count))
         .repeat(PROBES, l.probes, probe(f, list, &l))
 }
