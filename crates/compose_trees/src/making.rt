@@ -156,7 +156,8 @@ fn declare_world(
 }
 
 /// The interfaces that the application imports, in its order: the instance of a shim, that under the interface's name, and the
-/// types that it defines.
+/// types that it defines or is the first to show. A later interface names them from there: validators ask that what an instance's
+/// functions name was exported before.
 fn give(
     alloc: Global,
     catalogue: &Catalogue,
@@ -166,6 +167,7 @@ fn give(
     scope: &mut Scope<'_>,
 ) -> Result<(), NoMemory> {
     let first = needed_functions(world);
+    let mut exported = Standing::none(alloc, catalogue)?;
     let mut component: u32 = 0;
     let mut instance = instances;
     for (import, shown) in world.imports.as_slice().iter().zip(given.iter()) {
@@ -173,7 +175,15 @@ fn give(
         scope
             .sections
             .instance(Instance::Instantiate { component, args })?;
-        export_instance(alloc, catalogue, import, shown, instance, scope)?;
+        export_instance(
+            alloc,
+            catalogue,
+            import,
+            shown,
+            instance,
+            &mut exported,
+            scope,
+        )?;
         component = component.saturating_add(1);
         instance = instance.saturating_add(2);
     }
@@ -224,13 +234,14 @@ fn arguments(
     Ok(args)
 }
 
-/// The export of a shim's instance, and aliases of the types that the interface defines.
+/// The export of a shim's instance, and aliases of the types that the interface defines, or that no export before it shows.
 fn export_instance(
     alloc: Global,
     catalogue: &Catalogue,
     import: &WorldImport,
     shown: &Shown<'_>,
     instance: u32,
+    exported: &mut Standing,
     scope: &mut Scope<'_>,
 ) -> Result<(), NoMemory> {
     scope.sections.export(ComponentExport {
@@ -239,16 +250,25 @@ fn export_instance(
         index: instance,
         desc: None,
     })?;
-    let exported = instance.saturating_add(1);
     for number in shown.shown.as_slice() {
-        alias_own(catalogue, import.interface, *number, exported, scope)?;
+        if is_own(catalogue, import.interface, *number) || exported.get(*number).is_none() {
+            alias_shown(catalogue, *number, instance.saturating_add(1), scope)?;
+            exported.set(*number, instance);
+        }
     }
     Ok(())
 }
 
-fn alias_own(
+/// Whether an interface defines a type.
+fn is_own(catalogue: &Catalogue, interface: u32, number: usize) -> bool {
+    match catalogue.get(number) {
+        Some(listed) => listed.interface == interface,
+        None => false,
+    }
+}
+
+fn alias_shown(
     catalogue: &Catalogue,
-    interface: u32,
     number: usize,
     instance: u32,
     scope: &mut Scope<'_>,
@@ -256,9 +276,6 @@ fn alias_own(
     let Some(listed) = catalogue.get(number) else {
         return Ok(());
     };
-    if listed.interface != interface {
-        return Ok(());
-    }
     let name: Text = listed.named.name.copy(scope.alloc)?;
     scope.sections.alias(Alias::Export {
         sort: Sort::Type,
