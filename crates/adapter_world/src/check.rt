@@ -89,7 +89,8 @@ fn are_imports(
     Ok(true)
 }
 
-/// Whether the imports of an output are exactly those that are needed for an application with these imports.
+/// Whether the imports of an output, or of an adapter, are exactly those that are needed for an application with these imports. What
+/// it exports does not matter.
 pub fn are_needed(
     alloc: Global,
     policy: &Policy,
@@ -101,10 +102,12 @@ pub fn are_needed(
     let needs = needs_of(alloc, policy, listed.uses.as_slice())?;
     match match_imports(alloc, out) {
         Ok(_) => are_imports(alloc, out.imports.as_slice(), needs.interfaces.as_slice()),
+        Err(MatchFault::HandleExport(_)) => {
+            are_imports(alloc, out.imports.as_slice(), needs.interfaces.as_slice())
+        }
         Err(MatchFault::NoMemory) => Err(NoMemory),
         Err(MatchFault::Unlisted(_)) => Ok(false),
         Err(MatchFault::WrongType(_)) => Ok(false),
         Err(MatchFault::TwoVersions(_)) => Ok(false),
-        Err(MatchFault::HandleExport(_)) => Ok(false),
     }
 }

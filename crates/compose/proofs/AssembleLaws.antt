@@ -13,7 +13,11 @@ use Rattle.virt_output.proofs.PieceLaws.{piece_added}
 use Rattle.comp_pieces.specs.Extending.{IsPut, HoldsNone, inner_of, with_sections, Extends}
 use Rattle.comp_pieces.proofs.ExtendLaws.{with_plain, extends_spelled}
 use Rattle.output_same.specs.Holding.{and_inner, components_in}
-use Rattle.compose.specs.Assembled.{HoldsMore}
+use Rattle.policy_data.specs.declared.policy.Policy.{Policy}
+use Rattle.wasi_match.specs.declared.listed.ListedUse.{ListedUse}
+use Rattle.compose.specs.declared.assembled.Front.{Front}
+use Rattle.compose.specs.declared.assembled.Assembled.{Assembled}
+use Rattle.compose.specs.Assembled.{HoldsMore, HasAdapter, IsFront, IsAssembled, IsMade}
 
 -- ---- the components in sections
 
@@ -92,3 +96,8 @@ whole_spelled fs s1 all s app front empty back bytes more is none behind spelled
     let all_tree : with_sections (plain_sections s1) behind.sections ≡ plain_sections all = with_plain s1 behind.sections ∙ ap plain_sections (sym behind.more) in
     let done = subst (λ (u : Tree). SpellsBare 0 u ((front ++ bytes) ++ behind.bytes)) all_tree (behind.spelled (plain_sections s1) (front ++ bytes) so_far) in
     subst (SpellsBare 0 (plain_sections all)) (append_assoc front bytes behind.bytes ∙ ap (λ (z : List ℕ). front ++ (bytes ++ z)) (sym longer)) done
+
+-- ---- an adapter that is right
+
+pub is_made : (policy : Policy) (uses : List ListedUse) (app : Tree) (size : ℕ) (f : Front) (a : Assembled) → HasAdapter policy uses f → ((adapter : Tree) → IsFront adapter f → IsAssembled adapter app size a) → IsMade policy uses app size a
+is_made policy uses app size f a h made = record { adapter = h.adapter; right = h.right; assembled = made h.adapter h.front }

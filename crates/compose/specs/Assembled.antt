@@ -12,6 +12,7 @@ use Rattle.virt_output.specs.Pieces.{head_of_component}
 use Rattle.policy_data.specs.declared.policy.Policy.{Policy}
 use Rattle.wasi_match.specs.declared.listed.ListedUse.{ListedUse}
 use Rattle.adapter_world.specs.Imports.{AreNeeded}
+use Rattle.compose.specs.Composed.{IsAdapter}
 use Rattle.compose.specs.declared.assembled.Front.{Front}
 use Rattle.compose.specs.declared.assembled.Assembled.{Assembled}
 
@@ -22,19 +23,29 @@ pub record HoldsMore (inner : Tree) (old_sections new_sections : List Section) (
   pub more : new_sections ≡ old_sections ++ section ∷ []
   pub spelled : SpellsBare 0 (plain_sections old_sections) old → SpellsBare 0 (plain_sections new_sections) new
 
--- a component that holds the adapter, and no other component, with its bytes
-pub record IsFront (f : Front) : Type 0 where
+-- a component that holds an adapter, and no other component, with its bytes
+pub record IsFront (adapter : Tree) (f : Front) : Type 0 where
   pub spelled : SpellsBare 0 (plain_sections f.sections.items) f.bytes.items
-  pub adapter : Tree
   pub components : components_in (plain_sections f.sections.items) ≡ adapter ∷ []
 
--- the output with the application in it, which has so many bytes
-pub record IsAssembled (app : Tree) (size : ℕ) (a : Assembled) : Type 0 where
-  pub spelled : (bytes : List ℕ) → length bytes ≡ size → SpellsBare 0 app bytes → SpellsBare 0 (plain a.output) (a.front.items ++ (bytes ++ a.back.items))
+-- such a component with an adapter that is right
+pub record HasAdapter (policy : Policy) (uses : List ListedUse) (f : Front) : Type 0 where
   pub adapter : Tree
+  pub right : IsAdapter policy uses adapter
+  pub front : IsFront adapter f
+
+-- the output with the application in it, which has so many bytes
+pub record IsAssembled (adapter app : Tree) (size : ℕ) (a : Assembled) : Type 0 where
+  pub spelled : (bytes : List ℕ) → length bytes ≡ size → SpellsBare 0 app bytes → SpellsBare 0 (plain a.output) (a.front.items ++ (bytes ++ a.back.items))
   pub components : components_in (plain a.output) ≡ adapter ∷ app ∷ []
   pub before : List ℕ
   pub front : a.front.items ≡ before ++ head_of_component size
+
+-- such an output with an adapter that is right
+pub record IsMade (policy : Policy) (uses : List ListedUse) (app : Tree) (size : ℕ) (a : Assembled) : Type 0 where
+  pub adapter : Tree
+  pub right : IsAdapter policy uses adapter
+  pub assembled : IsAssembled adapter app size a
 
 -- what is asked of an output
 pub record IsRight (policy : Policy) (uses : List ListedUse) (exported : Entries) (output : Tree) : Type 0 where

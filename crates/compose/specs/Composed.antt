@@ -13,6 +13,11 @@ use Rattle.adapter_world.specs.Names.{needed_count}
 use Rattle.adapter_world.specs.Imports.{AreNeeded}
 use Rattle.compose.specs.declared.composed.Composed.{Composed}
 
+-- an adapter: valid by itself, it imports what is needed, and nothing else
+pub record IsAdapter (policy : Policy) (uses : List ListedUse) (adapter : Tree) : Type 0 where
+  pub valid : IsValidComponent adapter
+  pub imports : AreNeeded policy uses (type_of adapter).imports
+
 -- The bytes before and behind an application of so many bytes, which imports these interfaces and exports these entries, make an
 -- output of it under the policy.
 pub record IsComposed (policy : Policy) (app : Tree) (uses : List ListedUse) (exported : Entries) (size : ℕ) (c : Composed) : Type 0 where
@@ -24,6 +29,7 @@ pub record IsComposed (policy : Policy) (app : Tree) (uses : List ListedUse) (ex
   pub exports : (type_of output).exports ≡ exported
   -- two components stand at the outermost level, the adapter and the application, in whose section are its bytes alone
   pub adapter : Tree
+  pub right : IsAdapter policy uses adapter
   pub components : components_in output ≡ adapter ∷ app ∷ []
   pub before : List ℕ
   pub front : c.front.items ≡ before ++ (4 ∷ u32_format.write size)

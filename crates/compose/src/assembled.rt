@@ -1,7 +1,7 @@
 //! The parts of an output, put together.
 
 ghost use Rattle.std.specs.Prelude.{◌≡◌, [], ◌∷◌, ◌++◌, IfOk, OnOk};
-ghost use Rattle.comp_grammar.specs.Trees.{Nested, plain, plain_section};
+ghost use Rattle.comp_grammar.specs.Trees.{Tree, Nested, plain, plain_section};
 ghost use Rattle.comp_grammar.specs.Components.{no_span};
 ghost use Rattle.comp_write.specs.Copying.{SpellsBare};
 ghost use Rattle.comp_pieces.specs.Extending.{Extends};
@@ -89,7 +89,7 @@ pub fn front_of(
     between: Vec<Piece<'_>>,
 ) -> Result<Front, ComposeFault>
     requires { SpellsBare 0 (plain adapter) bytes.now }
-    ensures { IfOk result IsFront }
+    ensures { IfOk result (IsFront (plain adapter)) }
 {
     let mut out = start_component(alloc)?;
     let mut sections = Vec::new(alloc);
@@ -110,8 +110,7 @@ pub fn assemble(
     size: u32,
     behind: Vec<Piece<'_>>,
 ) -> Result<Assembled, ComposeFault>
-    requires { IsFront front }
-    ensures { IfOk result (IsAssembled (plain app) size) }
+    ensures { IfOk result (λ a. (adapter : Tree) → IsFront adapter front → IsAssembled adapter (plain app) size a) }
 {
     let Front {
         sections: before,

@@ -4,6 +4,7 @@ ghost use Rattle.std.specs.Prelude.{IfOk, OnOk, Ok};
 ghost use Rattle.comp_grammar.specs.Trees.{plain};
 ghost use Rattle.comp_write.specs.Copying.{SpellsBare};
 ghost use Rattle.comp_validate.specs.Answer.{Answers};
+ghost use Rattle.compose.specs.Composed.{IsAdapter};
 ghost use Rattle.compose.specs.Assembled.{IsRight};
 
 use crate::fault::ComposeFault;
@@ -40,12 +41,21 @@ fn read(alloc: Global, bytes: &[u8]) -> Result<Component, ComposeFault>
     }
 }
 
-/// The adapter that bytes spell, which is valid by itself.
-pub fn adapter_in(alloc: Global, bytes: &[u8]) -> Result<Component, ComposeFault>
-    ensures { IfOk result (λ component. SpellsBare 0 (plain component) bytes.now) }
+/// The adapter that bytes spell, which is valid by itself and imports exactly what is needed.
+pub fn adapter_in(
+    alloc: Global,
+    policy: &Policy,
+    listed: &Listed,
+    bytes: &[u8],
+) -> Result<Component, ComposeFault>
+    ensures spelled { IfOk result (λ component. SpellsBare 0 (plain component) bytes.now) }
+    ensures right { IfOk result (λ component. IsAdapter policy.now listed.now.uses (plain component)) }
 {
     let component = read(alloc, bytes)?;
-    type_of(alloc, &component)?;
+    let adapter = type_of(alloc, &component)?;
+    if !are_needed(alloc, policy, listed, &adapter)? {
+        return Err(ComposeFault::Unsound);
+    }
     Ok(component)
 }
 

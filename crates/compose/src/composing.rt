@@ -3,7 +3,7 @@ ghost use Rattle.tree_table.specs.Trees.{AreTrees};
 ghost use Rattle.comp_grammar.specs.Trees.{plain};
 ghost use Rattle.adapter_world.specs.Names.{needed_count};
 ghost use Rattle.compose.specs.Composed.{IsComposed};
-ghost use Rattle.compose.specs.Assembled.{IsFront, IsAssembled};
+ghost use Rattle.compose.specs.Assembled.{HasAdapter, IsMade};
 
 use crate::assembled::{Assembled, Front, assemble, front_of};
 use crate::checked::{adapter_in, check};
@@ -129,16 +129,17 @@ fn parts(
     alloc: Global,
     policy: &Policy,
     trees: &Trees,
+    listed: &Listed,
     world: &World,
     exports: &InstanceEntries,
 ) -> Result<(Front, Vec<Piece<'static>>), ComposeFault>
     requires { AreTrees trees.now }
-    ensures { IfOk result (λ p. IsFront p.0) }
+    ensures { IfOk result (λ p. HasAdapter policy.now listed.now.uses p.0) }
 {
     let catalogue = Catalogue::new(alloc)?;
     let routines = routines_of(alloc, policy, trees, world)?;
     let bytes = adapter_bytes(alloc, &catalogue, world, &routines)?;
-    let component = adapter_in(alloc, bytes.as_slice())?;
+    let component = adapter_in(alloc, policy, listed, bytes.as_slice())?;
     let Around {
         imports,
         between,
@@ -149,6 +150,7 @@ fn parts(
 }
 
 /// The output and its parts, and how many functions of the host it imports.
+#[tactic(auto, using(crate::proofs::AssembleLaws::is_made))]
 fn made(
     alloc: Global,
     policy: &Policy,
@@ -159,11 +161,11 @@ fn made(
     size: u32,
 ) -> Result<(Assembled, u32), ComposeFault>
     requires { AreTrees trees.now }
-    ensures assembled { IfOk result (λ p. IsAssembled (plain component) size p.0) }
+    ensures made { IfOk result (λ p. IsMade policy.now listed.now.uses (plain component) size p.0) }
     ensures count { IfOk result (λ p. p.1 ≡ needed_count policy.now listed.now.uses) }
 {
     let world = world_of(alloc, policy, listed, ty)?;
-    let (front, behind) = parts(alloc, policy, trees, &world, &ty.exports)?;
+    let (front, behind) = parts(alloc, policy, trees, listed, &world, &ty.exports)?;
     let assembled = assemble(alloc, front, component, size, behind)?;
     Ok((assembled, world.needs.functions))
 }
