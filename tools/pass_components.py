@@ -460,8 +460,14 @@ PASSING = {
 }
 
 
+def all_passing(tables):
+    """Each listed function, and drops of each kind."""
+    return [name for _, functions in tables.values() for name in functions], [kind for kinds, _ in tables.values() for kind in kinds]
+
+
 if __name__ == "__main__":
     if len(sys.argv) != 2 or sys.argv[1].startswith("-"):
         sys.exit(__doc__)
     found = read_tables()
-    write_all(sys.argv[1], ((name, passes(found, functions, drops)) for name, (functions, drops) in PASSING.items()))
+    wanted = {**PASSING, "passes_all": all_passing(found)}
+    write_all(sys.argv[1], ((name, passes(found, functions, drops)) for name, (functions, drops) in wanted.items()))

@@ -5,6 +5,10 @@
 
 mod calling;
 #[cfg(test)]
+mod damaged;
+#[cfg(test)]
+mod imports;
+#[cfg(test)]
 mod memory;
 #[cfg(test)]
 mod policy_limits;

@@ -3,6 +3,7 @@
 use crate::calling::{add_file, files_of, no_contents, said, sink_of};
 use crate::settings::{failing, number, setting};
 use crate::texts::{bytes_of, halves};
+use crate::wrapped::{OUT, ROOM, words_for};
 use outside::{Contents, Entries, Entry, EntryKind, MemFiles, MemSink, Named};
 use std::alloc::Global;
 use virt_base::{Items, NoMemory, Text};
@@ -97,4 +98,45 @@ pub fn outcome(alloc: Global, settings: &[&str]) -> Option<String> {
     let mut out = sink_for(alloc, settings)?;
     let mut files = files_for(alloc, settings)?;
     comes(alloc, settings, &mut files, &mut out)
+}
+
+/// The files of a row, with room for what `virt` writes.
+fn files_to_wrap(alloc: Global, settings: &[&str]) -> Option<Box<MemFiles>> {
+    let mut files = files_for(alloc, settings)?;
+    files
+        .reserve(alloc, &Text::from_str(alloc, OUT).ok()?, ROOM)
+        .ok()?;
+    Some(files)
+}
+
+/// What comes of a run under a policy where its component is wrapped under the policy and what that wrote runs without one; or why
+/// nothing was written.
+pub fn wrapped_outcome(alloc: Global, settings: &[&str]) -> Option<String> {
+    let (wrap, run) = words_for(alloc, setting(settings, "$")?)?;
+    let mut files = files_to_wrap(alloc, settings)?;
+    let done = said(
+        alloc,
+        wrap.as_str(),
+        &mut *files,
+        &mut sink_for(alloc, settings)?,
+    )?;
+    if done.as_str().starts_with("0 ") {
+        said(
+            alloc,
+            run.as_str(),
+            &mut *files,
+            &mut sink_for(alloc, settings)?,
+        )
+    } else {
+        Some(done)
+    }
+}
+
+/// What an output imports: the end of what is said of it.
+pub fn imports_of(alloc: Global, settings: &[&str]) -> Option<String> {
+    let mut out = sink_for(alloc, settings)?;
+    let mut files = files_to_wrap(alloc, settings)?;
+    let done = said(alloc, setting(settings, "$")?, &mut *files, &mut out)?;
+    let (_, imports) = done.as_str().split_once("bytes out, ")?;
+    String::from_str(alloc, imports).ok()
 }

@@ -21,12 +21,18 @@ use std::test::Fail;
 pub enum Over {
     Memory,
     Untold,
+    /// Files in memory; a run under a policy is that of its wrapped component.
+    Wrapped,
+    /// Files in memory; of an output only what it imports is compared.
+    Imports,
 }
 
 fn outcome(alloc: Global, over: Over, settings: &[&str]) -> Option<String> {
     let said = match over {
         Over::Memory => memory::outcome(alloc, settings),
         Over::Untold => untold::outcome(alloc, settings),
+        Over::Wrapped => memory::wrapped_outcome(alloc, settings),
+        Over::Imports => memory::imports_of(alloc, settings),
     }?;
     said.as_str().replace(alloc, '\n', "&").ok()
 }

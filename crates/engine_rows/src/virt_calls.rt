@@ -139,6 +139,24 @@ fails 3 => 3 file fault: o& o=
 fails 4 => 3 file fault: o& o=`empty`0453
 fails 5 => 3 file fault: o& o=`empty`0453`seven`
 
+# An application with imports: its output is put in three pieces, too, and other files stay as they are
+a x `clock`
+p : clocks.monotonic = "allow"
+out 8192
+show p a
+$ virt a -p p -o o
+fails 0 => 3 file fault: p& `kept`
+fails 1 => 3 file fault: a& `kept`
+fails 2 => 3 file fault: o& `kept`
+fails 3 => 3 file fault: o& `kept`
+fails 4 => 3 file fault: o& `kept`
+fails 5 => 3 file fault: o& `kept`
+puts 0
+fails 6 => 4 `kept`
+show o
+fails 2 => 3 file fault: o&
+fails 3 => 3 file fault: o& o=
+
 # The calls of a folder that is mounted come between those of the application and of OUT
 a x `seven`
 p : fs.tree = [{ name = "/t", mount = "d" }]

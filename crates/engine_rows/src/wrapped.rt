@@ -7,17 +7,19 @@ use std::alloc::Global;
 use virt_base::Text;
 
 /// What `virt` writes has at most so many bytes.
-const ROOM: usize = 2_097_152;
+pub const ROOM: usize = 2_097_152;
 
 /// The name of what `virt` writes.
-const OUT: &str = "out.wasm";
+pub const OUT: &str = "out.wasm";
 
-/// The words that wrap the component of a run under a policy, and those that run what was written; none of other words.
-fn words_for(alloc: Global, words: &str) -> Option<(String, String)> {
-    let (run, policy) = words.split_once(" -p ")?;
+/// The words that wrap the component of a run under a policy, and those that run what was written, with what stands after the policy;
+/// none of other words.
+pub fn words_for(alloc: Global, words: &str) -> Option<(String, String)> {
+    let (run, rest) = words.split_once(" -p ")?;
     let (component, script) = run.strip_prefix("run ")?.split_once(" -s ")?;
+    let (policy, more) = rest.split_once(' ').unwrap_or((rest, ""));
     let wrap = format!(in alloc; "virt {component} -p {policy} -o {OUT}").ok()?;
-    let run = format!(in alloc; "run {OUT} -s {script}").ok()?;
+    let run = format!(in alloc; "run {OUT} -s {script} {more}").ok()?;
     Some((wrap, run))
 }
 
