@@ -18,7 +18,8 @@ use virt_base::NoMemory;
 #[derive(Debug, Clone, Copy, PartialEq, Eq)]
 pub struct InsufficientSpace;
 
-/// Files by number and name in so many blocks of memory, all of which is taken at the beginning.
+/// Files by number and name in so many blocks of memory, all of which is taken at the beginning. The bytes of a file stand
+/// in one piece.
 ///
 /// Contracts see the files as a map with a quota.
 #[derive(Debug, Drop)]
