@@ -27,6 +27,7 @@ FILES = {
     "behind.json": b'{"answers":[],"calls":[]}\n\n  x',
     "latin.json": b'{"answers":["\xe4"],"calls":[]}',
     "deep.json": b'{"answers":[{"value":' + b"[" * 125 + b"]" * 125 + b'}],"calls":[]}',
+    "great.json": b'{"answers":[1e999]}',
     "list.json": b"[]",
     "wrong.json": b'{"answers":[1],"calls":[]}',
     "good.json": b'{"answers":[],"calls":[]}',
@@ -48,11 +49,12 @@ ROWS = """
 1|virt seven.wasm -p latin.toml -o out.wasm|policy refused: not-toml|wasi-virt: latin.toml: line 2, column 3: *
 1|run clock_reader.wasm -s good.json -p no_value.toml|policy refused: not-toml|wasi-virt: no_value.toml: line 2, column 7: *
 1|virt seven.wasm -p key.toml -o out.wasm|policy refused: bad-key what|
-7|run seven.wasm -s cut.json|script refused: |wasi-virt: cut.json: line 1, column 13: no JSON from here on
-7|run seven.wasm -s sign.json|script refused: |wasi-virt: sign.json: line 2, column 11: no JSON from here on
-7|run seven.wasm -s behind.json|script refused: |wasi-virt: behind.json: line 3, column 3: no JSON from here on
-7|run seven.wasm -s latin.json|script refused: |wasi-virt: latin.json: line 1, column 14: no JSON from here on
-7|run seven.wasm -s deep.json|script refused: |wasi-virt: deep.json: line 1, column 146: no JSON from here on
+7|run seven.wasm -s cut.json|script refused: |wasi-virt: cut.json: EOF while parsing at line 1 column 12
+7|run seven.wasm -s sign.json|script refused: |wasi-virt: sign.json: invalid JSON at line 2 column 11
+7|run seven.wasm -s behind.json|script refused: |wasi-virt: behind.json: invalid JSON at line 3 column 3
+7|run seven.wasm -s latin.json|script refused: |wasi-virt: latin.json: invalid JSON at line 1 column 14
+7|run seven.wasm -s deep.json|script refused: |wasi-virt: deep.json: invalid JSON at line 1 column 147
+7|run seven.wasm -s great.json|script refused: |wasi-virt: great.json: number out of range at line 1 column 18
 7|run seven.wasm -s list.json|script refused: |
 7|run seven.wasm -s wrong.json|script refused: answers[0]|
 64|run|usage: wasi-virt virt APP -p POLICY -o OUT; run COMPONENT -s SCRIPT [-p POLICY] [--steps N]; gen N OUT|

@@ -1,13 +1,10 @@
-use json::{Reader, Scratch};
 use real_outside::RealFiles;
+use serde_json::Value as Json;
 use std::alloc::Global;
 use std::{fs, io};
 use virt_base::Text;
 use virt_engine::{PolicyFault, Status};
 use virt_words::{Command, RunWords, VirtWords, read_words};
-
-/// Arrays and objects of a script stand at most so deep in one another.
-const DEPTH: usize = 127;
 
 /// A place in a text, by its line and the character in it, both from 1.
 #[derive(Clone, Copy)]
@@ -27,31 +24,6 @@ fn place_of(text: &[u8], offset: usize) -> Place {
         }
     }
     place
-}
-
-/// Where a text that is no JSON stops to be one.
-fn json_stop(alloc: Global, text: &str) -> Option<usize> {
-    let mut scratch = Scratch::new(alloc);
-    let Ok(mut reader) = Reader::new(text, &mut scratch) else {
-        return None;
-    };
-    if reader.skip_value(DEPTH).is_err() {
-        return Some(reader.offset());
-    }
-    let end = reader.offset();
-    if reader.next().is_some() {
-        Some(end)
-    } else {
-        None
-    }
-}
-
-/// The same of bytes, which may be no text.
-fn script_stop(alloc: Global, bytes: &[u8]) -> Option<usize> {
-    match str::from_utf8(bytes) {
-        Ok(text) => json_stop(alloc, text),
-        Err(e) => Some(e.valid_up_to()),
-    }
 }
 
 /// The bytes of a file once more; none of what can be read only once, as a pipe.
@@ -115,14 +87,15 @@ fn say_policy(rt: &HostRuntime, name: &Text) -> io::Result<()> {
     }
 }
 
-/// Where a script is no JSON.
+/// Where a script is no JSON, and why, in the words of its reader.
 fn say_script(rt: &HostRuntime, name: &Text) -> io::Result<()> {
     let Some(bytes) = bytes_of(rt, name) else {
         return Ok(());
     };
-    match script_stop(rt.alloc(), bytes.as_slice()) {
-        Some(offset) => say_place(rt, name, bytes.as_slice(), offset, "no JSON from here on"),
-        None => Ok(()),
+    let name = name.as_str();
+    match Json::from_slice(rt.alloc(), bytes.as_slice()) {
+        Ok(_) => Ok(()),
+        Err(e) => eprintln!(rt; "wasi-virt: {name}: {e}"),
     }
 }
 
