@@ -39,6 +39,9 @@ fn virt_of(alloc: Global, app: Vec<u8>) -> Option<String> {
 /// Whether an application with `FF` at a place is refused as malformed or as unsupported, and no output made.
 fn is_refused(alloc: Global, piece: &str, place: usize) -> Option<bool> {
     let mut app = bytes_of(alloc, "x", piece)?;
+    if place >= app.len() {
+        return None;
+    }
     app[place] = 0xFF;
     let said = virt_of(alloc, app)?;
     let refused = said.as_str().strip_prefix("2 application refused: ")?;
