@@ -151,11 +151,12 @@ fails 2 => 3 file fault: o& `kept`
 fails 3 => 3 file fault: o& `kept`
 fails 4 => 3 file fault: o& `kept`
 fails 5 => 3 file fault: o& `kept`
-puts 0
-fails 6 => 4 `kept`
 show o
 fails 2 => 3 file fault: o&
 fails 3 => 3 file fault: o& o=
+show p a
+fails 6
+puts 0 => 4 `kept`
 
 # The calls of a folder that is mounted come between those of the application and of OUT
 a x `seven`
