@@ -9,7 +9,7 @@ use Rattle.tree_table.specs.declared.entries.Node.TheVariants.{Link}
 use Rattle.tree_table.specs.declared.entries.Entry.{Entry}
 use Rattle.tree_table.specs.declared.entries.NamedTree.{NamedTree}
 use Rattle.tree_table.specs.Trees.{AreTrees, entries_of}
-use Rattle.mount_tree.specs.Legal.{AreLegal, IsLegal, KeepsNode}
+use Rattle.mount_tree.specs.Legal.{AreLegal, IsLegal, IsLinkTarget, KeepsNode}
 use Rattle.mount_tree.specs.Woods.{AreBuilt}
 
 found : {A : Type 0} (P : A → Type 0) (xs : List A) (i : ℕ) (x : A) → All P xs → slice_get xs i ≡ Some x → P x
@@ -20,10 +20,15 @@ legal_by : (trees : List NamedTree) (t i : ℕ) (e : Entry) (tree : Option Named
 legal_by trees t i e None all none there = let within : i < length {A = Entry} [] = slice_get_within [] i e there in absurd (omega (arith, within))
 legal_by trees t i e (Some tree) all is there = found IsLegal tree.entries i e (found (λ (it : NamedTree). AreLegal it.entries) trees t tree all is) there
 
+pub built_legal : (trees : List NamedTree) → AreBuilt trees → (t i : ℕ) (e : Entry) → slice_get (entries_of trees t) i ≡ Some e → IsLegal e
+built_legal trees built t i e there = legal_by trees t i e (slice_get trees t) built.legal refl there
+
+-- a link leads to what a link may lead to
+pub built_target : (trees : List NamedTree) → AreBuilt trees → (t i : ℕ) (e : Entry) (target : List ℕ) → slice_get (entries_of trees t) i ≡ Some e → e.node ≡ Link target → IsLinkTarget target
+built_target trees built t i e target there is = subst KeepsNode is (built_legal trees built t i e there).kept
+
 pub built_texts : (trees : List NamedTree) → AreBuilt trees → (t i : ℕ) (e : Entry) (target : List ℕ) → slice_get (entries_of trees t) i ≡ Some e → e.node ≡ Link target → IsUtf8 target
-built_texts trees built t i e target there is =
-    let legal = legal_by trees t i e (slice_get trees t) built.legal refl there in
-    (subst KeepsNode is legal.kept).1
+built_texts trees built t i e target there is = (built_target trees built t i e target there is).1
 
 pub built_sound : (trees : List NamedTree) → AreBuilt trees → AreTrees trees
 built_sound trees built = built.sound

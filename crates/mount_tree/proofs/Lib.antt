@@ -13,3 +13,4 @@ pub mod TreeLemmas
 pub mod SpotLemmas
 pub mod BuiltTexts
 pub mod MapLaws
+pub mod TargetLemmas

@@ -189,18 +189,18 @@ count-is (m ∷ ms) [] h = absurd h
 count-is (m ∷ ms) (x ∷ xs) h =
     omega (arith, length_permutation m.nodes x.entries h.0.same, count-is ms xs h.1, sum_by-cons (λ (tree : MadeTree). length tree.nodes) m ms)
 
-bytes-are : (made : List MadeTree) (trees : List NamedTree) → AreOrdered made trees → total file_length trees ≡ made_bytes made
-bytes-are [] [] h = refl
-bytes-are [] (x ∷ xs) h = absurd h
-bytes-are (m ∷ ms) [] h = absurd h
-bytes-are (m ∷ ms) (x ∷ xs) h =
-    omega (arith, total-kept file_length m.nodes x.entries h.0.same, bytes-are ms xs h.1, sum_by-cons (λ (tree : MadeTree). total_in file_length tree.nodes) m ms)
+pub totals-are : (size : Node → ℕ) (made : List MadeTree) (trees : List NamedTree) → AreOrdered made trees → total size trees ≡ sum_by (λ (tree : MadeTree). total_in size tree.nodes) made
+totals-are size [] [] h = refl
+totals-are size [] (x ∷ xs) h = absurd h
+totals-are size (m ∷ ms) [] h = absurd h
+totals-are size (m ∷ ms) (x ∷ xs) h =
+    omega (arith, total-kept size m.nodes x.entries h.0.same, totals-are size ms xs h.1, sum_by-cons (λ (tree : MadeTree). total_in size tree.nodes) m ms)
 
 pub are-built : (forest : Forest) (trees : List NamedTree) → IsWood forest → AreOrdered forest.trees trees → AreBuilt trees
 are-built forest trees wood h = record {
   sound = record { each = trees-are forest.trees trees wood.made h; nodes = omega (arith, count-is forest.trees trees h, wood.count, wood.few) };
   legal = legal-are forest.trees trees wood.made h;
-  light = omega (arith, bytes-are forest.trees trees h, wood.held, wood.light);
+  light = omega (arith, totals-are file_length forest.trees trees h, wood.held, wood.light);
 }
 
 -- ---- one more tree

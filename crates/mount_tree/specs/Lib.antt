@@ -10,3 +10,4 @@ pub mod Building
 pub mod Entering
 pub mod Woods
 pub mod Ordered
+pub mod Targets

@@ -1,7 +1,8 @@
-ghost use Rattle.std.specs.Prelude.{◌≡◌, ◌+◌, ◌*◌, IfOk};
+ghost use Rattle.std.specs.Prelude.{◌≡◌, ◌+◌, ◌*◌, ◌≤◌, IfOk};
 ghost use Rattle.mount_tree.specs.Runs.{Gives, each};
 ghost use Rattle.mount_tree.specs.Building.{below, inside, mount_due};
 ghost use Rattle.mount_tree.specs.Entering.{Enters};
+ghost use Rattle.mount_tree.specs.Targets.{targets_of};
 ghost use Rattle.mount_tree.specs.Legal.{IsFolderPath, is_entry_name};
 
 use crate::fault::{TreeFault, bad_name};
@@ -66,7 +67,8 @@ fn add_entry<F: Files>(
     entry: &Entry,
 ) -> Result<Entered, TreeFault>
     requires { IsFolderPath path.now }
-    ensures { Enters folder.now path.now making entry.now (F.state files.old) (F.state files.new) result }
+    ensures enters { Enters folder.now path.now making entry.now (F.state files.old) (F.state files.new) result }
+    ensures targets { IfOk result (λ entered. targets_of entered.making ≤ targets_of making) }
 {
     if !is_entry_name(&entry.name) {
         return Err(bad_name(alloc, &entry.name));
@@ -102,7 +104,8 @@ pub fn add_contents<F: Files>(
     levels: usize,
 ) -> Result<Making, TreeFault>
     requires { IsFolderPath path.now }
-    ensures { Gives (mount_due levels (F.state files.old).held folder.now path.now making) (F.state files.old) (F.state files.new) result }
+    ensures gives { Gives (mount_due levels (F.state files.old).held folder.now path.now making) (F.state files.old) (F.state files.new) result }
+    ensures targets { IfOk result (λ made. targets_of made ≤ targets_of making) }
 {
     if levels == 0 {
         return Ok(making);

@@ -1,8 +1,9 @@
-ghost use Rattle.std.specs.Prelude.{◌≡◌, All, true};
+ghost use Rattle.std.specs.Prelude.{◌≡◌, ◌+◌, ◌≤◌, All, IfOk, true};
 ghost use Rattle.path_names.specs.Paths.{is_path, is_target};
 ghost use Rattle.mount_tree.specs.Legal.{ArePaths};
 ghost use Rattle.mount_tree.specs.Runs.{Gives, Says, each};
 ghost use Rattle.mount_tree.specs.Building.{embedded_due, file_step, folder_step, link_step};
+ghost use Rattle.mount_tree.specs.Targets.{link_targets, targets_of};
 ghost use Rattle.policy_data.specs.declared.data.EmbeddedFile.{EmbeddedFile};
 ghost use Rattle.policy_data.specs.declared.data.Link.{Link};
 
@@ -16,7 +17,7 @@ use tree_table::Node;
 use virt_base::{Text, copy_bytes};
 
 /// Adds a file.
-#[tactic(auto, using(crate::proofs::StepLemmas::file_unreached, crate::proofs::StepLemmas::file_unread, crate::proofs::StepLemmas::file_added, crate::proofs::StepLemmas::file_memory))]
+#[tactic(auto, using(crate::proofs::StepLemmas::file_unreached, crate::proofs::StepLemmas::file_unread, crate::proofs::StepLemmas::file_added, crate::proofs::StepLemmas::file_memory, crate::proofs::TargetLemmas::file_targets))]
 pub fn add_file<F: Files>(
     alloc: Global,
     files: &mut F,
@@ -25,7 +26,8 @@ pub fn add_file<F: Files>(
     content: &Content,
 ) -> Result<Making, TreeFault>
     requires { is_path path.now ≡ true }
-    ensures { Gives (file_step (F.state files.old).held making path.now content.now) (F.state files.old) (F.state files.new) result }
+    ensures gives { Gives (file_step (F.state files.old).held making path.now content.now) (F.state files.old) (F.state files.new) result }
+    ensures targets { IfOk result (λ made. targets_of made ≤ targets_of making) }
 {
     let place = making.reach(alloc, path)?;
     let Reached { making, spot } = place;
@@ -66,7 +68,8 @@ fn add_files<F: Files>(
     embedded: &[EmbeddedFile],
 ) -> Result<Making, TreeFault>
     requires { All (λ (file : EmbeddedFile). is_path file.path ≡ true) embedded.now }
-    ensures { Gives (each (λ s (file : EmbeddedFile). file_step (F.state files.old).held s file.path file.content) making embedded.now) (F.state files.old) (F.state files.new) result }
+    ensures gives { Gives (each (λ s (file : EmbeddedFile). file_step (F.state files.old).held s file.path file.content) making embedded.now) (F.state files.old) (F.state files.new) result }
+    ensures targets { IfOk result (λ made. targets_of made ≤ targets_of making) }
 {
     let mut made = making;
     let mut rest = embedded;
@@ -112,7 +115,8 @@ pub fn add_embedded<F: Files>(
     embedded: &Embedded,
 ) -> Result<Making, TreeFault>
     requires { ArePaths embedded.now }
-    ensures { Gives (embedded_due (F.state files.old).held making embedded.now) (F.state files.old) (F.state files.new) result }
+    ensures gives { Gives (embedded_due (F.state files.old).held making embedded.now) (F.state files.old) (F.state files.new) result }
+    ensures targets { IfOk result (λ made. targets_of made ≤ targets_of making + link_targets embedded.now.links) }
 {
     let filed = add_files(alloc, files, making, embedded.files.as_slice())?;
     let housed = add_folders(alloc, filed, embedded.folders.as_slice())?;

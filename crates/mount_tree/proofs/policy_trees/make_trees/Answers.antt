@@ -1,8 +1,10 @@
+use Rattle.std.proofs.Common.{arith}
 use Rattle.std.proofs.lemmas.List.Elements.{All-rest}
 use Rattle.std.proofs.lemmas.Result.{err_from_is_err_and}
 use Rattle.mount_tree.specs.Building.{tree_step, trees_due}
 use Rattle.mount_tree.specs.Legal.{IsSource}
 use Rattle.mount_tree.proofs.Follows.{each_on, each_stop}
+use Rattle.mount_tree.proofs.TargetLemmas.{sources_left}
 use Rattle.mount_tree.proofs.policy_trees.make_trees.Goals as goal
 
 pub returns-in_err-forest-clause-gives : goal.returns-in_err-forest-clause-gives
@@ -19,4 +21,5 @@ loop-source-preserved g c = record {
       c.loop-source.invariant.due c.in-Some.ensures.cases.0 c.in_ok-forest.ensures.gives;
   wood = c.in_ok-forest.ensures.wood;
   sources = All-rest IsSource c.in-Some.source.now c.in-Some.more.now c.loop-source.rest.now c.in-Some.ensures.cases.0 c.loop-source.invariant.sources;
+  targets = omega (arith, c.in_ok-forest.ensures.targets, sources_left c.in-Some.source.now c.in-Some.more.now c.loop-source.rest.now c.in-Some.ensures.cases.0, c.loop-source.invariant.targets);
 }
