@@ -6,7 +6,7 @@ use std::test::Fail;
 /// structs, and each key of a policy where it says what an empty policy says.
 const UNSAID: &str =
     "Items { items: |Text { chars: |Policy { |Variable { |WallTime { |Pass { |EmbeddedFile { |Link { |\
-    Embedded { |TreeSource { |Scratch { |PortRange { |Rule { |NetRules { |Network { |VirtWords { |RunWords { |GenWords { | }|\
+    Embedded { |TreeSource { |Scratch { |PortRange { |Rule { |NetRules { |Network { |VirtWords { |RunWords { |GenWords { |PlugWords { | }|\
     , deny: Trap|, transfer_limit: 16777216|, slots: 256|, env_pass: false|, env_allow: []|, env_set: []|\
     , env_arguments: Deny|, env_cwd: Deny|, stdio_stdin: Deny|, stdio_stdout: Deny|, stdio_stderr: Deny|\
     , clocks_wall: Deny|, clocks_monotonic: Deny|, random: Deny|, exit: Deny|, sockets: Deny|, fs_host: Deny|\

@@ -49,7 +49,14 @@ gen 0 o => Err(Usage)
 gen 012 o => Err(Usage)
 gen o => Err(Usage)
 gen 12 o x => Err(Usage)
-gen 12 o -p x => Err(Usage)"#;
+gen 12 o -p x => Err(Usage)
+plug a b -p x -o y => Ok(Plug(first: "a", second: "b", policy: "x", out: "y"))
+plug -oy a --policy=x b => Ok(Plug(first: "a", second: "b", policy: "x", out: "y"))
+plug a -p x -o y => Err(Usage)
+plug a b c -p x -o y => Err(Usage)
+plug a b -o y => Err(Usage)
+plug a b -p x => Err(Usage)
+plug a b -p x -o y --steps 3 => Err(Usage)"#;
 
 pub fn said(alloc: Global, line: &str) -> Result<String, Fail> {
     let mut words = Vec::new(alloc);

@@ -11,8 +11,8 @@ use Rattle.clap.proofs.WalkLemmas.{first_value-rows}
 use Rattle.virt_words.specs.declared.command.WordsFault.{WordsFault}
 use Rattle.virt_words.specs.declared.command.WordsFault.TheVariants.{Usage, NoMemory}
 use Rattle.virt_words.specs.declared.command.Command.{Command}
-use Rattle.virt_words.specs.Apps.{virt_app, run_app, gen_app}
-use Rattle.virt_words.specs.Words.{IsRefused, Matches, Reads, unless_refused, words_of, virt_from, virt_in, virt_words, run_from, run_in, run_words, gen_from, gen_in, gen_words}
+use Rattle.virt_words.specs.Apps.{virt_app, run_app, gen_app, plug_app}
+use Rattle.virt_words.specs.Words.{IsRefused, Matches, Reads, unless_refused, words_of, virt_from, virt_in, virt_words, run_from, run_in, run_words, gen_from, gen_in, gen_words, plug_from, plug_in, plug_words}
 
 pub virt_is_free : is_simple_and_free virt_app ≡ true
 unfolding clap_on_literals
@@ -37,6 +37,14 @@ gen_is_free = refl
 pub gen_is_simple : is_simple gen_app ≡ true
 unfolding clap_on_literals
 gen_is_simple = refl
+
+pub plug_is_free : is_simple_and_free plug_app ≡ true
+unfolding clap_on_literals
+plug_is_free = refl
+
+pub plug_is_simple : is_simple plug_app ≡ true
+unfolding clap_on_literals
+plug_is_simple = refl
 
 map_self : (ws : List (List ℕ)) → map (λ t. t) ws ≡ ws
 map_self [] = refl
@@ -70,7 +78,7 @@ pub parse_err : (app : App) (ws : List (List ℕ)) (e : Error) (f : WordsFault) 
     → Matches app ws (Err f)
 parse_err app ws e f free kinds n = of_words app (Err f) ws (fault_says app (map (λ t. t) ws) e f (kinds free) n)
 
--- ---- the three commands
+-- ---- the four commands
 
 passed : (kinds : Kinds) (o : Option Command) → kinds ≡ [] → unless_refused kinds o ≡ o
 passed kinds o none = rw (none) refl
@@ -93,6 +101,10 @@ run_taken ws m h = rw (h.1 (codes "COMPONENT"), h.1 (codes "script"), h.1 (codes
 gen_taken : (ws : List (List ℕ)) (m : ArgMatches) → Matches gen_app ws (Ok m)
     → gen_from (first_value (found_of m) (codes "N")) (first_value (found_of m) (codes "OUT")) ≡ gen_words ws
 gen_taken ws m h = rw (h.1 (codes "N"), h.1 (codes "OUT")) (sym (passed (fault_of gen_app ws) _ h.0))
+
+plug_taken : (ws : List (List ℕ)) (m : ArgMatches) → Matches plug_app ws (Ok m)
+    → plug_from (first_value (found_of m) (codes "A")) (first_value (found_of m) (codes "B")) (first_value (found_of m) (codes "policy")) (first_value (found_of m) (codes "out")) ≡ plug_words ws
+plug_taken ws m h = rw (h.1 (codes "A"), h.1 (codes "B"), h.1 (codes "policy"), h.1 (codes "out")) (sym (passed (fault_of plug_app ws) _ h.0))
 
 stops : (app due : App) (taken : List Row → Option Command) (ws : List (List ℕ)) (f : WordsFault) → app ≡ due → Matches app ws (Err f) → Reads (words_of due taken ws) (Err f)
 stops app due taken ws Usage is h = refused_words due taken ws (subst (λ a. Matches a ws (Err Usage)) is h)
@@ -118,3 +130,10 @@ gen_reads app ws m r is h reads = subst (λ due. Reads due r) (gen_taken ws m (s
 
 pub gen_stops : (app : App) (ws : List (List ℕ)) (f : WordsFault) → app ≡ gen_app → Matches app ws (Err f) → Reads (gen_words ws) (Err f)
 gen_stops app ws f is h = stops app gen_app gen_in ws f is h
+
+pub plug_reads : (app : App) (ws : List (List ℕ)) (m : ArgMatches) (r : Result Command WordsFault) → app ≡ plug_app → Matches app ws (Ok m)
+    → Reads (plug_from (first_value (found_of m) (codes "A")) (first_value (found_of m) (codes "B")) (first_value (found_of m) (codes "policy")) (first_value (found_of m) (codes "out"))) r → Reads (plug_words ws) r
+plug_reads app ws m r is h reads = subst (λ due. Reads due r) (plug_taken ws m (subst (λ a. Matches a ws (Ok m)) is h)) reads
+
+pub plug_stops : (app : App) (ws : List (List ℕ)) (f : WordsFault) → app ≡ plug_app → Matches app ws (Err f) → Reads (plug_words ws) (Err f)
+plug_stops app ws f is h = stops app plug_app plug_in ws f is h

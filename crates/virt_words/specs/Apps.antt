@@ -35,3 +35,8 @@ run_app = with_rule (with_rule (with_rule (with_rule (plain_app (codes "run")) (
 -- `N` and `OUT`
 abbrev pub gen_app : App
 gen_app = with_rule (with_rule (plain_app (codes "gen")) (positional (codes "N"))) (positional (codes "OUT"))
+
+-- `A` and `B`, with `-p` and `-o`
+abbrev pub plug_app : App
+plug_app = with_rule (with_rule (with_rule (with_rule (plain_app (codes "plug")) (positional (codes "A"))) (positional (codes "B")))
+    (required_option (codes "policy") 112)) (required_option (codes "out") 111)

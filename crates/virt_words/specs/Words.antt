@@ -6,8 +6,8 @@ use Rattle.clap.specs.declared.parser.matches.ArgMatches.{ArgMatches}
 use Rattle.virt_words.specs.declared.command.WordsFault.{WordsFault}
 use Rattle.virt_words.specs.declared.command.WordsFault.TheVariants.{Usage, NoMemory}
 use Rattle.virt_words.specs.declared.command.Command.{Command}
-use Rattle.virt_words.specs.declared.command.Command.TheVariants.{Virt, Run, Gen}
-use Rattle.virt_words.specs.Apps.{virt_app, run_app, gen_app}
+use Rattle.virt_words.specs.declared.command.Command.TheVariants.{Virt, Run, Gen, Plug}
+use Rattle.virt_words.specs.Apps.{virt_app, run_app, gen_app, plug_app}
 use Rattle.virt_words.specs.Numbers.{number_in}
 
 -- ---- what the values of a command say
@@ -31,6 +31,10 @@ run_from component script policy steps = run_by component script policy (steps_i
 abbrev pub gen_from : Option (List ℕ) → Option (List ℕ) → Option Command
 gen_from (Some functions) (Some out) = option_map (λ n. Gen (record { functions = n; out = out })) (number_in 1000 functions)
 gen_from _ _ = None
+
+abbrev pub plug_from : Option (List ℕ) → Option (List ℕ) → Option (List ℕ) → Option (List ℕ) → Option Command
+plug_from (Some first) (Some second) (Some policy) (Some out) = Some (Plug (record { first = first; second = second; policy = policy; out = out }))
+plug_from _ _ _ _ = None
 
 -- ---- the words behind the action, as `clap` takes them
 
@@ -60,6 +64,12 @@ gen_in rows = gen_from (first_of (codes "N") rows) (first_of (codes "OUT") rows)
 abbrev pub gen_words : List (List ℕ) → Option Command
 gen_words words = words_of gen_app gen_in words
 
+abbrev pub plug_in : List Row → Option Command
+plug_in rows = plug_from (first_of (codes "A") rows) (first_of (codes "B") rows) (first_of (codes "policy") rows) (first_of (codes "out") rows)
+
+abbrev pub plug_words : List (List ℕ) → Option Command
+plug_words words = words_of plug_app plug_in words
+
 -- ---- all words: the first names the action
 
 abbrev pub command_of : List (List ℕ) → Option Command
@@ -67,7 +77,8 @@ command_of [] = None
 command_of (action ∷ words) =
     if bytes_eq action (codes "virt") then virt_words words
     else (if bytes_eq action (codes "run") then run_words words
-    else (if bytes_eq action (codes "gen") then gen_words words else None))
+    else (if bytes_eq action (codes "gen") then gen_words words
+    else (if bytes_eq action (codes "plug") then plug_words words else None)))
 
 -- the command that is due, unless memory ran out
 abbrev pub Reads : Option Command → Result Command WordsFault → Type 0

@@ -1,6 +1,6 @@
 ghost use Rattle.std.specs.Prelude.{◌≡◌, IfOk, false};
 ghost use Rattle.clap.specs.Words.{app_of, rule_of};
-ghost use Rattle.virt_words.specs.Apps.{plain_app, positional, option_named, long_option, required_option, virt_app, run_app, gen_app};
+ghost use Rattle.virt_words.specs.Apps.{plain_app, positional, option_named, long_option, required_option, virt_app, run_app, gen_app, plug_app};
 
 use clap::{Arg, Command};
 use std::alloc::{AllocError, Global};
@@ -79,4 +79,19 @@ pub fn gen_command<'a>(alloc: Global) -> Result<Command<'a>, AllocError>
     let functions = word(alloc, "N");
     let out = word(alloc, "OUT");
     plain(alloc, "gen").arg(functions)?.arg(out)
+}
+
+/// The command after `plug`.
+pub fn plug_command<'a>(alloc: Global) -> Result<Command<'a>, AllocError>
+    ensures { IfOk result (λ c. app_of c ≡ plug_app) }
+{
+    let first = word(alloc, "A");
+    let second = word(alloc, "B");
+    let policy = needed(alloc, "policy", 'p');
+    let out = needed(alloc, "out", 'o');
+    plain(alloc, "plug")
+        .arg(first)?
+        .arg(second)?
+        .arg(policy)?
+        .arg(out)
 }

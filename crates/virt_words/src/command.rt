@@ -26,12 +26,23 @@ pub struct GenWords {
     pub out: Text,
 }
 
+/// The two components that `plug` makes one of, and the names that it works on besides.
+#[derive(Debug, Drop)]
+pub struct PlugWords {
+    /// The component that meets imports of the other.
+    pub first: Text,
+    pub second: Text,
+    pub policy: Text,
+    pub out: Text,
+}
+
 /// What the words of a command line ask for.
 #[derive(Debug, Drop)]
 pub enum Command {
     Virt(VirtWords),
     Run(RunWords),
     Gen(GenWords),
+    Plug(PlugWords),
 }
 
 /// Why words give no command.

@@ -1,4 +1,4 @@
-//! What the words of a command line say: `virt`, `run` or `gen`, each a simple command that `clap` reads; and the lines that a program
+//! What the words of a command line say: `virt`, `run`, `gen` or `plug`, each a simple command that `clap` reads; and the lines that a program
 //! puts out.
 #![tactic(auto)]
 
@@ -8,6 +8,6 @@ mod lines;
 mod numbers;
 mod reading;
 
-pub use command::{Command, GenWords, RunWords, VirtWords, WordsFault};
+pub use command::{Command, GenWords, PlugWords, RunWords, VirtWords, WordsFault};
 pub use lines::put_lines;
 pub use reading::read_words;

@@ -1,9 +1,9 @@
 ghost use Rattle.std.specs.Prelude.{◌≡◌, IfOk, codes, option_map, true};
 ghost use Rattle.clap.specs.Words.{app_of, first_value, found_of, is_simple, is_simple_and_free, kind_of};
-ghost use Rattle.virt_words.specs.Words.{Matches, Reads, command_of, gen_from, gen_words, run_from, run_words, steps_in, virt_from, virt_words};
+ghost use Rattle.virt_words.specs.Words.{Matches, Reads, command_of, gen_from, gen_words, plug_from, plug_words, run_from, run_words, steps_in, virt_from, virt_words};
 
-use crate::apps::{gen_command, run_command, virt_command};
-use crate::command::{Command, GenWords, RunWords, VirtWords, WordsFault};
+use crate::apps::{gen_command, plug_command, run_command, virt_command};
+use crate::command::{Command, GenWords, PlugWords, RunWords, VirtWords, WordsFault};
 use crate::numbers::number_in;
 use clap::error::ErrorKind;
 use clap::{ArgMatches, Error};
@@ -120,6 +120,28 @@ fn gen_from(alloc: Global, matches: &ArgMatches<'_>) -> Result<Command, WordsFau
     }
 }
 
+fn plug_from(alloc: Global, matches: &ArgMatches<'_>) -> Result<Command, WordsFault>
+    ensures { Reads (plug_from (first_value (found_of matches.now) (codes "A")) (first_value (found_of matches.now) (codes "B")) (first_value (found_of matches.now) (codes "policy")) (first_value (found_of matches.now) (codes "out"))) result }
+{
+    let (first, second) = (matches.get_str("A"), matches.get_str("B"));
+    let (policy, out) = (matches.get_str("policy"), matches.get_str("out"));
+    match (first, second, policy, out) {
+        (Some(first), Some(second), Some(policy), Some(out)) => {
+            let first = Text::from_str(alloc, first)?;
+            let second = Text::from_str(alloc, second)?;
+            let policy = Text::from_str(alloc, policy)?;
+            let out = Text::from_str(alloc, out)?;
+            Ok(Command::Plug(PlugWords {
+                first,
+                second,
+                policy,
+                out,
+            }))
+        }
+        _ => Err(WordsFault::Usage),
+    }
+}
+
 #[tactic(auto, using(crate::proofs::Refusals::virt_reads, crate::proofs::Refusals::virt_stops))]
 fn read_virt(alloc: Global, words: &[Text]) -> Result<Command, WordsFault>
     ensures { Reads (virt_words words.now) result }
@@ -159,6 +181,19 @@ fn read_gen(alloc: Global, words: &[Text]) -> Result<Command, WordsFault>
     }
 }
 
+#[tactic(auto, using(crate::proofs::Refusals::plug_reads, crate::proofs::Refusals::plug_stops))]
+fn read_plug(alloc: Global, words: &[Text]) -> Result<Command, WordsFault>
+    ensures { Reads (plug_words words.now) result }
+{
+    let Ok(command) = plug_command(alloc) else {
+        return Err(WordsFault::NoMemory);
+    };
+    match matches_of(command, words) {
+        Ok(matches) => plug_from(alloc, &matches),
+        Err(fault) => Err(fault),
+    }
+}
+
 /// The command of the words behind the program's name. The first names the action; the rest is read with `clap` as one
 /// simple command, without a help or version flag: options with one value each, in any order and each at most once, and
 /// the words that have to be there. `Usage` exactly where the words give no command.
@@ -172,6 +207,7 @@ pub fn read_words(alloc: Global, words: &[Text]) -> Result<Command, WordsFault>
         "virt" => read_virt(alloc, rest),
         "run" => read_run(alloc, rest),
         "gen" => read_gen(alloc, rest),
+        "plug" => read_plug(alloc, rest),
         _ => Err(WordsFault::Usage),
     }
 }
