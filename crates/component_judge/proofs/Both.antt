@@ -28,11 +28,11 @@ goes_on s t u a b = record {
 }
 
 -- one file stays as it was
-file_stays : (name : List ℕ) (s t : FilesState) → t.held ≡ s.held → t.held.file name ≡ s.held.file name
+pub file_stays : (name : List ℕ) (s t : FilesState) → t.held ≡ s.held → t.held.file name ≡ s.held.file name
 file_stays name s t stays = ap (λ (h : Held). h.file name) stays
 
 -- why a file did not do that was read behind another
-earlier : (name what : List ℕ) (limit : ℕ) (Refuses : List ℕ → Refusal → Type 0) (s t u : FilesState) (e : Unready) → Goes s t → t.held ≡ s.held
+pub earlier : (name what : List ℕ) (limit : ℕ) (Refuses : List ℕ → Refusal → Type 0) (s t u : FilesState) (e : Unready) → Goes s t → t.held ≡ s.held
     → Cause name what limit Refuses t u e → Cause name what limit Refuses s u e
 earlier name what limit Refuses s t u (FileFault kept) goes stays h = record {
   asked = h.asked;

@@ -18,7 +18,7 @@ mod unready;
 mod whole;
 
 pub use application::{Application, judge_application};
-pub use component::{Judged, judge_component};
+pub use component::{Judged, judge_component, sound_component};
 pub use fetching::fetch;
 pub use functions::callable;
 pub use inputs::{Fetched, Inputs, ListedInputs, fetch_inputs, fetch_listed, fetch_wrapped};

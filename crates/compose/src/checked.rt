@@ -8,8 +8,8 @@ ghost use Rattle.compose.specs.Composed.{IsAdapter};
 ghost use Rattle.compose.specs.Assembled.{IsRight};
 
 use crate::fault::ComposeFault;
-use crate::same::same_exports;
 use adapter_world::are_needed;
+use comp_pair::same_exports;
 use comp_read::{CompReadFault, read_component};
 use comp_signature::ComponentType;
 use comp_types::InstanceEntries;

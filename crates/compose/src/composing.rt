@@ -5,16 +5,18 @@ ghost use Rattle.adapter_world.specs.Names.{needed_count};
 ghost use Rattle.compose.specs.Composed.{IsComposed};
 ghost use Rattle.compose.specs.Assembled.{HasAdapter, IsMade};
 
-use crate::assembled::{Assembled, Front, assemble, front_of};
 use crate::checked::{adapter_in, check};
 use crate::composed::Composed;
 use crate::fault::{ComposeFault, of_emit, of_piece};
 use adapter_bytes::{EmittedBytes, Routines, emit_bytes};
 use adapter_rows::{RowsFault, is_sound, rows_for};
 use adapter_world::{World, world_of};
+use comp_pair::{Assembled, Front, assemble, front_of};
 use comp_signature::ComponentType;
 use comp_types::InstanceEntries;
-use compose_trees::{Catalogue, Sections, adapter, behind, between, import_world, needed};
+use compose_trees::{
+    Catalogue, Sections, adapter, behind, between, given_in_order, import_world, needed,
+};
 use policy_data::Policy;
 use std::alloc::Global;
 use tree_table::Trees;
@@ -111,13 +113,19 @@ fn sections_around(
     let imports = import_world(alloc, catalogue, interfaces.as_slice(), &mut out)?;
     let names = imported(alloc, world)?;
     let taken = taken(alloc, world)?;
+    let given = given_in_order(alloc, names.as_slice(), 0)?;
+    let aliased = imports.instances.saturating_add(1);
+    let handed = given_in_order(alloc, taken.as_slice(), aliased)?;
+    let Ok(count) = u32::try_from(taken.len()) else {
+        return Err(NoMemory);
+    };
     Ok(Around {
         imports: out.into_pieces(),
-        between: between(alloc, names.as_slice(), taken.as_slice())?,
+        between: between(alloc, given.as_slice(), imports.instances, taken.as_slice())?,
         behind: behind(
             alloc,
-            names.as_slice(),
-            taken.as_slice(),
+            handed.as_slice(),
+            aliased.saturating_add(count),
             imports.types,
             exports,
         )?,
@@ -190,7 +198,7 @@ pub fn compose(
         return Err(ComposeFault::TooLong);
     }
     let (assembled, needed) = made(alloc, policy, trees, component, ty, listed, size as u32)?;
-    check(alloc, policy, listed, &ty.exports, &assembled.output)?;
+    check(alloc, policy, listed, &ty.exports, &assembled.whole)?;
     let Assembled { front, back, .. } = assembled;
     Ok(Composed {
         front,

@@ -1,4 +1,5 @@
 use adapter_bytes::EmitFault;
+use comp_pair::PairFault;
 use virt_base::NoMemory;
 use virt_output::PieceFault;
 
@@ -20,6 +21,17 @@ impl From<NoMemory> for ComposeFault {
 
     fn from(_: NoMemory) -> ComposeFault {
         ComposeFault::NoMemory
+    }
+}
+
+/// The same fault of two components that are put together.
+impl From<PairFault> for ComposeFault {
+    fn from(fault: PairFault) -> ComposeFault {
+        match fault {
+            PairFault::NoMemory => ComposeFault::NoMemory,
+            PairFault::Unsound => ComposeFault::Unsound,
+            PairFault::TooLong => ComposeFault::TooLong,
+        }
     }
 }
 

@@ -2,12 +2,10 @@
 //! made is checked before it is answered.
 #![tactic(auto)]
 
-mod assembled;
 mod checked;
 mod composed;
 mod composing;
 mod fault;
-mod same;
 
 pub use composed::Composed;
 pub use composing::compose;

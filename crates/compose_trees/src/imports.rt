@@ -12,6 +12,8 @@ use wasm_ast::{Alias, ComponentImport, ExternDesc, KeptType, Sort, TypeDef, Type
 #[derive(Drop)]
 pub struct Imported<'a> {
     pub name: &'a Text,
+    /// Types of imports before that it names and doesn't list.
+    pub named: Vec<usize>,
     pub types: Vec<usize>,
     pub functions: Vec<Declared<'a>>,
 }
@@ -73,9 +75,21 @@ fn instance_type(
     around: &Standing,
 ) -> Result<Items<TypeItem>, NoMemory> {
     let mut scope = Scope::new(alloc, catalogue, Form::Instance)?;
+    name_types(&mut scope, around, interface.named.as_slice())?;
     declare_types(&mut scope, catalogue, around, interface.types.as_slice())?;
     declare_functions(&mut scope, catalogue, interface.functions.as_slice())?;
     whole_type(alloc, scope.declared)
+}
+
+/// Types of the scope around an instance type, which stand in it from now on under no name.
+fn name_types(scope: &mut Scope<'_>, around: &Standing, numbers: &[usize]) -> Result<(), NoMemory> {
+    for number in numbers {
+        if let Some(index) = around.get(*number) {
+            let inside = scope.alias_outer(index)?;
+            scope.standing.set(*number, inside);
+        }
+    }
+    Ok(())
 }
 
 fn whole_type(alloc: Global, declared: Items<TypeItem>) -> Result<Items<TypeItem>, NoMemory> {

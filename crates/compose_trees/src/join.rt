@@ -5,69 +5,85 @@ use virt_base::{Items, NoMemory, Text};
 use virt_output::{Counts, Piece, sort_of};
 use wasm_ast::{Alias, ComponentExport, Instance, NamedItem, Sort};
 
-/// Names with the instances that stand for them, as arguments.
-fn instances(alloc: Global, names: &[&Text], first: u32) -> Result<Items<NamedItem>, NoMemory> {
-    let mut args = Items::empty(alloc);
-    let mut index = first;
+/// An instance that is given to a component under a name.
+#[derive(Clone, Copy)]
+pub struct Given<'a> {
+    pub name: &'a Text,
+    pub instance: u32,
+}
+
+/// Instances from this one on, in order, given under these names.
+pub fn given_in_order<'a>(
+    alloc: Global,
+    names: &[&'a Text],
+    first: u32,
+) -> Result<Vec<Given<'a>>, NoMemory> {
+    let mut given = Vec::new(alloc);
+    let mut instance = first;
     for name in names {
-        args.push(NamedItem {
-            name: name.copy(alloc)?,
-            sort: Sort::Instance,
-            index,
+        given.push(Given {
+            name: *name,
+            instance,
         })?;
-        index = index.saturating_add(1);
+        instance = instance.saturating_add(1);
+    }
+    Ok(given)
+}
+
+/// Instances as arguments.
+fn arguments(alloc: Global, given: &[Given<'_>]) -> Result<Items<NamedItem>, NoMemory> {
+    let mut args = Items::empty(alloc);
+    for one in given {
+        args.push(NamedItem {
+            name: one.name.copy(alloc)?,
+            sort: Sort::Instance,
+            index: one.instance,
+        })?;
     }
     Ok(args)
 }
 
-/// How many names there are.
-fn count_of(names: &[&Text]) -> u32 {
-    u32::try_from(names.len()).unwrap_or(u32::MAX)
-}
-
-/// The first component's instance, which is given the imports under their names, and an alias of each instance that the second
-/// component takes of it.
+/// The first component's instance, which is given these instances, and an alias of each instance that the second component takes of
+/// it. So many instances stand before.
 pub fn between(
     alloc: Global,
-    imports: &[&Text],
+    given: &[Given<'_>],
+    instances: u32,
     taken: &[&Text],
 ) -> Result<Vec<Piece<'static>>, NoMemory> {
     let mut out = Sections::new(alloc);
-    let args = instances(alloc, imports, 0)?;
+    let args = arguments(alloc, given)?;
     out.instance(Instance::Instantiate { component: 0, args })?;
-    let instance = count_of(imports);
     for name in taken {
         out.alias(Alias::Export {
             sort: Sort::Instance,
-            instance,
+            instance: instances,
             name: name.copy(alloc)?,
         })?;
     }
     Ok(out.into_pieces())
 }
 
-/// The second component's instance, which is given what it takes under their names, and aliases and exports of all that it exports;
-/// so many types stand before.
+/// The second component's instance, which is given these instances, and aliases and exports of all that it exports; so many
+/// instances and types stand before.
 pub fn behind(
     alloc: Global,
-    imports: &[&Text],
-    taken: &[&Text],
+    given: &[Given<'_>],
+    instances: u32,
     types: u32,
     exports: &InstanceEntries,
 ) -> Result<Vec<Piece<'static>>, NoMemory> {
     let mut out = Sections::new(alloc);
-    let first = count_of(imports).saturating_add(1);
-    let args = instances(alloc, taken, first)?;
+    let args = arguments(alloc, given)?;
     out.instance(Instance::Instantiate { component: 1, args })?;
-    let instance = first.saturating_add(count_of(taken));
     let counts = Counts {
         functions: 0,
         types: types as usize,
-        instances: instance as usize + 1,
+        instances: instances as usize + 1,
     };
     let entries = exports.as_slice();
     if !entries.is_empty() {
-        out.put(Piece::Aliases(aliases_of(alloc, entries, instance)?))?;
+        out.put(Piece::Aliases(aliases_of(alloc, entries, instances)?))?;
         out.put(Piece::Exports(exports_of(alloc, entries, counts)?))?;
     }
     Ok(out.into_pieces())

@@ -19,7 +19,7 @@ mod world;
 pub use catalogue::{Catalogue, ListedType};
 pub use declare::Declared;
 pub use imports::{Imported, Imports, import_world};
-pub use join::{behind, between};
+pub use join::{Given, behind, between, given_in_order};
 pub use making::adapter;
 pub use sections::Sections;
 pub use standing::Standing;

@@ -37,6 +37,17 @@ impl<'a> Queue<'a> {
         Some(number)
     }
 
+    /// The named types with which one of these types is written.
+    pub fn parts_of(&self, number: usize) -> Queue<'a> {
+        match self.catalogue.get(number) {
+            Some(listed) => Queue::new(self.catalogue, listed.parts.as_slice()),
+            None => Queue {
+                at: usize::MAX,
+                ..*self
+            },
+        }
+    }
+
     fn is_like(&self, number: usize, ty: &WitType) -> bool {
         match self.catalogue.get(number) {
             Some(listed) => match &listed.named.meaning {

@@ -6,12 +6,28 @@ use virt_base::{Items, NoMemory, Text};
 use wasm_ast::{CaseType, LabelType, Labels, MaybeType, Primitive, TypeDef, ValType};
 use wit_types::{Case, Field, FuncType, Types, WitType};
 
-/// The type of a part: one that has a name stands there, and one that has none is defined right before.
+/// The type of a part: of one that has a name and stands there the index, and each other one is written in place.
 #[cycle(types)]
 fn value(scope: &mut Scope<'_>, queue: &mut Queue<'_>, ty: &WitType) -> Result<ValType, NoMemory> {
-    if let Some(number) = queue.take_like(ty) {
-        return Ok(ValType::Index(scope.standing.index(number)));
+    match queue.take_like(ty) {
+        None => in_place(scope, queue, ty),
+        Some(number) => match scope.standing.get(number) {
+            Some(index) => Ok(ValType::Index(index)),
+            None => {
+                let mut parts = queue.parts_of(number);
+                in_place(scope, &mut parts, ty)
+            }
+        },
     }
+}
+
+/// A type that has no name there: it is defined right before, unless it has no parts.
+#[cycle(types)]
+fn in_place(
+    scope: &mut Scope<'_>,
+    queue: &mut Queue<'_>,
+    ty: &WitType,
+) -> Result<ValType, NoMemory> {
     match primitive(ty) {
         Some(primitive) => Ok(ValType::Primitive(primitive)),
         None => {

@@ -57,6 +57,7 @@ fn needed_interface<'a>(
     let functions = declared_at(alloc, world, needed.functions.as_slice())?;
     Ok(Imported {
         name: &needed.name,
+        named: Vec::new(alloc),
         types,
         functions,
     })

@@ -11,7 +11,11 @@ mod listed;
 mod offered;
 mod versions;
 
+pub use entries::{match_entries, places};
+pub use exports::first_with_handle;
 pub use fault::{Cause, MatchFault};
 pub use imports::{has_one_verdict, match_imports};
+pub use kinds::are_apart;
 pub use listed::{Listed, ListedUse, ListedUses};
+pub use offered::{Offered, offer_of};
 pub use versions::{ListedName, interface_named, is_version, listed_name};

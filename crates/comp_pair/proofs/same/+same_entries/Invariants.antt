@@ -1,7 +1,7 @@
 use Rattle.std.proofs.Common.{◌≡◌, ◌+◌, ◌≤◌, length}
 use Rattle.comp_types.specs.Sizes.{item_size, kind_size, entries_size}
 use Rattle.comp_types.specs.Views.{item_of, kind_of, entries_of}
-use Rattle.compose.proofs.same.+same_entries.Given as goal
+use Rattle.comp_pair.proofs.same.+same_entries.Given as goal
 
 abbrev pub invariant-same_entries-loop-x : goal.invariant-same_entries-loop-x
 invariant-same_entries-loop-x l = record {
