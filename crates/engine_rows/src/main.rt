@@ -9,6 +9,8 @@ mod damaged;
 #[cfg(test)]
 mod imports;
 #[cfg(test)]
+mod made_calls;
+#[cfg(test)]
 mod memory;
 #[cfg(test)]
 mod policy_limits;

@@ -86,6 +86,9 @@ fn comes(
     files
         .reserve(alloc, &Text::from_str(alloc, "o").ok()?, room)
         .ok()?;
+    if let Some(words) = setting(settings, "before") {
+        said(alloc, words, files, &mut sink_for(alloc, settings)?)?;
+    }
     let mut all = said(alloc, setting(settings, "$")?, files, out)?;
     for name in setting(settings, "show").unwrap_or("o").split_whitespace() {
         show(alloc, files, name, &mut all)?;

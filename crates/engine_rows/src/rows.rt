@@ -5,6 +5,8 @@
 //! set last in its block the call has this outcome, its status and the text that is put, in which `&` ends a line, and behind it what
 //! OUT holds, as ` o=DIGITS`, if it is there. Both sides are written out as `written_out` has it.
 //!
+//! `before WORDS` are the words of a call over the same files that comes before, whose outcome is not shown.
+//!
 //! `fails N` and `puts N` say which call of the files and of the sink fails, `out N` and `room N` how many bytes OUT and the sink take, and
 //! `show NAMES` which files are shown in place of OUT. Files that tell nothing have also `NAME ! missing`, `NAME ! failed`,
 //! `NAME ! memory` and `NAME ! LENGTH`, a file that is so long and fails to be read, and `writes N`, how many writes come to pass; nothing of

@@ -156,7 +156,7 @@ one_comes held c a b x y (inr h) (inr g) = one_shown held c a b x y h g
 -- ---- what a call comes to
 
 begins_told : (s : FilesState) (told : s.told ≡ true) (c : RunCommand) (policy : Option (List ℕ)) (b : BeginsBy c policy s) (shown : Shown) → ShowsWhat c policy s b shown
-    → (whole : Told) × TellsBy s.held c policy whole × IsTold whole shown.lines shown.end
+    → (whole : Told) × TellsBy s.held c policy whole × IsTold whole shown.lines shown.tally shown.end
 begins_told s told c None b shown runs = let u = alone_accepted s told c b.0 b.1 in (told_alone s.held c u, (u, refl), runs.told)
 begins_told s told c (Some name) b shown runs = let u = under_accepted s told c name b in (told_under s.held c name u b.trees, (u, b.trees, b.are.2, refl), runs.told)
 

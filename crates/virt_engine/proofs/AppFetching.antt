@@ -1,5 +1,5 @@
 -- What reading an application's file comes to, from what judging it answers.
-use Rattle.std.proofs.Common.{◌≡◌, refl, sym, ap, subst, ℕ, ◌<◌, List, length, true, inl, inr, Ok, Err, arith}
+use Rattle.std.proofs.Common.{◌≡◌, refl, sym, subst, ℕ, ◌<◌, List, length, true, inl, inr, Ok, Err, arith}
 use Rattle.std.specs.Prelude.{Option, Some, Result}
 use Rattle.outside.specs.Files.{FilesState}
 use Rattle.component_judge.specs.declared.inputs.Fetched.{Fetched}

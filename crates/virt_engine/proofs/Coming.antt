@@ -1,8 +1,7 @@
 -- What is told of an act, by how it came out.
-use Rattle.std.proofs.Common.{◌≡◌, ◌∙◌, refl, sym, ap, ℕ, List, [], ◌∷◌, ◌++◌, append_assoc, Option}
+use Rattle.std.proofs.Common.{◌≡◌, refl, sym, ap, ℕ, List, ◌++◌, append_assoc, Option}
 use Rattle.wit_types.specs.PlainValue.{PlainValue}
 use Rattle.host_port.specs.Calls.{PlainObservation, Spent as IsSpent, plain_option}
-use Rattle.host_port.specs.Hosts.{HostStep}
 use Rattle.comp_worlds.specs.Acts.{End, Trapped, ScriptEnded, BadAnswer, TooDeep, end_item, Out, Next, Over, Spent, seen_before}
 use Rattle.comp_worlds.specs.Groups.{World}
 use Rattle.call_moments.specs.declared.end.RunEnd.{RunEnd}
@@ -10,7 +9,7 @@ use Rattle.call_moments.specs.declared.end.RunEnd.TheVariants as calls
 use Rattle.call_moments.specs.Configs.{world_of}
 use Rattle.call_moments.specs.Leads.{Moment}
 use Rattle.comp_interp.specs.Outcomes.{ComesTo}
-use Rattle.virt_engine.specs.Lines.{end_by, seen_by}
+use Rattle.virt_engine.specs.Lines.{seen_by}
 use Rattle.virt_engine.specs.Told.{Item, Told, end_of, untyped, last, before, told_after}
 
 module _ {S A : Type 0} (of : A → List Item) (conv : Option PlainValue → A) (k : List PlainObservation) where

@@ -1,11 +1,8 @@
 -- A component that was judged runs as what is to be told of it.
 use Rattle.std.proofs.Common.{◌≡◌, ◌∙◌, refl, sym, ap, subst, ℕ, List, [], ◌∷◌, map, cond, Option, Some, None, Ok, Bool, true, false}
-use Rattle.std.specs.Prelude.{All, Vec}
-use Rattle.std.specs.declared.alloc.Global.{Global}
 use Rattle.std.specs.Option.{option_map}
 use Rattle.std.specs.List.{AllByRecursion}
 use Rattle.std.proofs.lemmas.List.Elements.{recursion_from_All}
-use Rattle.virt_base.specs.declared.fault.AppFault.{AppFault}
 use Rattle.virt_base.specs.declared.fault.AppFault.TheVariants.{Unlisted, HandleExport}
 use Rattle.wit_types.specs.Plain.{Name}
 use Rattle.wit_types.specs.HasType.{are_of}
@@ -13,7 +10,6 @@ use Rattle.comp_grammar.specs.Trees.{Tree, plain}
 use Rattle.comp_types.specs.Items.{Entries, Signature, End, More}
 use Rattle.comp_types.specs.Resources.{item_has_resource}
 use Rattle.comp_types.specs.Added.{type_of}
-use Rattle.comp_signature.specs.Signatures.{component_signature}
 use Rattle.host_port.specs.Hosts.{HostStep, Kept}
 use Rattle.comp_worlds.specs.Groups.{Target, Group, type_of as type_of_target}
 use Rattle.comp_worlds.specs.Observed.{Call, obs_deep}
@@ -36,6 +32,7 @@ use Rattle.virt_engine.specs.declared.runner.Runner.{Runner}
 use Rattle.virt_engine.specs.declared.runner.Shown.{Shown}
 use Rattle.virt_engine.specs.Calling.{call_of, typed_calls}
 use Rattle.virt_engine.specs.Told.{Told, TypedCall, told}
+use Rattle.virt_engine.specs.Tallies.{none_counted}
 use Rattle.virt_engine.specs.Shown.{CanRun, IsTold, told_component, ShowsRun}
 use Rattle.virt_engine.specs.Runners.{AllMay, IsFresh, told_of, Goes}
 use Rattle.virt_engine.proofs.Passing.{arguments_pass, holds_none}
@@ -100,20 +97,20 @@ module _ {H S : Type 0} (h : HostStep S) (kept : H → Kept S) (judged : Judged)
   exports_so = let judges : Judges can.0 (Ok judged) = can.1 in ap (λ (sig : Signature). sig.exports) judges.1
 
   pub component_told : (host : H) (budget : ℕ) (component : Linked) (exports : Exports) (calls : List ScriptCall) (r0 r1 : Runner H) (how : RunEnd) → linked_group component ≡ group_of tree → exports ≡ callable judged.ty.exports
-      → IsNew component (kept host) budget (kept (host_in r0.run)) r0.run → r0.lines ≡ [] → r0.shown ≡ 0 → Goes h kept exports (map call_seen calls) r0 how r1
-      → (kept host).seen ≡ [] → AreTyped (callable judged.ty.exports) calls → ShowsRun tree h (kept host).state (map call_seen calls) budget (record { lines = r1.lines; end = how })
-  component_told host budget component exports calls r0 r1 how group named new lines shown goes unseen typed =
+      → IsNew component (kept host) budget (kept (host_in r0.run)) r0.run → r0.lines ≡ [] → r0.tally ≡ none_counted → r0.shown ≡ 0 → Goes h kept exports (map call_seen calls) r0 how r1
+      → (kept host).seen ≡ [] → AreTyped (callable judged.ty.exports) calls → ShowsRun tree h (kept host).state (map call_seen calls) budget (record { lines = r1.lines; tally = r1.tally; end = how })
+  component_told host budget component exports calls r0 r1 how group named new lines tally shown goes unseen typed =
       let G : group_in r0.run ≡ group_of tree = ap linked_group new.component ∙ group in
       let names : exports ≡ callable (type_of tree).exports = named ∙ ap callable exports_so in
       let all : AreTyped (callable (type_of tree).exports) calls = subst (λ (es : Entries). AreTyped (callable es) calls) exports_so typed in
       let may : AllMay h kept (group_in r0.run) (map call_seen calls) =
       subst (λ (X : Group). AllMay h kept X (map call_seen calls)) (sym G)
       (may_all h kept tree can.0 runs_so calls (recursion_from_All (λ c. IsTypedCall (callable (type_of tree).exports) (call_seen c)) calls all)) in
-      let fresh : IsFresh h kept component (kept host) budget r0 = record { run = new; unseen = unseen; lines = lines; shown = shown } in
+      let fresh : IsFresh h kept component (kept host) budget r0 = record { run = new; unseen = unseen; lines = lines; tally = tally; shown = shown } in
       let whole : told_of h kept exports (map call_seen calls) (kept host) budget r0 ≡ told_component tree h (kept host).state (map call_seen calls) budget =
       (λ i. told (G i) h (typed_calls (names i) (map call_seen calls)) (kept host).state budget) in
       record {
-        told = subst (λ (t : Told). IsTold t r1.lines how) whole (goes component (kept host) budget fresh may);
+        told = subst (λ (t : Told). IsTold t r1.lines r1.tally how) whole (goes component (kept host) budget fresh may);
         observed = told_observed (group_of tree) h (kept host).state (typed_calls (callable (type_of tree).exports) (map call_seen calls)) budget ∙ ap (λ (cs : List Call). obs_deep (group_of tree) [] h (kept host).state cs budget) (calls_in (callable (type_of tree).exports) (map call_seen calls));
       }
 

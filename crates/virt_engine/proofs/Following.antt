@@ -3,17 +3,17 @@ use Rattle.std.proofs.Common.{◌≡◌, ◌∙◌, refl, sym, ap, subst, ℕ, z
 use Rattle.std.specs.Prelude.{Result, Ok, Err, IfOk}
 use Rattle.std.proofs.lemmas.List.{drop_at, drop_more, drop_all}
 use Rattle.wit_types.specs.Plain.{Plain}
-use Rattle.wit_types.specs.PlainValue.{PlainValue, PlainValues}
+use Rattle.wit_types.specs.PlainValue.{PlainValue}
 use Rattle.wit_types.specs.declared.value.Value.{Value}
 use Rattle.host_port.specs.declared.answer.Observation.{Observation}
 use Rattle.host_port.specs.Calls.{PlainObservation, plain_option, plain_observation}
 use Rattle.host_port.specs.Hosts.{HostStep, Kept}
 use Rattle.comp_worlds.specs.Acts.{Trapped, Out, Over, Act, ◌>>◌, gives, traps}
 use Rattle.comp_worlds.specs.Passing.{out_of_tuple}
-use Rattle.comp_worlds.specs.Groups.{Target, Group, Config, World, Outside}
+use Rattle.comp_worlds.specs.Groups.{Target, Group, World, Outside}
 use Rattle.comp_worlds.specs.Calls.{at_rest, is_made, answers_if, leaves}
 use Rattle.comp_worlds.specs.Hosts.{hosted}
-use Rattle.comp_worlds.specs.Observed.{first_state, Call, without_handles}
+use Rattle.comp_worlds.specs.Observed.{first_state, without_handles}
 use Rattle.comp_worlds.proofs.Fair.{host_fair}
 use Rattle.comp_frames.specs.Running.{running}
 use Rattle.comp_frames.proofs.Unfolding.{meets_without_fuel}
@@ -32,10 +32,13 @@ use Rattle.comp_interp.specs.Outcomes.{group_in, moment_in, IfReturned, CanServe
 use Rattle.virt_engine.specs.declared.runner.Runner.{Runner}
 use Rattle.virt_engine.specs.Calling.{call_of, typed_call, typed_calls}
 use Rattle.virt_engine.specs.Lines.{Adds, end_by, seen_by}
-use Rattle.virt_engine.specs.Told.{Item, Told, TypedCall, untyped, last, before, told_after, at_most, result_item, nothing_more, calls_export, told_calls, told}
-use Rattle.virt_engine.specs.Shown.{item_texts, IsTold}
-use Rattle.virt_engine.specs.Runners.{ShowsHost, ShowsEnd, RunStands, Stands, AllMay, ComesOn, IsFresh, told_of, Came, Makes, CallsOn, Goes}
+use Rattle.virt_engine.specs.Told.{Item, Told, TypedCall, untyped, last, before, told_after, at_most, result_item, nothing_more, calls_export, told_calls}
+use Rattle.virt_engine.specs.declared.tally.Tally.{Tally}
+use Rattle.virt_engine.specs.Tallies.{none_counted, all_seen, and_seen}
+use Rattle.virt_engine.specs.Shown.{item_texts, items_tally, IsTold}
+use Rattle.virt_engine.specs.Runners.{ShowsHost, ShowsEnd, RunStands, Stands, ComesOn, IsFresh, told_of, Came, Makes, CallsOn, Goes}
 use Rattle.virt_engine.proofs.Coming.{told_by, Tells, it_tells, told_before}
+use Rattle.virt_engine.proofs.Telling.{seen_in, seen_untyped, seen_more as seen_of_more}
 
 -- ---- of lines
 
@@ -63,6 +66,15 @@ untyped_texts (x ∷ o) = ap (λ z. line_text None x ∷ z) (untyped_texts o)
 untyped_more : (a b : List PlainObservation) → untyped (a ++ b) ≡ untyped a ++ untyped b
 untyped_more [] b = refl
 untyped_more (x ∷ a) b = ap (λ z. record { ty = None; seen = x } ∷ z) (untyped_more a b)
+
+-- ---- what is counted
+
+counted_more : (t : Tally) (a b : List PlainObservation) → all_seen t (a ++ b) ≡ all_seen (all_seen t a) b
+counted_more t [] b = refl
+counted_more t (x ∷ a) b = counted_more (and_seen t x) a b
+
+tally_more : (a b : List Item) → items_tally (a ++ b) ≡ all_seen (items_tally a) (seen_in b)
+tally_more a b = ap (all_seen none_counted) (seen_of_more a b) ∙ counted_more none_counted (seen_in a) (seen_in b)
 
 -- ---- what was seen of the host
 
@@ -107,22 +119,25 @@ plain_line calls.Spent ty h = refl
 plain_line calls.TooDeep ty h = refl
 
 module _ {H S : Type 0} (h : HostStep S) (kept : H → Kept S) where
-  pub shows_end : (end : RunEnd) (ty : Option Plain) (old new : Runner H) (how : RunEnd) (seen : PlainObservation) → how ≡ end_by end → seen ≡ seen_by end → new.run ≡ old.run → new.shown ≡ old.shown → Adds old.lines new.lines (line_text ty seen)
+  pub shows_end : (end : RunEnd) (ty : Option Plain) (old new : Runner H) (how : RunEnd) (seen : PlainObservation) → how ≡ end_by end → seen ≡ seen_by end → new.run ≡ old.run → new.shown ≡ old.shown → Adds old.lines new.lines (line_text ty seen) → new.tally ≡ and_seen old.tally seen
       → ShowsEnd h kept end ty old how new
-  shows_end end ty old new how seen is same run shown added = record {
+  shows_end end ty old new how seen is same run shown added counted = record {
     run = run;
     lines = added ∙ ap (λ (o : PlainObservation). old.lines ++ line_text ty o ∷ []) same;
+    tally = counted ∙ ap (and_seen old.tally) same;
     shown = shown;
     end = is;
   }
 
-  pub shows_host : (old : Runner H) (lines : List (List ℕ)) (host : H) (obs seen later : List Observation) → host ≡ host_in old.run → map plain_observation obs ≡ (kept host).seen → seen ≡ obs → later ≡ drop old.shown seen
-      → lines ≡ old.lines ++ map (line_text None) (map plain_observation later) → ShowsHost h kept old (record { run = old.run; lines = lines; shown = length seen })
-  shows_host old lines host obs seen later is all same behind put =
+  pub shows_host : (old : Runner H) (lines : List (List ℕ)) (tally : Tally) (host : H) (obs seen later : List Observation) → host ≡ host_in old.run → map plain_observation obs ≡ (kept host).seen → seen ≡ obs → later ≡ drop old.shown seen
+      → lines ≡ old.lines ++ map (line_text None) (map plain_observation later) → tally ≡ all_seen old.tally (map plain_observation later) → ShowsHost h kept old (record { run = old.run; lines = lines; tally = tally; shown = length seen })
+  shows_host old lines tally host obs seen later is all same behind put counted =
       let now : map plain_observation seen ≡ (kept (host_in old.run)).seen = ap (map plain_observation) same ∙ all ∙ ap (λ (x : H). (kept x).seen) is in
+      let rest : map plain_observation later ≡ drop old.shown (kept (host_in old.run)).seen = ap (map plain_observation) behind ∙ seen_behind old.shown seen ∙ ap (drop old.shown) now in
       record {
         run = refl;
-        lines = put ∙ ap (λ (xs : List PlainObservation). old.lines ++ map (line_text None) xs) (ap (map plain_observation) behind ∙ seen_behind old.shown seen ∙ ap (drop old.shown) now);
+        lines = put ∙ ap (λ (xs : List PlainObservation). old.lines ++ map (line_text None) xs) rest;
+        tally = counted ∙ ap (all_seen old.tally) rest;
         shown = sym (seen_count seen) ∙ ap length now;
       }
 
@@ -135,7 +150,7 @@ module _ {H S : Type 0} (h : HostStep S) (kept : H → Kept S) where
   over_by of conv k calls.Spent o run next e = refl
   over_by of conv k calls.TooDeep o run next e = refl
 
-  over_comes : (G : Group) (whole : Told) (rest : List TypedCall) (r : Runner H) (end : RunEnd) (how : RunEnd) → IsOver end → how ≡ end_by end → IsTold whole r.lines (end_by end) → ComesOn h kept G whole rest how r
+  over_comes : (G : Group) (whole : Told) (rest : List TypedCall) (r : Runner H) (end : RunEnd) (how : RunEnd) → IsOver end → how ≡ end_by end → IsTold whole r.lines r.tally (end_by end) → ComesOn h kept G whole rest how r
   over_comes G whole rest r (calls.Returned value) how e is t = absurd e
   over_comes G whole rest r calls.Trapped how e is t = subst (λ (x : RunEnd). ComesOn h kept G whole rest x r) (sym is) t
   over_comes G whole rest r calls.ScriptEnded how e is t = subst (λ (x : RunEnd). ComesOn h kept G whole rest x r) (sym is) t
@@ -166,6 +181,24 @@ module _ {H S : Type 0} (h : HostStep S) (kept : H → Kept S) where
       ∙ sym (item_texts_more (done ++ untyped o) (record { ty = None; seen = seen_by end } ∷ []))
       ∙ ap item_texts (append_assoc done (untyped o) (record { ty = None; seen = seen_by end } ∷ []) ∙ ap (λ z. done ++ z) (sym (untyped_more o (seen_by end ∷ []))))
 
+  -- ---- what is counted after others
+
+  host_tally : (done : List Item) (k o : List PlainObservation) (r1 r2 : Runner H) → r1.tally ≡ items_tally done → r1.shown ≡ length k → (kept (host_in r1.run)).seen ≡ k ++ o → ShowsHost h kept r1 r2 → r2.tally ≡ items_tally (done ++ untyped o)
+  host_tally done k o r1 r2 tally shown seen s =
+      s.tally
+      ∙ (λ i. all_seen (tally i) (drop (shown i) (seen i)))
+      ∙ ap (all_seen (items_tally done)) (drop_at k o (length k) refl ∙ sym (seen_untyped o))
+      ∙ sym (tally_more done (untyped o))
+
+  end_tally : (items : List Item) (ty ty' : Option Plain) (end : RunEnd) (r2 r3 : Runner H) (how : RunEnd) → r2.tally ≡ items_tally items → ShowsEnd h kept end ty r2 how r3 → r3.tally ≡ items_tally (items ++ record { ty = ty'; seen = seen_by end } ∷ [])
+  end_tally items ty ty' end r2 r3 how tally s = s.tally ∙ ap (λ (t : Tally). and_seen t (seen_by end)) tally ∙ sym (tally_more items (record { ty = ty'; seen = seen_by end } ∷ []))
+
+  over_tally : (done : List Item) (o : List PlainObservation) (ty : Option Plain) (end : RunEnd) (r2 r3 : Runner H) (how : RunEnd) → r2.tally ≡ items_tally (done ++ untyped o) → ShowsEnd h kept end ty r2 how r3
+      → r3.tally ≡ items_tally (done ++ untyped (o ++ seen_by end ∷ []))
+  over_tally done o ty end r2 r3 how tally s =
+      end_tally (done ++ untyped o) ty None end r2 r3 how tally s
+      ∙ ap items_tally (append_assoc done (untyped o) (record { ty = None; seen = seen_by end } ∷ []) ∙ ap (λ z. done ++ z) (sym (untyped_more o (seen_by end ∷ []))))
+
   seen_length : (r1 r2 : Runner H) → ShowsHost h kept r1 r2 → r2.shown ≡ length (kept (host_in r2.run)).seen
   seen_length r1 r2 s = s.shown ∙ ap (λ (run : Run H). length (kept (host_in run)).seen) (sym s.run)
 
@@ -191,7 +224,7 @@ module _ {H S : Type 0} (h : HostStep S) (kept : H → Kept S) where
         ∙ ap (λ (w : World S). stages_act h G G.stages w budget) none_made
         ∙ (λ i. stages_act h G G.stages (world_of (sym f.run.instances i) (sym host_first i).state) (sym f.run.steps i))
 
-    module _ (exports : Exports) (cs : List PlainCall) (end : RunEnd) (r1 r2 : Runner H) (same_lines : r1.lines ≡ r0.lines) (same_shown : r1.shown ≡ r0.shown) (i : Instantiates h kept r0.run end r1.run) (s : ShowsHost h kept r1 r2) where
+    module _ (exports : Exports) (cs : List PlainCall) (end : RunEnd) (r1 r2 : Runner H) (same_lines : r1.lines ≡ r0.lines) (same_tally : r1.tally ≡ r0.tally) (same_shown : r1.shown ≡ r0.shown) (i : Instantiates h kept r0.run end r1.run) (s : ShowsHost h kept r1 r2) where
       left : Left h kept (λ v. tt {0}) (so_far (moment_in kept r0.run) (stages_act h G G.stages)) r0.run end r1.run
       left = i linked first budget f.run
 
@@ -211,6 +244,9 @@ module _ {H S : Type 0} (h : HostStep S) (kept : H → Kept S) where
       lines_so : r2.lines ≡ item_texts (untyped tells.o)
       lines_so = host_lines [] [] tells.o r1 r2 (same_lines ∙ f.lines) (same_shown ∙ f.shown) seen_all s
 
+      tally_so : r2.tally ≡ items_tally (untyped tells.o)
+      tally_so = host_tally [] [] tells.o r1 r2 (same_tally ∙ f.tally) (same_shown ∙ f.shown) seen_all s
+
       -- the run itself, where all is made
       run_so : (v : Option Value) → end ≡ calls.Returned v → RunStands h kept G (told_of h kept exports cs first budget r0) (typed_calls exports cs) (untyped tells.o) r1.run
       run_so v is = record {
@@ -224,6 +260,7 @@ module _ {H S : Type 0} (h : HostStep S) (kept : H → Kept S) where
       made_done v is = record {
         done = untyped tells.o;
         lines = lines_so;
+        tally = tally_so;
         shown = seen_length r1 r2 s;
         run = subst (λ (run : Run H). RunStands h kept G (told_of h kept exports cs first budget r0) (typed_calls exports cs) (untyped tells.o) run) (sym s.run) (run_so v is);
       }
@@ -232,7 +269,7 @@ module _ {H S : Type 0} (h : HostStep S) (kept : H → Kept S) where
       made_over ty how r3 e shows =
           let whole : told_of h kept exports cs first budget r0 ≡ last tells.o (seen_by end) (end_by end) = whole_is ∙ over_by nothing_more (λ v. tt) (kept (host_in r0.run)).seen end tells.o r1.run Go e in
           over_comes G (told_of h kept exports cs first budget r0) (typed_calls exports cs) r3 end how e shows.end
-          (record { lines = over_lines [] tells.o ty end r2 r3 how e lines_so shows ∙ ap (λ (t : Told). item_texts t.items) (sym whole); end = ap (λ (t : Told). t.end) (sym whole) })
+          (record { lines = over_lines [] tells.o ty end r2 r3 how e lines_so shows ∙ ap (λ (t : Told). item_texts t.items) (sym whole); tally = over_tally [] tells.o ty end r2 r3 how tally_so shows ∙ ap (λ (t : Told). items_tally t.items) (sym whole); end = ap (λ (t : Told). t.end) (sym whole) })
 
   -- ---- a call
 
@@ -249,7 +286,7 @@ module _ {H S : Type 0} (h : HostStep S) (kept : H → Kept S) where
       by_target None = λ i w n. Over [] Trapped
       by_target (Some target) = refl
 
-  module _ (exports : Exports) (c : PlainCall) (whole : Told) (rest : List PlainCall) (end : RunEnd) (r0 r1 r2 r3 : Runner H) (how : RunEnd) (same_lines : r1.lines ≡ r0.lines) (same_shown : r1.shown ≡ r0.shown)
+  module _ (exports : Exports) (c : PlainCall) (whole : Told) (rest : List PlainCall) (end : RunEnd) (r0 r1 r2 r3 : Runner H) (how : RunEnd) (same_lines : r1.lines ≡ r0.lines) (same_tally : r1.tally ≡ r0.tally) (same_shown : r1.shown ≡ r0.shown)
       (i : CallsExport h kept r0.run c.0 c.1 end r1.run) (s : ShowsHost h kept r1 r2) (shows : ShowsEnd h kept end (typed_call exports c).ty r2 how r3)
       (may : (target : Target) → export_named h kept (group_in r0.run) c.0 ≡ Some target → MayCall h kept target c.1) (st : Stands h kept (group_in r0.run) whole (typed_calls exports (c ∷ rest)) r0) where
     abbrev Own : Group
@@ -281,6 +318,9 @@ module _ {H S : Type 0} (h : HostStep S) (kept : H → Kept S) where
     lines_by : r2.lines ≡ item_texts (st.done ++ untyped tells_by.o)
     lines_by = host_lines st.done (kept (host_in r0.run)).seen tells_by.o r1 r2 (same_lines ∙ st.lines) (same_shown ∙ st.shown) tells_by.seen_so s
 
+    tally_by : r2.tally ≡ items_tally (st.done ++ untyped tells_by.o)
+    tally_by = host_tally st.done (kept (host_in r0.run)).seen tells_by.o r1 r2 (same_tally ∙ st.tally) (same_shown ∙ st.shown) tells_by.seen_so s
+
     same_run : r3.run ≡ r1.run
     same_run = shows.run ∙ s.run
 
@@ -292,6 +332,9 @@ module _ {H S : Type 0} (h : HostStep S) (kept : H → Kept S) where
           lines =
               subst (λ (e : RunEnd). r3.lines ≡ item_texts ((st.done ++ untyped tells_by.o) ++ record { ty = Type'; seen = seen_by e } ∷ [])) is (end_lines (st.done ++ untyped tells_by.o) Type' end r2 r3 how lines_by shows)
               ∙ ap item_texts (append_assoc st.done (untyped tells_by.o) (result_item Type' (plain_option v)));
+          tally =
+              subst (λ (e : RunEnd). r3.tally ≡ items_tally ((st.done ++ untyped tells_by.o) ++ record { ty = Type'; seen = seen_by e } ∷ [])) is (end_tally (st.done ++ untyped tells_by.o) Type' Type' end r2 r3 how tally_by shows)
+              ∙ ap items_tally (append_assoc st.done (untyped tells_by.o) (result_item Type' (plain_option v)));
           shown = shows.shown ∙ seen_length r1 r2 s ∙ ap (λ (run : Run H). length (kept (host_in run)).seen) (sym shows.run);
           run = subst (λ (run : Run H). RunStands h kept Own whole (typed_calls exports rest) (st.done ++ items) run) (sym same_run) (record {
             serves = subst (λ (e : RunEnd). IfReturned e (CanServe h kept r1.run)) is left_by.serves;
@@ -306,7 +349,7 @@ module _ {H S : Type 0} (h : HostStep S) (kept : H → Kept S) where
     over_so e =
         let is : before st.done (last tells_by.o (seen_by end) (end_by end)) ≡ whole = ap (before st.done) (sym (over_by (result_item Type') (λ v. v) (kept (host_in r0.run)).seen end tells_by.o r1.run Later e)) ∙ rest_is in
         over_comes Own whole (typed_calls exports rest) r3 end how e shows.end
-        (record { lines = over_lines st.done tells_by.o Type' end r2 r3 how e lines_by shows ∙ ap (λ (t : Told). item_texts t.items) is; end = ap (λ (t : Told). t.end) is })
+        (record { lines = over_lines st.done tells_by.o Type' end r2 r3 how e lines_by shows ∙ ap (λ (t : Told). item_texts t.items) is; tally = over_tally st.done tells_by.o Type' end r2 r3 how tally_by shows ∙ ap (λ (t : Told). items_tally t.items) is; end = ap (λ (t : Told). t.end) is })
 
     done_so : how ≡ (calls.Returned None) → Stands h kept Own whole (typed_calls exports rest) r3 → ComesOn h kept Own whole (typed_calls exports rest) how r3
     done_so is stands = subst (λ (x : RunEnd). ComesOn h kept Own whole (typed_calls exports rest) x r3) (sym is) stands
@@ -320,23 +363,23 @@ module _ {H S : Type 0} (h : HostStep S) (kept : H → Kept S) where
     call_comes calls.TooDeep is = over_so (subst IsOver (sym is) tt)
 
   -- in whatever group it is that runs
-  pub calls_on : (exports : Exports) (c : PlainCall) (end : RunEnd) (r0 r1 r2 r3 : Runner H) (how : RunEnd) → r1.lines ≡ r0.lines → r1.shown ≡ r0.shown → CallsExport h kept r0.run c.0 c.1 end r1.run → ShowsHost h kept r1 r2
+  pub calls_on : (exports : Exports) (c : PlainCall) (end : RunEnd) (r0 r1 r2 r3 : Runner H) (how : RunEnd) → r1.lines ≡ r0.lines → r1.tally ≡ r0.tally → r1.shown ≡ r0.shown → CallsExport h kept r0.run c.0 c.1 end r1.run → ShowsHost h kept r1 r2
       → ShowsEnd h kept end (typed_call exports c).ty r2 how r3 → CallsOn h kept exports c r0 how r3
-  calls_on exports c end r0 r1 r2 r3 how lines shown i s shows = λ G whole rest may st.
+  calls_on exports c end r0 r1 r2 r3 how lines tally shown i s shows = λ G whole rest may st.
       subst (λ (X : Group). ((target : Target) → export_named h kept X c.0 ≡ Some target → MayCall h kept target c.1) → Stands h kept X whole (typed_calls exports (c ∷ rest)) r0 → ComesOn h kept X whole (typed_calls exports rest) how r3)
-      st.run.group (λ own stands. call_comes exports c whole rest end r0 r1 r2 r3 how lines shown i s shows own stands end refl) may st
+      st.run.group (λ own stands. call_comes exports c whole rest end r0 r1 r2 r3 how lines tally shown i s shows own stands end refl) may st
 
-  pub calls_shown : (exports : Exports) (c : PlainCall) (end : RunEnd) (ty : Option Plain) (r0 r1 r2 r3 : Runner H) (how : RunEnd) → ty ≡ (typed_call exports c).ty → r1.lines ≡ r0.lines → r1.shown ≡ r0.shown → CallsExport h kept r0.run c.0 c.1 end r1.run
+  pub calls_shown : (exports : Exports) (c : PlainCall) (end : RunEnd) (ty : Option Plain) (r0 r1 r2 r3 : Runner H) (how : RunEnd) → ty ≡ (typed_call exports c).ty → r1.lines ≡ r0.lines → r1.tally ≡ r0.tally → r1.shown ≡ r0.shown → CallsExport h kept r0.run c.0 c.1 end r1.run
       → ShowsHost h kept r1 r2 → ShowsEnd h kept end ty r2 how r3 → CallsOn h kept exports c r0 how r3
-  calls_shown exports c end ty r0 r1 r2 r3 how same lines shown i s shows = calls_on exports c end r0 r1 r2 r3 how lines shown i s (subst (λ (t : Option Plain). ShowsEnd h kept end t r2 how r3) same shows)
+  calls_shown exports c end ty r0 r1 r2 r3 how same lines tally shown i s shows = calls_on exports c end r0 r1 r2 r3 how lines tally shown i s (subst (λ (t : Option Plain). ShowsEnd h kept end t r2 how r3) same shows)
 
   -- the making, for whatever is called then
-  pub makes_done : (end : RunEnd) (v : Option Value) (r0 r1 r2 : Runner H) → end ≡ calls.Returned v → r1.lines ≡ r0.lines → r1.shown ≡ r0.shown → Instantiates h kept r0.run end r1.run → ShowsHost h kept r1 r2 → Makes h kept r0 (calls.Returned None) r2
-  makes_done end v r0 r1 r2 is lines shown i s = λ exports cs linked first budget f may. (may, made_done linked first budget r0 f exports cs end r1 r2 lines shown i s v is)
+  pub makes_done : (end : RunEnd) (v : Option Value) (r0 r1 r2 : Runner H) → end ≡ calls.Returned v → r1.lines ≡ r0.lines → r1.tally ≡ r0.tally → r1.shown ≡ r0.shown → Instantiates h kept r0.run end r1.run → ShowsHost h kept r1 r2 → Makes h kept r0 (calls.Returned None) r2
+  makes_done end v r0 r1 r2 is lines tally shown i s = λ exports cs linked first budget f may. (may, made_done linked first budget r0 f exports cs end r1 r2 lines tally shown i s v is)
 
-  pub makes_over : (end : RunEnd) (ty : Option Plain) (r0 r1 r2 r3 : Runner H) (how : RunEnd) → IsOver end → r1.lines ≡ r0.lines → r1.shown ≡ r0.shown → Instantiates h kept r0.run end r1.run → ShowsHost h kept r1 r2 → ShowsEnd h kept end ty r2 how r3
+  pub makes_over : (end : RunEnd) (ty : Option Plain) (r0 r1 r2 r3 : Runner H) (how : RunEnd) → IsOver end → r1.lines ≡ r0.lines → r1.tally ≡ r0.tally → r1.shown ≡ r0.shown → Instantiates h kept r0.run end r1.run → ShowsHost h kept r1 r2 → ShowsEnd h kept end ty r2 how r3
       → Makes h kept r0 how r3
-  makes_over end ty r0 r1 r2 r3 how e lines shown i s shows = λ exports cs linked first budget f may. (may, made_over linked first budget r0 f exports cs end r1 r2 lines shown i s ty how r3 e shows)
+  makes_over end ty r0 r1 r2 r3 how e lines tally shown i s shows = λ exports cs linked first budget f may. (may, made_over linked first budget r0 f exports cs end r1 r2 lines tally shown i s ty how r3 e shows)
 
   -- ---- all calls
 
@@ -356,10 +399,10 @@ module _ {H S : Type 0} (h : HostStep S) (kept : H → Kept S) where
   came_done exports cs rest how v r0 r is came = subst (λ (x : RunEnd). Came h kept exports cs rest r0 x r) is came
 
   -- none is left
-  done_told : (G : Group) (whole : Told) (r : Runner H) → Stands h kept G whole [] r → IsTold whole r.lines (calls.Returned None)
+  done_told : (G : Group) (whole : Told) (r : Runner H) → Stands h kept G whole [] r → IsTold whole r.lines r.tally (calls.Returned None)
   done_told G whole r st =
       let all : before st.done (record { items = []; end = calls.Returned None }) ≡ whole = st.run.is in
-      record { lines = st.lines ∙ ap item_texts (sym (append-nil st.done)) ∙ ap (λ (t : Told). item_texts t.items) all; end = ap (λ (t : Told). t.end) all }
+      record { lines = st.lines ∙ ap item_texts (sym (append-nil st.done)) ∙ ap (λ (t : Told). item_texts t.items) all; tally = st.tally ∙ ap items_tally (sym (append-nil st.done)) ∙ ap (λ (t : Told). items_tally t.items) all; end = ap (λ (t : Told). t.end) all }
 
   pub goes_done : (exports : Exports) (cs : List PlainCall) (r0 r : Runner H) → Came h kept exports cs [] r0 (calls.Returned None) r → Goes h kept exports cs r0 (calls.Returned None) r
   goes_done exports cs r0 r came = λ linked first budget f may. done_told (group_in r0.run) (told_of h kept exports cs first budget r0) r (came linked first budget f may).1
@@ -368,7 +411,7 @@ module _ {H S : Type 0} (h : HostStep S) (kept : H → Kept S) where
   goes_all exports cs list i r0 r le came = goes_done exports cs r0 r (subst (λ xs. Came h kept exports cs (map call_seen xs) r0 (calls.Returned None) r) (drop_all i list le) came)
 
   -- it ended
-  over_told : (G : Group) (whole : Told) (rest : List TypedCall) (how : RunEnd) (r : Runner H) → IsOver how → ComesOn h kept G whole rest how r → IsTold whole r.lines how
+  over_told : (G : Group) (whole : Told) (rest : List TypedCall) (how : RunEnd) (r : Runner H) → IsOver how → ComesOn h kept G whole rest how r → IsTold whole r.lines r.tally how
   over_told G whole rest (calls.Returned v) r over c = absurd over
   over_told G whole rest calls.Trapped r over c = c
   over_told G whole rest calls.ScriptEnded r over c = c

@@ -1,6 +1,6 @@
 -- Names that are legal stand alone: they are not empty, and no byte of them is `#`. The names of the exports of a valid component differ.
-use Rattle.std.proofs.Common.{◌≡◌, ◌∙◌, ◌⊎◌, inl, inr, refl, sym, ap, subst, ℕ, suc, ◌+◌, ◌<◌, ◌≤◌, ◌==◌, ◌&&◌, ◌||◌, not, List, [], ◌∷◌, ◌++◌, length, take, drop, map, Bool, true, false, cond, Option, Some, None, arith}
-use Rattle.std.specs.Prelude.{nat_lt, nat_le, position, codes, is_some}
+use Rattle.std.proofs.Common.{◌≡◌, ◌∙◌, ◌⊎◌, inl, inr, refl, sym, ap, subst, ℕ, suc, ◌+◌, ◌==◌, ◌&&◌, ◌||◌, not, List, [], ◌∷◌, ◌++◌, length, take, drop, Bool, true, false, cond, Option, Some, None, arith}
+use Rattle.std.specs.Prelude.{nat_lt, nat_le, codes, is_some}
 use Rattle.std.specs.Option.{option_map}
 use Rattle.std.specs.List.{onto_first, list_all, list_any, slice_split, position_or_len}
 use Rattle.std.specs.Str.{bytes_eq}
@@ -15,9 +15,8 @@ use Rattle.comp_names.specs.Labels.{is_digit, is_lower, is_upper, is_word, words
 use Rattle.comp_names.specs.Names.{cut, behind, resource_of, of_constructor, of_member, annotated, either_of, annotation_of, is_in_version, is_version, is_versioned, is_in_package, is_in_namespace, is_interface, is_legal}
 use Rattle.comp_names.specs.Same.{folded, is_same_name}
 use Rattle.comp_types.specs.Items.{Item, Entries, End, More, names, and_entry}
-use Rattle.comp_types.specs.Rules.{is_new_in}
 use Rattle.comp_interp.specs.Names.{is_hash}
-use Rattle.output_same.proofs.Exported.{Fits, AllFit}
+use Rattle.output_same.proofs.Exported.{AllFit}
 use Rattle.virt_engine.proofs.Named.{Lacks, StandsAlone, StandAlone, HaveNot, AllDiffer}
 
 -- ---- bytes

@@ -25,3 +25,5 @@ pub mod InOrder
 pub mod TreesOnce
 pub mod Alike
 pub mod Results
+pub mod GenLaws
+pub mod Counting

@@ -3,7 +3,6 @@ use Rattle.std.proofs.Common.{◌≡◌, ◌∙◌, refl, sym, ap, ℕ, ◌||◌
 use Rattle.wit_types.specs.Plain.{Plain, Parts, PlainFunc, BoolType, SignedType, UnsignedType, CharType, StringType, ListType, RecordType, VariantType, FlagsType, OwnType, BorrowType, End, More, Bare}
 use Rattle.wit_types.specs.PlainValue.{PlainValue, PlainValues, Payload}
 use Rattle.wit_types.specs.HasType.{is_list, is_record, is_variant, is_with, is_without, case_or_later, first_and_rest, is_of, are_of, is_of_case}
-use Rattle.abi_layout.specs.Handles.{handles}
 use Rattle.value_handles.specs.Whether.{has_handles, parts_have_handles}
 use Rattle.value_handles.proofs.Laws.{no_handles}
 use Rattle.comp_facts.specs.Handles.{has_handle, has_handle_in, answer_has_handle, func_has_handle}

@@ -4,15 +4,12 @@ use Rattle.std.specs.Prelude.{◌⊎◌, Option, Some, None, Result}
 use Rattle.outside.specs.Fault.{Rose}
 use Rattle.outside.specs.Files.{FilesState, Held, with_file, no_place}
 use Rattle.outside.specs.Sink.{SinkState}
-use Rattle.comp_grammar.specs.Trees.{Tree}
 use Rattle.comp_types.specs.Added.{type_of}
 use Rattle.virt_engine.specs.declared.plan.Ready.{Ready}
 use Rattle.virt_engine.specs.declared.status.Status.{Status}
 use Rattle.virt_engine.specs.declared.status.Status.TheVariants.{Done, PolicyRefused, AppRefused, FileFault, SinkFault, OverLimit, NoMemory, ScriptRefused, Trapped, ScriptEnded, StepsSpent, BadAnswer, TooDeep, Usage}
 use Rattle.virt_engine.specs.Command.{Command, command_of}
 use Rattle.virt_engine.specs.Line.{status_text}
-use Rattle.comp_types.specs.Items.{End}
-use Rattle.virt_engine.specs.Output.{output_bytes}
 use Rattle.virt_engine.specs.Parts.{written_by}
 use Rattle.virt_engine.specs.Report.{Puts, Reports}
 use Rattle.virt_engine.specs.Writing.{LeftOf}
@@ -85,7 +82,7 @@ done_is_due c s w told =
       inr (w.app, record { there = w.has_app.there told; short = w.has_app.short; tree = w.has_app.tree; uses = w.has_app.uses; application = w.has_app.application }, w.has_trees.taken told Done),
     )
 
-not_silent : (due : Status) (text : List ℕ) (k l : SinkState) (result : Status) → due ≢ NoMemory → Puts due text k l result → result ≡ NoMemory → ⊥
+pub not_silent : (due : Status) (text : List ℕ) (k l : SinkState) (result : Status) → due ≢ NoMemory → Puts due text k l result → result ≡ NoMemory → ⊥
 not_silent due text k l result loud p e = elim p.put [
   | inl w ↦ loud (sym w.status ∙ e)
   | inr b ↦ fault_is_not (sym b.status ∙ e)
@@ -94,16 +91,16 @@ not_silent due text k l result loud p e = elim p.put [
     fault_is_not : SinkFault ≡ NoMemory → ⊥
     fault_is_not h = cc
 
-done_is_loud : Done ≢ NoMemory
+pub done_is_loud : Done ≢ NoMemory
 done_is_loud h = cc
 
-fault_is_loud : (name : List ℕ) → FileFault name ≢ NoMemory
+pub fault_is_loud : (name : List ℕ) → FileFault name ≢ NoMemory
 fault_is_loud name h = cc
 
-held_then : (s t u : FilesState) (name bytes other : List ℕ) → t.held ≡ s.held → u.held ≡ with_file t.held name (Some bytes) → bytes ≡ other → u.held ≡ with_file s.held name (Some other)
+pub held_then : (s t u : FilesState) (name bytes other : List ℕ) → t.held ≡ s.held → u.held ≡ with_file t.held name (Some bytes) → bytes ≡ other → u.held ≡ with_file s.held name (Some other)
 held_then s t u name bytes other stays e same = e ∙ ap (λ (h : Held). with_file h name (Some bytes)) stays ∙ ap (λ (z : List ℕ). with_file s.held name (Some z)) same
 
-left_then : (s t u : FilesState) (name bytes other : List ℕ) → t.held ≡ s.held → LeftOf name bytes t.held u.held → bytes ≡ other → LeftOf name other s.held u.held
+pub left_then : (s t u : FilesState) (name bytes other : List ℕ) → t.held ≡ s.held → LeftOf name bytes t.held u.held → bytes ≡ other → LeftOf name other s.held u.held
 left_then s t u name bytes other stays left same = subst (λ (h : Held). LeftOf name other h u.held) stays (subst (λ (z : List ℕ). LeftOf name z t.held u.held) same left)
 
 -- what is written has room
@@ -178,7 +175,7 @@ ran_memory words s k = record {
 
 -- ---- what follows: the status that the contents call for
 
-put_of : (due : Status) (text : List ℕ) (k l : SinkState) (result : Status) → Reports due text k l result → ¬ (Rose k.faults l.faults) → (result ≡ due) ⊎ (result ≡ NoMemory)
+pub put_of : (due : Status) (text : List ℕ) (k l : SinkState) (result : Status) → Reports due text k l result → ¬ (Rose k.faults l.faults) → (result ≡ due) ⊎ (result ≡ NoMemory)
 put_of due text k l result r quiet = elim r [
   | inl p ↦ elim p.put [ inl w ↦ inl w.status | inr b ↦ absurd (quiet b.cause) ]
   | inr n ↦ inr n.0
@@ -274,7 +271,7 @@ fault_not_done h = cc
 memory_not_done : NoMemory ≡ Done → ⊥
 memory_not_done h = cc
 
-due_of_done : (due : Status) (text : List ℕ) (k l : SinkState) (result : Status) → Reports due text k l result → result ≡ Done → due ≡ Done
+pub due_of_done : (due : Status) (text : List ℕ) (k l : SinkState) (result : Status) → Reports due text k l result → result ≡ Done → due ≡ Done
 due_of_done due text k l result r e = elim r [
   | inl p ↦ elim p.put [ inl w ↦ sym w.status ∙ e | inr b ↦ absurd (fault_not_done (sym b.status ∙ e)) ]
   | inr n ↦ absurd (memory_not_done (sym n.0 ∙ e))

@@ -101,7 +101,7 @@ fault_first (Ok forest) name h next = cc
 fault_first (Err fault) name h next = h
 
 -- why the trees could not be made of contents that stayed
-trees_earlier : (policy : Policy) (s t u : FilesState) (e : Status) → Goes s t → t.held ≡ s.held → TreesCause policy t u e → TreesCause policy s u e
+pub trees_earlier : (policy : Policy) (s t u : FilesState) (e : Status) → Goes s t → t.held ≡ s.held → TreesCause policy t u e → TreesCause policy s u e
 trees_earlier policy s t u (FileFault kept) goes stays h = (
   Rose-before s.faults t.faults u.faults goes.later h.0,
   λ told. subst (λ (held : Held). Contains (trees_due held policy).asks kept) stays (h.1 (goes.told ∙ told)),

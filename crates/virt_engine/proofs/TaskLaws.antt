@@ -1,5 +1,5 @@
 -- A call of `run`, by what its parts did.
-use Rattle.std.proofs.Common.{◌≡◌, ◌∙◌, refl, sym, subst, ℕ, List, true, false, inl, inr, arith, Ok, Err}
+use Rattle.std.proofs.Common.{◌≡◌, ◌∙◌, refl, sym, true, false, inl, inr, arith, Ok, Err}
 use Rattle.std.specs.Prelude.{All}
 use Rattle.outside.specs.Files.{FilesState}
 use Rattle.outside.specs.Sink.{SinkState}
@@ -52,7 +52,7 @@ loud ends.TooDeep h = cc
 fault_is_loud : SinkFault ≡ NoMemory → ⊥
 fault_is_loud h = cc
 
-shown_is_loud : (shown : Shown) (k l : SinkState) (result : Status) → PutsShown shown k l result → result ≡ NoMemory → ⊥
+pub shown_is_loud : (shown : Shown) (k l : SinkState) (result : Status) → PutsShown shown k l result → result ≡ NoMemory → ⊥
 shown_is_loud shown k l result p e = elim p.puts.put [
   | inl w ↦ loud shown.end (sym w.status ∙ e)
   | inr b ↦ fault_is_loud (sym b.status ∙ e)

@@ -1,5 +1,5 @@
 -- What is told of a run is what is observed of it.
-use Rattle.std.proofs.Common.{◌≡◌, ◌∙◌, refl, sym, ap, subst, ℕ, List, [], ◌∷◌, ◌++◌, map, append_assoc, append-nil, Option}
+use Rattle.std.proofs.Common.{◌≡◌, ◌∙◌, refl, sym, ap, ℕ, List, [], ◌∷◌, ◌++◌, map, append_assoc, Option}
 use Rattle.wit_types.specs.PlainValue.{PlainValue}
 use Rattle.host_port.specs.Calls.{PlainObservation, Returned, Spent as IsSpent}
 use Rattle.host_port.specs.Hosts.{HostStep}
@@ -8,11 +8,11 @@ use Rattle.comp_worlds.specs.Passing.{out_of_tuple}
 use Rattle.comp_worlds.specs.Groups.{Group, World}
 use Rattle.comp_worlds.specs.Calls.{does_all, is_made}
 use Rattle.comp_worlds.specs.Hosts.{hosted}
-use Rattle.comp_worlds.specs.Observed.{first_state, Call, asks_export, leaves_export, makes_calls, runs_calls, obs_deep}
+use Rattle.comp_worlds.specs.Observed.{first_state, Call, asks_export, leaves_export, makes_calls, obs_deep}
 use Rattle.comp_worlds.proofs.Fair.{host_fair}
 use Rattle.comp_frames.specs.Running.{running}
 use Rattle.comp_frames.proofs.Unfolding.{meets_without_fuel, runs_serve}
-use Rattle.virt_engine.specs.Told.{Item, Told, TypedCall, untyped, before, told_after, at_most, result_item, nothing_more, calls_export, told_calls, told}
+use Rattle.virt_engine.specs.Told.{Item, Told, TypedCall, untyped, told_after, at_most, result_item, nothing_more, calls_export, told_calls, told}
 
 -- ---- one after the other
 
@@ -53,14 +53,14 @@ observed_before o (Next o' l w a) = refl
 observed_before o (Over o' e) = append_assoc o o' (end_item e ∷ [])
 observed_before o (Spent o') = append_assoc o o' (IsSpent ∷ [])
 
-abbrev seen_in : List Item → List PlainObservation
+abbrev pub seen_in : List Item → List PlainObservation
 seen_in items = map (λ i. i.seen) items
 
-seen_untyped : (o : List PlainObservation) → seen_in (untyped o) ≡ o
+pub seen_untyped : (o : List PlainObservation) → seen_in (untyped o) ≡ o
 seen_untyped [] = refl
 seen_untyped (x ∷ o) = ap (λ z. x ∷ z) (seen_untyped o)
 
-seen_more : (xs ys : List Item) → seen_in (xs ++ ys) ≡ seen_in xs ++ seen_in ys
+pub seen_more : (xs ys : List Item) → seen_in (xs ++ ys) ≡ seen_in xs ++ seen_in ys
 seen_more [] ys = refl
 seen_more (x ∷ xs) ys = ap (λ z. x.seen ∷ z) (seen_more xs ys)
 

@@ -1,5 +1,5 @@
 -- The application of a command: its file's bytes, and what they are.
-use Rattle.std.specs.Prelude.{ℕ, ◌≤◌, ◌<◌, ◌≡◌, ◌≢◌, ◌⊎◌, List, true, Option, Some, None, IsSome, Result, IfErr, IfOk, length, codes}
+use Rattle.std.specs.Prelude.{ℕ, ◌≤◌, ◌<◌, ◌≡◌, ◌≢◌, ◌⊎◌, List, true, Some, None, IsSome, Result, IfErr, IfOk, length}
 use Rattle.outside.specs.Fault.{Rose}
 use Rattle.outside.specs.Files.{FilesState, Held, Goes}
 use Rattle.comp_grammar.specs.Trees.{Tree}

@@ -5,6 +5,7 @@ use Rattle.virt_words.specs.declared.command.Command.{Command as Said}
 use Rattle.virt_words.specs.declared.command.Command.TheVariants.{Virt, Run, Gen}
 use Rattle.virt_words.specs.declared.command.VirtWords.{VirtWords}
 use Rattle.virt_words.specs.declared.command.RunWords.{RunWords}
+use Rattle.virt_words.specs.declared.command.GenWords.{GenWords}
 use Rattle.virt_words.specs.declared.command.WordsFault.{WordsFault}
 use Rattle.virt_words.specs.declared.command.WordsFault.TheVariants.{Usage, NoMemory}
 use Rattle.virt_engine.specs.declared.command.Names.{Names}
@@ -23,9 +24,7 @@ named_by w = record { app = w.app; policy = w.policy; out = w.out }
 -- what words say of `virt`
 abbrev pub virt_alone : Option Said → Option Command
 virt_alone (Some (Virt w)) = Some (named_by w)
-virt_alone (Some (Run w)) = None
-virt_alone (Some (Gen w)) = None
-virt_alone None = None
+virt_alone _ = None
 
 unfoldable pub command_of : List (List ℕ) → Option Command
 command_of words = virt_alone (said_by words)
@@ -42,23 +41,46 @@ told_by w = record { component = w.component; script = w.script; policy = w.poli
 
 -- what words say of `run`
 abbrev pub run_alone : Option Said → Option RunCommand
-run_alone (Some (Virt w)) = None
 run_alone (Some (Run w)) = Some (told_by w)
-run_alone (Some (Gen w)) = None
-run_alone None = None
+run_alone _ = None
 
 unfoldable pub run_of : List (List ℕ) → Option RunCommand
 run_of words = run_alone (said_by words)
 
--- the task that is due, unless memory ran out
-abbrev pub IsTask : Option Command → Option RunCommand → Result Task WordsFault → Type 0
-IsTask virt run (Ok (tasks.Virt w)) = (virt ≡ Some (named_by w)) × (run ≡ None)
-IsTask virt run (Ok (tasks.Run w)) = (virt ≡ None) × (run ≡ Some (told_by w))
-IsTask virt run (Err Usage) = (virt ≡ None) × (run ≡ None)
-IsTask virt run (Err NoMemory) = Unit {0}
+-- what is generated: how many functions, and the name of the output
+pub record GenCommand : Type 0 where
+  pub functions : ℕ
+  pub out : List ℕ
 
+abbrev pub gen_by : GenWords → GenCommand
+gen_by w = record { functions = w.functions; out = w.out }
+
+-- what words say of `gen`
+abbrev pub gen_alone : Option Said → Option GenCommand
+gen_alone (Some (Gen w)) = Some (gen_by w)
+gen_alone _ = None
+
+unfoldable pub gen_of : List (List ℕ) → Option GenCommand
+gen_of words = gen_alone (said_by words)
+
+-- The words are of `virt`, or no command.
+pub record NoOther (words : List (List ℕ)) : Type 0 where
+  pub run : run_of words ≡ None
+  pub gen : gen_of words ≡ None
+
+-- What words say: this command, and no other.
+pub record Says (words : List (List ℕ)) (virt : Option Command) (run : Option RunCommand) (gen : Option GenCommand) : Type 0 where
+  pub is_virt : command_of words ≡ virt
+  pub is_run : run_of words ≡ run
+  pub is_gen : gen_of words ≡ gen
+
+-- the task that is due, unless memory ran out
 abbrev pub ReadsTask : List (List ℕ) → Result Task WordsFault → Type 0
-ReadsTask words r = IsTask (command_of words) (run_of words) r
+ReadsTask words (Ok (tasks.Virt w)) = Says words (Some (named_by w)) None None
+ReadsTask words (Ok (tasks.Run w)) = Says words None (Some (told_by w)) None
+ReadsTask words (Ok (tasks.Gen w)) = Says words None None (Some (gen_by w))
+ReadsTask words (Err Usage) = Says words None None None
+ReadsTask words (Err NoMemory) = Unit {0}
 
 abbrev pub names_of : Names → Command
 names_of n = record { app = n.app.now; policy = n.policy.now; out = n.out.now }

@@ -18,3 +18,5 @@ pub mod Told
 pub mod Calling
 pub mod Runners
 pub mod Alike
+pub mod Tallies
+pub mod Generating

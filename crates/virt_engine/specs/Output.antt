@@ -20,22 +20,6 @@ use Rattle.adapter_world.specs.Names.{needed_count}
 use Rattle.component_judge.specs.Applications.{IsApplication}
 use Rattle.component_judge.specs.declared.limits.Purpose.TheVariants.{Virt}
 
--- The bytes are an output of an application that imports nothing: they spell a valid component without imports, whose exports are those
--- of the application, name by name with equal types, and which holds the application unchanged in one section of its outermost level.
--- Over whatever host, for every list of calls of its exports, it is seen to do what the application does, in one step more.
-pub record IsOutputAlone (app bytes : List ℕ) : Type 0 where
-  pub tree : Tree
-  pub uses : List ListedUse
-  pub application : IsApplication Virt app tree uses
-  pub nothing : (type_of tree).imports ≡ End
-  pub output : Tree
-  pub spelled : SpellsComponent output bytes
-  pub valid : IsValidComponent output
-  pub imports : (type_of output).imports ≡ End
-  pub exports : (type_of output).exports ≡ (type_of tree).exports
-  pub unchanged : HoldsOnce app bytes output
-  pub behaves : DoesTheSame output tree
-
 -- Two sections of the outermost level hold components, and the second is the application's: its content is the application's bytes,
 -- unchanged.
 pub record HoldsBeside (app : List ℕ) (tree : Tree) (bytes : List ℕ) (output : Tree) : Type 0 where
@@ -47,20 +31,57 @@ pub record HoldsBeside (app : List ℕ) (tree : Tree) (bytes : List ℕ) (output
   pub behind : List ℕ
   pub unchanged : bytes ≡ (before ++ (4 ∷ u32_format.write (length app))) ++ (app ++ behind)
 
--- The bytes are an output of an application with imports, under a policy: they spell a valid component, whose imports are those that
--- are needed, whose exports are those of the application, name by name with equal types, and which holds the application unchanged in
--- one section of its outermost level.
-pub record IsOutputBeside (policy : Policy) (app bytes : List ℕ) : Type 0 where
-  pub tree : Tree
-  pub uses : List ListedUse
-  pub application : IsApplication Virt app tree uses
-  pub something : (type_of tree).imports ≢ End
+-- ---- of a component that imports nothing
+
+-- The bytes spell a valid component without imports, whose exports are those of the component in it, name by name with equal types, and
+-- which holds that unchanged in one section of its outermost level.
+pub record IsWrappedAlone (tree : Tree) (app bytes : List ℕ) : Type 0 where
+  pub output : Tree
+  pub spelled : SpellsComponent output bytes
+  pub valid : IsValidComponent output
+  pub imports : (type_of output).imports ≡ End
+  pub exports : (type_of output).exports ≡ (type_of tree).exports
+  pub unchanged : HoldsOnce app bytes output
+
+-- ---- of a component that imports these of the listed interfaces, under a policy
+
+-- The bytes spell a valid component, whose imports are those that are needed, whose exports are those of the component in it, name by name
+-- with equal types, and which holds that unchanged in one section of its outermost level.
+pub record IsWrappedBeside (policy : Policy) (uses : List ListedUse) (tree : Tree) (app bytes : List ℕ) : Type 0 where
   pub output : Tree
   pub spelled : SpellsComponent output bytes
   pub valid : IsValidComponent output
   pub imports : AreNeeded policy uses (type_of output).imports
   pub exports : (type_of output).exports ≡ (type_of tree).exports
   pub unchanged : HoldsBeside app tree bytes output
+
+abbrev pub IsWrappedOf : Policy → List ListedUse → Tree → List ℕ → List ℕ → Type 0
+IsWrappedOf policy uses tree app bytes = (((type_of tree).imports ≡ End) × IsWrappedAlone tree app bytes) ⊎ IsWrappedBeside policy uses tree app bytes
+
+-- how many functions it imports
+abbrev pub wrapped_count : (policy : Policy) (uses : List ListedUse) (tree : Tree) (app bytes : List ℕ) → IsWrappedOf policy uses tree app bytes → ℕ
+wrapped_count policy uses tree app bytes (inl alone) = 0
+wrapped_count policy uses tree app bytes (inr beside) = needed_count policy uses
+
+-- ---- of an application
+
+-- The bytes are an output of an application that imports nothing. Over whatever host, for every list of calls of its exports, it is seen to
+-- do what the application does, in one step more.
+pub record IsOutputAlone (app bytes : List ℕ) : Type 0 where
+  pub tree : Tree
+  pub uses : List ListedUse
+  pub application : IsApplication Virt app tree uses
+  pub nothing : (type_of tree).imports ≡ End
+  pub wrapped : IsWrappedAlone tree app bytes
+  pub behaves : DoesTheSame wrapped.output tree
+
+-- The bytes are an output of an application with imports, under a policy.
+pub record IsOutputBeside (policy : Policy) (app bytes : List ℕ) : Type 0 where
+  pub tree : Tree
+  pub uses : List ListedUse
+  pub application : IsApplication Virt app tree uses
+  pub something : (type_of tree).imports ≢ End
+  pub wrapped : IsWrappedBeside policy uses tree app bytes
 
 abbrev pub IsOutputOf : Policy → List ℕ → List ℕ → Type 0
 IsOutputOf policy app bytes = IsOutputAlone app bytes ⊎ IsOutputBeside policy app bytes

@@ -2,7 +2,7 @@ ghost use Rattle.virt_engine.specs.Command.{ReadsTask};
 
 use std::alloc::Global;
 use virt_base::Text;
-use virt_words::{Command, RunWords, VirtWords, WordsFault, read_words};
+use virt_words::{Command, GenWords, RunWords, VirtWords, WordsFault, read_words};
 
 /// The names that a call of `virt` works on.
 #[derive(Clone, Copy)]
@@ -17,16 +17,18 @@ pub struct Names<'a> {
 pub enum Task {
     Virt(VirtWords),
     Run(RunWords),
+    Gen(GenWords),
 }
 
-/// What the words ask for. For now `gen` is refused as words that give no command.
+/// What the words ask for. For now `plug` is refused as words that give no command.
 pub fn task_in(alloc: Global, words: &[Text]) -> Result<Task, WordsFault>
     ensures { ReadsTask words.now result }
 {
     match read_words(alloc, words) {
         Ok(Command::Virt(words)) => Ok(Task::Virt(words)),
         Ok(Command::Run(words)) => Ok(Task::Run(words)),
-        Ok(Command::Gen(_)) => Err(WordsFault::Usage),
+        Ok(Command::Gen(words)) => Ok(Task::Gen(words)),
+        Ok(Command::Plug(_)) => Err(WordsFault::Usage),
         Err(fault) => Err(fault),
     }
 }

@@ -126,7 +126,7 @@ fn lines_for(
 }
 
 /// The parts of the output of an application, and the texts of a call that writes it.
-fn ready_for(
+pub fn ready_for(
     alloc: Global,
     policy: &Policy,
     trees: &Trees,

@@ -25,7 +25,7 @@ fn refused_for(fault: ReadPolicyFault) -> Status
 }
 
 /// The policy of a text.
-fn policy_in(alloc: Global, text: &[u8]) -> Result<Policy, Status>
+pub fn policy_in(alloc: Global, text: &[u8]) -> Result<Policy, Status>
     ensures { ReadsPolicy text.now result }
 {
     match read_policy(alloc, text) {

@@ -10,6 +10,7 @@ ghost use Rattle.virt_engine.specs.Shown.{CanRun, IsShown, ShowsRun};
 
 use crate::ends::{end_by, seen_by};
 use crate::lines::Lines;
+use crate::tally::Tally;
 use comp_interp::{Run, RunEnd};
 use comp_linking::link;
 use component_judge::Judged;
@@ -23,6 +24,7 @@ use wit_types::WitType;
 #[derive(Drop)]
 pub struct Shown {
     pub lines: Lines,
+    pub tally: Tally,
     pub end: RunEnd,
 }
 
@@ -52,22 +54,25 @@ fn behind(seen: &[Observation], shown: usize) -> &[Observation]
 struct Runner<H> {
     run: Run<H>,
     lines: Lines,
+    tally: Tally,
     /// So many of the host's observations stand among them.
     shown: usize,
 }
 
 impl<H: Host> Runner<H> {
-    /// Adds what was seen of the host since then.
+    /// Adds what was seen of the host since then, and counts it.
     fn show_host(&mut self, alloc: Global) -> Result<(), NoMemory>
         ensures { OnOk result (ShowsHost H.step H.kept self.old self.new) }
     {
         let seen = self.run.host().observations().as_slice();
-        self.lines.add_all(alloc, behind(seen, self.shown))?;
+        let later = behind(seen, self.shown);
+        self.lines.add_all(alloc, later)?;
+        self.tally.count_all(later)?;
         self.shown = seen.len();
         Ok(())
     }
 
-    /// Adds how a call came out, with a result of this type.
+    /// Adds how a call came out, with a result of this type, and counts it.
     fn show_end(
         &mut self,
         alloc: Global,
@@ -78,7 +83,9 @@ impl<H: Host> Runner<H> {
         ensures adds { IfOk result (λ how. ShowsEnd H.step H.kept end (type_of ty.entry) self.old how self.new) }
     {
         let how = end_by(&end);
-        self.lines.add(alloc, &seen_by(end), ty)?;
+        let seen = seen_by(end);
+        self.lines.add(alloc, &seen, ty)?;
+        self.tally.count(&seen)?;
         Ok(how)
     }
 
@@ -156,11 +163,13 @@ pub fn run_component<H: Host + Drop>(
     let mut runner = Runner {
         run: Run::new(alloc, linked, host, steps),
         lines: Lines::none(alloc),
+        tally: Tally::none(),
         shown: 0,
     };
     let end = runner.go(alloc, functions, calls)?;
     Ok(Shown {
         lines: runner.lines,
+        tally: runner.tally,
         end,
     })
 }

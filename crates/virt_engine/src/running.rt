@@ -16,7 +16,7 @@ use virt_base::Text;
 use virt_words::RunWords;
 
 /// Puts the lines of a run that is over.
-fn put_shown<S: Sink>(shown: &Shown, out: &mut S) -> Status
+pub fn put_shown<S: Sink>(shown: &Shown, out: &mut S) -> Status
     ensures { PutsShown shown.now (S.state out.old) (S.state out.new) result }
 {
     match shown.lines.put(out) {

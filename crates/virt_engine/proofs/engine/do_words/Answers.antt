@@ -1,4 +1,5 @@
 use Rattle.virt_engine.proofs.Runs.{ran_memory}
+use Rattle.virt_engine.proofs.GenLaws.{gen_memory}
 use Rattle.virt_engine.proofs.TaskLaws.{runs_memory}
 use Rattle.virt_engine.proofs.engine.do_words.Goals as goal
 
@@ -7,3 +8,6 @@ returns-in-Err-NoMemory-clause-virt g c = λ none. ran_memory c.args.words.now _
 
 pub returns-in-Err-NoMemory-clause-run : goal.returns-in-Err-NoMemory-clause-run
 returns-in-Err-NoMemory-clause-run g c = λ command run. runs_memory command _ _
+
+pub returns-in-Err-NoMemory-clause-made : goal.returns-in-Err-NoMemory-clause-made
+returns-in-Err-NoMemory-clause-made g c = λ command made. gen_memory command _ _

@@ -1,4 +1,5 @@
 use Rattle.virt_engine.proofs.Runs.{completes, accepts, delivers}
+use Rattle.virt_engine.proofs.GenLaws.{gen_completes, gen_delivers}
 use Rattle.virt_engine.proofs.RunLaws.{run_accepts, run_completes}
 use Rattle.virt_engine.proofs.engine.wasi_virt.Goals as goal
 
@@ -16,3 +17,9 @@ returns-clause-run_completes g c = λ command run. run_completes _ _ _ _ _ _ (c.
 
 pub returns-clause-run_accepts : goal.returns-clause-run_accepts
 returns-clause-run_accepts g c = λ command run. run_accepts _ _ _ _ _ _ (c.do_words.ensures.run command run)
+
+pub returns-clause-made_completes : goal.returns-clause-made_completes
+returns-clause-made_completes g c = λ command made. gen_completes _ _ _ _ _ _ (c.do_words.ensures.made command made)
+
+pub returns-clause-made_delivers : goal.returns-clause-made_delivers
+returns-clause-made_delivers g c = λ command made. gen_delivers _ _ _ _ _ _ (c.do_words.ensures.made command made)

@@ -1,0 +1,12 @@
+/// A list of a generated component that has one item for each function.
+#[derive(Debug, Clone, Copy, PartialEq, Eq)]
+pub enum Part {
+    /// The types of the core module's functions.
+    Functions,
+    CoreExports,
+    Bodies,
+    /// Aliases of the core module's exports.
+    Aliases,
+    Lifts,
+    Exports,
+}
