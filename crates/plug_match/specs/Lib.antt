@@ -1,0 +1,5 @@
+pub mod Steps
+pub mod FirstWalk
+pub mod Numbers
+pub mod Walk
+pub mod Answers
