@@ -78,8 +78,8 @@ abbrev Why : Purpose → Faulting → List ℕ → Refusal → Type 0
 Why p AtFault bytes refusal = IsLong p bytes refusal ⊎ ((length bytes ≤ bytes_limit p) × OfShort p AtFault bytes refusal)
 
 -- how types are at fault, in one way alone
-record IsOne (AtFault : Faulting) : Type 0 where
-  one : (ty : Signature) (a b : AppFault) → AtFault ty a → AtFault ty b → a ≡ b
+pub record IsOne (AtFault : Faulting) : Type 0 where
+  pub one : (ty : Signature) (a b : AppFault) → AtFault ty a → AtFault ty b → a ≡ b
 
 over_same : (a b : List ℕ) (v w : ℕ) → a ≡ b → v ≡ w → OverLimit a v ≡ OverLimit b w
 over_same a b v w e f = λ i. OverLimit (e i) (f i)
@@ -161,7 +161,7 @@ module _ (p : Purpose) (AtFault : Faulting) (bytes : List ℕ) where
     both a b (inr u) (inl v) = absurd (omega (arith, u.0, v.long))
     both a b (inr u) (inr v) = of_short a b u.1 v.1
 
-    one : (a b : Refusal) → a ≢ NoMemory → b ≢ NoMemory → IsRefusalBy p AtFault bytes a → IsRefusalBy p AtFault bytes b → a ≡ b
+    pub one : (a b : Refusal) → a ≢ NoMemory → b ≢ NoMemory → IsRefusalBy p AtFault bytes a → IsRefusalBy p AtFault bytes b → a ≡ b
     one a b x y h g = both a b (why a x h) (why b y g)
 
 some_same : (a b : AppFault) → Some a ≡ Some b → a ≡ b
@@ -194,13 +194,13 @@ verdict_for ty (Malformed at) h = absurd h
 verdict_for ty (Unsupported at byte) h = absurd h
 verdict_for ty (Invalid rule section) h = absurd h
 
-one_unlisted : (ty : Signature) (a b : AppFault) → IsUnlisted ty a → IsUnlisted ty b → a ≡ b
+pub one_unlisted : (ty : Signature) (a b : AppFault) → IsUnlisted ty a → IsUnlisted ty b → a ≡ b
 one_unlisted ty a b h g =
     let v = verdict_for ty a h in
     let w = verdict_for ty b g in
     some_same a b (sym v.2 ∙ ap fault_by (one_verdict ty v.0 w.0 v.1 w.1) ∙ w.2)
 
-unlisted_is_one : IsOne IsUnlisted
+pub unlisted_is_one : IsOne IsUnlisted
 unlisted_is_one = record { one = one_unlisted }
 
 pub one_application_refusal : (p : Purpose) (bytes : List ℕ) (a b : Refusal) → a ≢ NoMemory → b ≢ NoMemory → IsApplicationRefusal p bytes a → IsApplicationRefusal p bytes b → a ≡ b

@@ -47,7 +47,7 @@ module _ (p : Purpose) (AtFault : Faulting) (bytes : List ℕ) (tree : Tree) (a 
     ])
   ]
 
-  stands : (e : Refusal) → e ≢ NoMemory → IsRefusalBy p AtFault bytes e → ⊥
+  pub stands : (e : Refusal) → e ≢ NoMemory → IsRefusalBy p AtFault bytes e → ⊥
   stands (Refused (Malformed at)) some h = h.1.1 tree a.small.spelled.0
   stands (Refused (Unsupported at byte)) some h = h.1.1 tree a.small.spelled.0
   stands (Refused (Invalid rule section)) some h =
@@ -76,7 +76,7 @@ accepted_or_refused uses cause name e = cc
 not_listed : (ty : Signature) (uses : List ListedUse) (cause : Cause) (name : List ℕ) → IsListed ty uses → IsRefused cause ty name → ⊥
 not_listed ty uses cause name l h = accepted_or_refused uses cause name (one_listing ty (Accepted uses) (RefusedFor cause name) l h)
 
-listed_stands : (ty : Signature) (uses : List ListedUse) (fault : AppFault) → IsListed ty uses → IsUnlisted ty fault → ⊥
+pub listed_stands : (ty : Signature) (uses : List ListedUse) (fault : AppFault) → IsListed ty uses → IsUnlisted ty fault → ⊥
 listed_stands ty uses (Unlisted name) l h = not_listed ty uses causes.Unlisted name l h
 listed_stands ty uses (WrongType name) l h = not_listed ty uses causes.WrongType name l h
 listed_stands ty uses (TwoVersions name) l h = not_listed ty uses causes.TwoVersions name l h

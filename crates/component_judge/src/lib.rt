@@ -23,7 +23,7 @@ pub use fetching::fetch;
 pub use functions::callable;
 pub use inputs::{Fetched, Inputs, ListedInputs, fetch_inputs, fetch_listed, fetch_wrapped};
 pub use laws::{has_one_verdict, one_refusal_of_bytes};
-pub use limits::Purpose;
+pub use limits::{APPLICATION_BYTES, Purpose};
 pub use refusal::Refusal;
 pub use script::{Scripted, judge_script};
 pub use unready::Unready;
