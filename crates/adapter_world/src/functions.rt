@@ -42,7 +42,7 @@ fn is_shut_in(net: &NetRules, function: &str) -> bool
 }
 
 /// Whether the rules on addresses and names allow nothing to a function.
-fn is_shut(policy: &Policy, function: &str) -> bool
+pub fn is_shut(policy: &Policy, function: &str) -> bool
     ensures { result ≡ is_shut policy.now function.now }
 {
     by_rules(policy.sockets) && is_shut_in(&policy.net, function)

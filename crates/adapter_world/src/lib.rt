@@ -12,8 +12,9 @@ mod type_names;
 mod world;
 
 pub use check::are_needed;
+pub use functions::{is_asked, is_needed_at, is_shut};
 pub use kinds::can_be_host;
-pub use needs::{NeededInterface, Needs, needs_of};
+pub use needs::{NeededInterface, Needs, import_name, needs_of};
 pub use reach::{describe_all, is_among, reach_function, reach_name};
 pub use type_names::{TypeName, TypeNames};
 pub use world::{World, WorldFunction, WorldImport, WorldType, world_of};

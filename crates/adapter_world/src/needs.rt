@@ -64,7 +64,7 @@ fn version_of(uses: &[ListedUse], interface: u32) -> &str
 }
 
 /// The name of an interface with its version.
-fn import_name(
+pub fn import_name(
     alloc: Global,
     uses: &[ListedUse],
     number: u32,
