@@ -1,0 +1,5 @@
+pub mod Reaching
+pub mod Handled
+pub mod Free
+pub mod Closed
+pub mod Examples
