@@ -11,8 +11,9 @@ use Rattle.clap.proofs.WalkLemmas.{first_value-rows}
 use Rattle.virt_words.specs.declared.command.WordsFault.{WordsFault}
 use Rattle.virt_words.specs.declared.command.WordsFault.TheVariants.{Usage, NoMemory}
 use Rattle.virt_words.specs.declared.command.Command.{Command}
-use Rattle.virt_words.specs.Apps.{virt_app, run_app, gen_app, plug_app}
-use Rattle.virt_words.specs.Words.{IsRefused, Matches, Reads, unless_refused, words_of, virt_from, virt_in, virt_words, run_from, run_in, run_words, gen_from, gen_in, gen_words, plug_from, plug_in, plug_words}
+use Rattle.virt_words.specs.declared.command.InspectWords.{InspectWords}
+use Rattle.virt_words.specs.Apps.{virt_app, run_app, gen_app, plug_app, inspect_app}
+use Rattle.virt_words.specs.Words.{IsRefused, Matches, Reads, unless_refused, words_of, virt_from, virt_in, virt_words, run_from, run_in, run_words, gen_from, gen_in, gen_words, plug_from, plug_in, plug_words, inspect_from, inspect_in, inspect_words}
 
 pub virt_is_free : is_simple_and_free virt_app ≡ true
 unfolding clap_on_literals
@@ -46,6 +47,14 @@ pub plug_is_simple : is_simple plug_app ≡ true
 unfolding clap_on_literals
 plug_is_simple = refl
 
+pub inspect_is_free : is_simple_and_free inspect_app ≡ true
+unfolding clap_on_literals
+inspect_is_free = refl
+
+pub inspect_is_simple : is_simple inspect_app ≡ true
+unfolding clap_on_literals
+inspect_is_simple = refl
+
 map_self : (ws : List (List ℕ)) → map (λ t. t) ws ≡ ws
 map_self [] = refl
 map_self (w ∷ ws) = ap (λ r. w ∷ r) (map_self ws)
@@ -78,16 +87,16 @@ pub parse_err : (app : App) (ws : List (List ℕ)) (e : Error) (f : WordsFault) 
     → Matches app ws (Err f)
 parse_err app ws e f free kinds n = of_words app (Err f) ws (fault_says app (map (λ t. t) ws) e f (kinds free) n)
 
--- ---- the four commands
+-- ---- the four commands, and that of the program that inspects
 
-passed : (kinds : Kinds) (o : Option Command) → kinds ≡ [] → unless_refused kinds o ≡ o
+passed : {A : Type 0} (kinds : Kinds) (o : Option A) → kinds ≡ [] → unless_refused kinds o ≡ o
 passed kinds o none = rw (none) refl
 
-stopped : (kinds : Kinds) (o : Option Command) → IsRefused kinds → unless_refused kinds o ≡ None
+stopped : {A : Type 0} (kinds : Kinds) (o : Option A) → IsRefused kinds → unless_refused kinds o ≡ None
 stopped [] o h = absurd h
 stopped (k ∷ ks) o h = refl
 
-refused_words : (app : App) (taken : List Row → Option Command) (ws : List (List ℕ)) → Matches app ws (Err Usage) → words_of app taken ws ≡ None
+refused_words : {A : Type 0} (app : App) (taken : List Row → Option A) (ws : List (List ℕ)) → Matches app ws (Err Usage) → words_of app taken ws ≡ None
 refused_words app taken ws h = stopped (fault_of app ws) _ h
 
 virt_taken : (ws : List (List ℕ)) (m : ArgMatches) → Matches virt_app ws (Ok m)
@@ -106,7 +115,12 @@ plug_taken : (ws : List (List ℕ)) (m : ArgMatches) → Matches plug_app ws (Ok
     → plug_from (first_value (found_of m) (codes "A")) (first_value (found_of m) (codes "B")) (first_value (found_of m) (codes "policy")) (first_value (found_of m) (codes "out")) ≡ plug_words ws
 plug_taken ws m h = rw (h.1 (codes "A"), h.1 (codes "B"), h.1 (codes "policy"), h.1 (codes "out")) (sym (passed (fault_of plug_app ws) _ h.0))
 
-stops : (app due : App) (taken : List Row → Option Command) (ws : List (List ℕ)) (f : WordsFault) → app ≡ due → Matches app ws (Err f) → Reads (words_of due taken ws) (Err f)
+inspect_taken : (ws : List (List ℕ)) (m : ArgMatches) → Matches inspect_app ws (Ok m)
+    → inspect_from (first_value (found_of m) (codes "COMPONENT")) (first_value (found_of m) (codes "policy")) ≡ inspect_words ws
+unfolding inspect_words
+inspect_taken ws m h = rw (h.1 (codes "COMPONENT"), h.1 (codes "policy")) (sym (passed (fault_of inspect_app ws) _ h.0))
+
+stops : {A : Type 0} (app due : App) (taken : List Row → Option A) (ws : List (List ℕ)) (f : WordsFault) → app ≡ due → Matches app ws (Err f) → Reads (words_of due taken ws) (Err f)
 stops app due taken ws Usage is h = refused_words due taken ws (subst (λ a. Matches a ws (Err Usage)) is h)
 stops app due taken ws NoMemory is h = tt
 
@@ -137,3 +151,11 @@ plug_reads app ws m r is h reads = subst (λ due. Reads due r) (plug_taken ws m 
 
 pub plug_stops : (app : App) (ws : List (List ℕ)) (f : WordsFault) → app ≡ plug_app → Matches app ws (Err f) → Reads (plug_words ws) (Err f)
 plug_stops app ws f is h = stops app plug_app plug_in ws f is h
+
+pub inspect_reads : (app : App) (ws : List (List ℕ)) (m : ArgMatches) (r : Result InspectWords WordsFault) → app ≡ inspect_app → Matches app ws (Ok m)
+    → Reads (inspect_from (first_value (found_of m) (codes "COMPONENT")) (first_value (found_of m) (codes "policy"))) r → Reads (inspect_words ws) r
+inspect_reads app ws m r is h reads = subst (λ due. Reads due r) (inspect_taken ws m (subst (λ a. Matches a ws (Ok m)) is h)) reads
+
+pub inspect_stops : (app : App) (ws : List (List ℕ)) (f : WordsFault) → app ≡ inspect_app → Matches app ws (Err f) → Reads (inspect_words ws) (Err f)
+unfolding inspect_words
+inspect_stops app ws f is h = stops app inspect_app inspect_in ws f is h

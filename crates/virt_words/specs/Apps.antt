@@ -36,6 +36,10 @@ run_app = with_rule (with_rule (with_rule (with_rule (plain_app (codes "run")) (
 abbrev pub gen_app : App
 gen_app = with_rule (with_rule (plain_app (codes "gen")) (positional (codes "N"))) (positional (codes "OUT"))
 
+-- `COMPONENT`, with `-p` where it is wanted
+abbrev pub inspect_app : App
+inspect_app = with_rule (with_rule (plain_app (codes "inspect")) (positional (codes "COMPONENT"))) (option_named (codes "policy") 112)
+
 -- `A` and `B`, with `-p` and `-o`
 abbrev pub plug_app : App
 plug_app = with_rule (with_rule (with_rule (with_rule (plain_app (codes "plug")) (positional (codes "A"))) (positional (codes "B")))

@@ -7,7 +7,8 @@ use Rattle.virt_words.specs.declared.command.WordsFault.{WordsFault}
 use Rattle.virt_words.specs.declared.command.WordsFault.TheVariants.{Usage, NoMemory}
 use Rattle.virt_words.specs.declared.command.Command.{Command}
 use Rattle.virt_words.specs.declared.command.Command.TheVariants.{Virt, Run, Gen, Plug}
-use Rattle.virt_words.specs.Apps.{virt_app, run_app, gen_app, plug_app}
+use Rattle.virt_words.specs.declared.command.InspectWords.{InspectWords}
+use Rattle.virt_words.specs.Apps.{virt_app, run_app, gen_app, plug_app, inspect_app}
 use Rattle.virt_words.specs.Numbers.{number_in}
 
 -- ---- what the values of a command say
@@ -36,14 +37,18 @@ abbrev pub plug_from : Option (List ℕ) → Option (List ℕ) → Option (List 
 plug_from (Some first) (Some second) (Some policy) (Some out) = Some (Plug (record { first = first; second = second; policy = policy; out = out }))
 plug_from _ _ _ _ = None
 
+abbrev pub inspect_from : Option (List ℕ) → Option (List ℕ) → Option InspectWords
+inspect_from (Some component) policy = Some (record { component = component; policy = policy })
+inspect_from None policy = None
+
 -- ---- the words behind the action, as `clap` takes them
 
 -- where `clap` refuses nothing, what its matches say
-abbrev pub unless_refused : Kinds → Option Command → Option Command
+abbrev pub unless_refused : {A : Type 0} → Kinds → Option A → Option A
 unless_refused [] taken = taken
 unless_refused (k ∷ ks) taken = None
 
-abbrev pub words_of : App → (List Row → Option Command) → List (List ℕ) → Option Command
+abbrev pub words_of : {A : Type 0} → App → (List Row → Option A) → List (List ℕ) → Option A
 words_of app taken words = unless_refused (fault_of app words) (taken (matches_of app words))
 
 abbrev pub virt_in : List Row → Option Command
@@ -70,6 +75,13 @@ plug_in rows = plug_from (first_of (codes "A") rows) (first_of (codes "B") rows)
 abbrev pub plug_words : List (List ℕ) → Option Command
 plug_words words = words_of plug_app plug_in words
 
+-- those of another program, which does one thing: they have no action
+abbrev pub inspect_in : List Row → Option InspectWords
+inspect_in rows = inspect_from (first_of (codes "COMPONENT") rows) (first_of (codes "policy") rows)
+
+unfoldable pub inspect_words : List (List ℕ) → Option InspectWords
+inspect_words words = words_of inspect_app inspect_in words
+
 -- ---- all words: the first names the action
 
 abbrev pub command_of : List (List ℕ) → Option Command
@@ -81,7 +93,7 @@ command_of (action ∷ words) =
     else (if bytes_eq action (codes "plug") then plug_words words else None)))
 
 -- the command that is due, unless memory ran out
-abbrev pub Reads : Option Command → Result Command WordsFault → Type 0
+abbrev pub Reads : {A : Type 0} → Option A → Result A WordsFault → Type 0
 Reads due (Ok command) = due ≡ Some command
 Reads due (Err Usage) = due ≡ None
 Reads due (Err NoMemory) = Unit {0}

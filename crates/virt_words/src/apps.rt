@@ -1,6 +1,6 @@
 ghost use Rattle.std.specs.Prelude.{◌≡◌, IfOk, false};
 ghost use Rattle.clap.specs.Words.{app_of, rule_of};
-ghost use Rattle.virt_words.specs.Apps.{plain_app, positional, option_named, long_option, required_option, virt_app, run_app, gen_app, plug_app};
+ghost use Rattle.virt_words.specs.Apps.{plain_app, positional, option_named, long_option, required_option, virt_app, run_app, gen_app, plug_app, inspect_app};
 
 use clap::{Arg, Command};
 use std::alloc::{AllocError, Global};
@@ -79,6 +79,15 @@ pub fn gen_command<'a>(alloc: Global) -> Result<Command<'a>, AllocError>
     let functions = word(alloc, "N");
     let out = word(alloc, "OUT");
     plain(alloc, "gen").arg(functions)?.arg(out)
+}
+
+/// The command of the program that inspects.
+pub fn inspect_command<'a>(alloc: Global) -> Result<Command<'a>, AllocError>
+    ensures { IfOk result (λ c. app_of c ≡ inspect_app) }
+{
+    let component = word(alloc, "COMPONENT");
+    let policy = allowed(alloc, "policy", 'p');
+    plain(alloc, "inspect").arg(component)?.arg(policy)
 }
 
 /// The command after `plug`.

@@ -36,6 +36,13 @@ pub struct PlugWords {
     pub out: Text,
 }
 
+/// What is inspected, and under which policy, if any.
+#[derive(Debug, Drop)]
+pub struct InspectWords {
+    pub component: Text,
+    pub policy: Option<Text>,
+}
+
 /// What the words of a command line ask for.
 #[derive(Debug, Drop)]
 pub enum Command {

@@ -1,9 +1,11 @@
 ghost use Rattle.std.specs.Prelude.{◌≡◌, IfOk, codes, option_map, true};
 ghost use Rattle.clap.specs.Words.{app_of, first_value, found_of, is_simple, is_simple_and_free, kind_of};
-ghost use Rattle.virt_words.specs.Words.{Matches, Reads, command_of, gen_from, gen_words, plug_from, plug_words, run_from, run_words, steps_in, virt_from, virt_words};
+ghost use Rattle.virt_words.specs.Words.{Matches, Reads, command_of, gen_from, gen_words, inspect_from, inspect_words, plug_from, plug_words, run_from, run_words, steps_in, virt_from, virt_words};
 
-use crate::apps::{gen_command, plug_command, run_command, virt_command};
-use crate::command::{Command, GenWords, PlugWords, RunWords, VirtWords, WordsFault};
+use crate::apps::{gen_command, inspect_command, plug_command, run_command, virt_command};
+use crate::command::{
+    Command, GenWords, InspectWords, PlugWords, RunWords, VirtWords, WordsFault,
+};
 use crate::numbers::number_in;
 use clap::error::ErrorKind;
 use clap::{ArgMatches, Error};
@@ -142,6 +144,19 @@ fn plug_from(alloc: Global, matches: &ArgMatches<'_>) -> Result<Command, WordsFa
     }
 }
 
+fn inspect_from(alloc: Global, matches: &ArgMatches<'_>) -> Result<InspectWords, WordsFault>
+    ensures { Reads (inspect_from (first_value (found_of matches.now) (codes "COMPONENT")) (first_value (found_of matches.now) (codes "policy"))) result }
+{
+    match matches.get_str("COMPONENT") {
+        Some(component) => {
+            let component = Text::from_str(alloc, component)?;
+            let policy = copy_of(alloc, matches.get_str("policy"))?;
+            Ok(InspectWords { component, policy })
+        }
+        None => Err(WordsFault::Usage),
+    }
+}
+
 #[tactic(auto, using(crate::proofs::Refusals::virt_reads, crate::proofs::Refusals::virt_stops))]
 fn read_virt(alloc: Global, words: &[Text]) -> Result<Command, WordsFault>
     ensures { Reads (virt_words words.now) result }
@@ -190,6 +205,21 @@ fn read_plug(alloc: Global, words: &[Text]) -> Result<Command, WordsFault>
     };
     match matches_of(command, words) {
         Ok(matches) => plug_from(alloc, &matches),
+        Err(fault) => Err(fault),
+    }
+}
+
+/// What the words after the name of the program that inspects ask for: `COMPONENT`, and `-p POLICY` where it is wanted, read as the words
+/// of an action are (`read_words`). `Usage` exactly where they are no such words.
+#[tactic(auto, using(crate::proofs::Refusals::inspect_reads, crate::proofs::Refusals::inspect_stops))]
+pub fn read_inspect(alloc: Global, words: &[Text]) -> Result<InspectWords, WordsFault>
+    ensures { Reads (inspect_words words.now) result }
+{
+    let Ok(command) = inspect_command(alloc) else {
+        return Err(WordsFault::NoMemory);
+    };
+    match matches_of(command, words) {
+        Ok(matches) => inspect_from(alloc, &matches),
         Err(fault) => Err(fault),
     }
 }
