@@ -3,9 +3,7 @@ ghost use Rattle.clap.specs.Words.{app_of, first_value, found_of, is_simple, is_
 ghost use Rattle.virt_words.specs.Words.{Matches, Reads, command_of, gen_from, gen_words, inspect_from, inspect_words, plug_from, plug_words, run_from, run_words, steps_in, virt_from, virt_words};
 
 use crate::apps::{gen_command, inspect_command, plug_command, run_command, virt_command};
-use crate::command::{
-    Command, GenWords, InspectWords, PlugWords, RunWords, VirtWords, WordsFault,
-};
+use crate::command::{Command, GenWords, InspectWords, PlugWords, RunWords, VirtWords, WordsFault};
 use crate::numbers::number_in;
 use clap::error::ErrorKind;
 use clap::{ArgMatches, Error};
