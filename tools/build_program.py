@@ -1,8 +1,11 @@
 #!/usr/bin/env python3
-"""Builds the program where it is not built or a source was saved since its build began, and runs it with the caller's words.
+"""Builds a program where it is not built or a source was saved since its build began, and runs it with the caller's words.
 
-Each crate that it stands on is proved, as many at once as there are processors. What is built is a copy of the sources as they are when
-the build begins. `wasi-virt` at the top calls this only where there is something to build.
+usage: build_program.py NAME PROGRAM WORDS..: the name by which it is called, its crate, and the words
+
+Each crate that it stands on is proved, where it has changed or one below it was proved later, as many at once as there are processors. So
+what several programs stand on is proved once. What is built is a copy of the sources as they are when the build begins. `wasi-virt` and
+`wasi-inspect` at the top call this only where there is something to build.
 """
 
 import fcntl
@@ -14,12 +17,12 @@ import tempfile
 import threading
 
 TOP = os.path.dirname(os.path.dirname(os.path.realpath(__file__)))
-PROGRAM = "virt_cli"
+NAME, PROGRAM, *WORDS = sys.argv[1:]
 USAGE = 64
 
 
 def say(text):
-    print(f"wasi-virt: {text}", file=sys.stderr, flush=True)
+    print(f"{NAME}: {text}", file=sys.stderr, flush=True)
 
 
 def folder(tree, name):
@@ -75,24 +78,37 @@ def saved_since(begun, name):
     return False
 
 
-def due(crates):
-    """The crates whose sources were saved since the last build began, and those that stand on them."""
+def begun(name):
+    """When the build began in which the crate was proved last; None where there was none."""
     try:
-        begun = os.stat(built(PROGRAM, "build_begun")).st_mtime_ns
+        return os.stat(built(name, "build_begun")).st_mtime_ns
     except OSError:
-        return set(crates)
-    if os.stat(os.path.join(TOP, "crates.txt")).st_mtime_ns > begun or not os.path.exists(built(PROGRAM, PROGRAM)):
-        return set(crates)
+        return None
+
+
+def is_due(crate, listed):
+    """Whether the crate is to be proved, where those that it stands on are not."""
+    at = begun(crate.name)
+    if at is None or at < listed or any(begun(under) > at for under in crate.needs):
+        return True
+    return saved_since(at, crate.name)
+
+
+def due(crates):
+    """The crates that were not proved since their sources were saved, and those that stand on them."""
+    listed = os.stat(os.path.join(TOP, "crates.txt")).st_mtime_ns
     found = set()
     for crate in crates.values():
-        if found & set(crate.needs) or saved_since(begun, crate.name):
+        if found & set(crate.needs) or is_due(crate, listed):
             found.add(crate.name)
+    if not os.path.exists(built(PROGRAM, PROGRAM)):
+        found.add(PROGRAM)
     return found
 
 
 class Build:
-    def __init__(self, crates, due, room):
-        self.crates, self.due, self.room = crates, due, room
+    def __init__(self, crates, due, room, begins):
+        self.crates, self.due, self.room, self.begins = crates, due, room, begins
         self.proved = [it for it in crates if it not in due]
         self.begun, self.failed, self.count = set(), None, 0
         self.changed = threading.Condition()
@@ -137,6 +153,7 @@ class Build:
             )
             if ran.returncode != wanted:
                 return ran.stdout
+        shutil.copy2(self.begins, os.path.join(out, "build_begun"))
         # (the other crates of this tree take its library from there)
         shutil.rmtree(built(name), ignore_errors=True)
         shutil.move(out, built(name))
@@ -160,12 +177,12 @@ def build(crates, due):
     if len(due) == len(crates):
         say(f"the first build proves {len(crates)} crates, which takes some thirty to sixty minutes on four processors and 12 GB of disk")
     else:
-        say(f"sources have changed: {len(due)} of {len(crates)} crates are proved again")
+        say(f"{len(due)} of {len(crates)} crates have changed or were not proved yet")
     with tempfile.TemporaryDirectory(prefix="wasi-virt-") as room:
-        begun = os.path.join(room, "build_begun")
-        with open(begun, "w", encoding="utf-8"):
+        begins = os.path.join(room, "build_begun")
+        with open(begins, "w", encoding="utf-8"):
             pass
-        job = Build(crates, due, room)
+        job = Build(crates, due, room, begins)
         workers = [threading.Thread(target=job.work, args=(it,)) for it in range(min(os.cpu_count() or 1, len(due)))]
         for it in workers:
             it.start()
@@ -176,7 +193,6 @@ def build(crates, due):
             print(said, file=sys.stderr)
             say(f"{name} is not proved")
             sys.exit(70)
-        shutil.copy2(begun, built(PROGRAM, "build_begun"))
 
 
 def note_sources(crates):
@@ -195,7 +211,7 @@ def main():
             if left:
                 build(crates, left)
             note_sources(crates)
-    os.execv(built(PROGRAM, PROGRAM), [built(PROGRAM, PROGRAM), *sys.argv[1:]])
+    os.execv(built(PROGRAM, PROGRAM), [built(PROGRAM, PROGRAM), *WORDS])
 
 
 main()
