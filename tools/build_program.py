@@ -1,11 +1,8 @@
 #!/usr/bin/env python3
-"""Builds a program where it is not built or a source was saved since its build began, and runs it with the caller's words.
+"""Builds the program where it is not built or a source was saved since its build began, and runs it with the caller's words.
 
-usage: build_program.py NAME PROGRAM WORDS..: the name by which it is called, its crate, and the words
-
-Each crate that it stands on is proved, where it has changed or one below it was proved later, as many at once as there are processors. So
-what several programs stand on is proved once. What is built is a copy of the sources as they are when the build begins. `wasi-virt` and
-`wasi-inspect` at the top call this only where there is something to build.
+Each crate that it stands on is proved, as many at once as there are processors. What is built is a copy of the sources as they are when
+the build begins. `wasi-virt` at the top calls this only where there is something to build.
 """
 
 import fcntl
@@ -17,12 +14,12 @@ import tempfile
 import threading
 
 TOP = os.path.dirname(os.path.dirname(os.path.realpath(__file__)))
-NAME, PROGRAM, *WORDS = sys.argv[1:]
+PROGRAM = "virt_cli"
 USAGE = 64
 
 
 def say(text):
-    print(f"{NAME}: {text}", file=sys.stderr, flush=True)
+    print(f"wasi-virt: {text}", file=sys.stderr, flush=True)
 
 
 def folder(tree, name):
@@ -78,37 +75,24 @@ def saved_since(begun, name):
     return False
 
 
-def begun(name):
-    """When the build began in which the crate was proved last; None where there was none."""
-    try:
-        return os.stat(built(name, "build_begun")).st_mtime_ns
-    except OSError:
-        return None
-
-
-def is_due(crate, listed):
-    """Whether the crate is to be proved, where those that it stands on are not."""
-    at = begun(crate.name)
-    if at is None or at < listed or any(begun(under) > at for under in crate.needs):
-        return True
-    return saved_since(at, crate.name)
-
-
 def due(crates):
-    """The crates that were not proved since their sources were saved, and those that stand on them."""
-    listed = os.stat(os.path.join(TOP, "crates.txt")).st_mtime_ns
+    """The crates whose sources were saved since the last build began, and those that stand on them."""
+    try:
+        begun = os.stat(built(PROGRAM, "build_begun")).st_mtime_ns
+    except OSError:
+        return set(crates)
+    if os.stat(os.path.join(TOP, "crates.txt")).st_mtime_ns > begun or not os.path.exists(built(PROGRAM, PROGRAM)):
+        return set(crates)
     found = set()
     for crate in crates.values():
-        if found & set(crate.needs) or is_due(crate, listed):
+        if found & set(crate.needs) or saved_since(begun, crate.name):
             found.add(crate.name)
-    if not os.path.exists(built(PROGRAM, PROGRAM)):
-        found.add(PROGRAM)
     return found
 
 
 class Build:
-    def __init__(self, crates, due, room, begins):
-        self.crates, self.due, self.room, self.begins = crates, due, room, begins
+    def __init__(self, crates, due, room):
+        self.crates, self.due, self.room = crates, due, room
         self.proved = [it for it in crates if it not in due]
         self.begun, self.failed, self.count = set(), None, 0
         self.changed = threading.Condition()
@@ -153,7 +137,6 @@ class Build:
             )
             if ran.returncode != wanted:
                 return ran.stdout
-        shutil.copy2(self.begins, os.path.join(out, "build_begun"))
         # (the other crates of this tree take its library from there)
         shutil.rmtree(built(name), ignore_errors=True)
         shutil.move(out, built(name))
@@ -177,12 +160,12 @@ def build(crates, due):
     if len(due) == len(crates):
         say(f"the first build proves {len(crates)} crates, which takes some thirty to sixty minutes on four processors and 12 GB of disk")
     else:
-        say(f"{len(due)} of {len(crates)} crates have changed or were not proved yet")
+        say(f"sources have changed: {len(due)} of {len(crates)} crates are proved again")
     with tempfile.TemporaryDirectory(prefix="wasi-virt-") as room:
-        begins = os.path.join(room, "build_begun")
-        with open(begins, "w", encoding="utf-8"):
+        begun = os.path.join(room, "build_begun")
+        with open(begun, "w", encoding="utf-8"):
             pass
-        job = Build(crates, due, room, begins)
+        job = Build(crates, due, room)
         workers = [threading.Thread(target=job.work, args=(it,)) for it in range(min(os.cpu_count() or 1, len(due)))]
         for it in workers:
             it.start()
@@ -193,6 +176,7 @@ def build(crates, due):
             print(said, file=sys.stderr)
             say(f"{name} is not proved")
             sys.exit(70)
+        shutil.copy2(begun, built(PROGRAM, "build_begun"))
 
 
 def note_sources(crates):
@@ -211,7 +195,7 @@ def main():
             if left:
                 build(crates, left)
             note_sources(crates)
-    os.execv(built(PROGRAM, PROGRAM), [built(PROGRAM, PROGRAM), *WORDS])
+    os.execv(built(PROGRAM, PROGRAM), [built(PROGRAM, PROGRAM), *sys.argv[1:]])
 
 
 main()

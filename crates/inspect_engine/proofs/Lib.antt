@@ -1,4 +1,0 @@
-pub mod Joining
-pub mod PolicyReading
-pub mod Inspecting
-pub mod Accepting
