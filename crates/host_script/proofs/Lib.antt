@@ -12,5 +12,3 @@ pub mod Textual
 pub mod Typed
 pub mod Whole
 pub mod ExportPlaces
-pub mod Texts
-pub mod OnePass
