@@ -57,7 +57,7 @@ ROWS = """
 7|run seven.wasm -s great.json|script refused: |wasi-virt: great.json: number out of range at line 1 column 18
 7|run seven.wasm -s list.json|script refused: |
 7|run seven.wasm -s wrong.json|script refused: answers[0]|
-64|run|usage: wasi-virt virt APP -p POLICY -o OUT; run COMPONENT -s SCRIPT [-p POLICY] [--steps N]; gen N OUT|
+64|run|usage: wasi-virt virt APP -p POLICY -o OUT; run COMPONENT -s SCRIPT [-p POLICY] [--steps N]; gen N OUT; plug A B -p POLICY -o OUT|
 """
 
 NO_RESULT = "wasi-virt: no result: memory ran out, or a bound on it was passed\n"

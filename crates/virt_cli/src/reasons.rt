@@ -4,7 +4,7 @@ use std::alloc::Global;
 use std::{fs, io};
 use virt_base::Text;
 use virt_engine::{PolicyFault, Status};
-use virt_words::{Command, RunWords, VirtWords, read_words};
+use virt_words::{Command, PlugWords, RunWords, VirtWords, read_words};
 
 /// A place in a text, by its line and the character in it, both from 1.
 #[derive(Clone, Copy)]
@@ -45,6 +45,10 @@ fn policy_in(alloc: Global, words: &[Text]) -> Option<Text> {
         Ok(Command::Run(named)) => {
             let RunWords { policy, .. } = named;
             policy
+        }
+        Ok(Command::Plug(named)) => {
+            let PlugWords { policy, .. } = named;
+            Some(policy)
         }
         _ => None,
     }

@@ -32,7 +32,7 @@ use Rattle.virt_words.specs.Lines.{text_of}
 use Rattle.virt_engine.specs.declared.plan.Ready.{Ready}
 use Rattle.virt_engine.specs.declared.runner.Shown.{Shown}
 use Rattle.virt_engine.specs.declared.status.Status.{Status}
-use Rattle.virt_engine.specs.declared.status.Status.TheVariants.{Done, PolicyRefused, AppRefused, FileFault, SinkFault, OverLimit, NoMemory, ScriptRefused, Trapped, ScriptEnded, StepsSpent, BadAnswer, TooDeep, Usage}
+use Rattle.virt_engine.specs.declared.status.Status.TheVariants.{Done, PolicyRefused, AppRefused, FileFault, SinkFault, OverLimit, NoMemory, ScriptRefused, Trapped, ScriptEnded, StepsSpent, BadAnswer, TooDeep, Usage, PlugRefused}
 use Rattle.virt_engine.specs.Command.{GenCommand}
 use Rattle.virt_engine.specs.Generating.{Setting, Generates, GenDue, GenRan, GenCompletes, GenDelivers, HasLine, IsWrapped, RunsGenerated, IsWhole, HasEnded, gen_text, told_generated}
 use Rattle.virt_engine.specs.Line.{status_text}
@@ -169,6 +169,7 @@ end_of_due c s t (AppRefused fault) text d files = inl (d.0, d.2)
 end_of_due c s t Usage text d files = inl (d.0, d.2)
 end_of_due c s t SinkFault text d files = inl (d.0, d.2)
 end_of_due c s t (ScriptRefused path) text d files = inl (d.0, d.2)
+end_of_due c s t (PlugRefused fault) text d files = inl (d.0, d.2)
 end_of_due c s t Trapped text d files = inl (d.0, d.2)
 end_of_due c s t ScriptEnded text d files = inl (d.0, d.2)
 end_of_due c s t StepsSpent text d files = inl (d.0, d.2)
@@ -193,6 +194,7 @@ delivers_by c s t (AppRefused fault) text d e told = absurd cc
 delivers_by c s t Usage text d e told = absurd cc
 delivers_by c s t SinkFault text d e told = absurd cc
 delivers_by c s t (ScriptRefused path) text d e told = absurd cc
+delivers_by c s t (PlugRefused fault) text d e told = absurd cc
 delivers_by c s t Trapped text d e told = absurd cc
 delivers_by c s t ScriptEnded text d e told = absurd cc
 delivers_by c s t StepsSpent text d e told = absurd cc

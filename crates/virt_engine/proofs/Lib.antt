@@ -27,3 +27,8 @@ pub mod Alike
 pub mod Results
 pub mod GenLaws
 pub mod Counting
+pub mod PairReading
+pub mod PairOutputs
+pub mod PairStatus
+pub mod PairPlanning
+pub mod PairRuns

@@ -43,7 +43,7 @@ bare_inner (Imports items) rest = refl
 bare_inner (Exports items) rest = refl
 bare_inner (Custom span) rest = refl
 
-bare_components : (t : Tree) → components_in (bare t) ≡ map bare (components_in t)
+pub bare_components : (t : Tree) → components_in (bare t) ≡ map bare (components_in t)
 unfolding bare
 bare_components NoSection = refl
 bare_components (Section part rest) = ap (and_inner (bare_part part)) (bare_components rest) ∙ bare_inner part (components_in rest)
@@ -74,7 +74,7 @@ pub record CanBeWrapped (tree : Tree) (app : List ℕ) : Type 0 where
   pub spelled : SpellsBare 0 tree app
 
 -- it is that of the definition, but for places
-abbrev IsBare : (tree : Tree) (app out : List ℕ) → IsWrappedAlone tree app out → Type 0
+abbrev pub IsBare : (tree : Tree) (app out : List ℕ) → IsWrappedAlone tree app out → Type 0
 IsBare tree app out w = bare w.output ≡ bare (output_tree tree (type_of tree).exports)
 
 wrapped_alone : (app out : List ℕ) (tree : Tree) (exports : Entries) → CanBeWrapped tree app → (type_of tree).imports ≡ End → exports ≡ (type_of tree).exports → out ≡ output_bytes app exports

@@ -13,7 +13,7 @@ use Rattle.component_judge.specs.declared.limits.Purpose.TheVariants.{Virt}
 use Rattle.component_judge.specs.Inputs.{HasWrapped}
 use Rattle.virt_engine.specs.declared.plan.Ready.{Ready}
 use Rattle.virt_engine.specs.declared.status.Status.{Status}
-use Rattle.virt_engine.specs.declared.status.Status.TheVariants.{Done, PolicyRefused, AppRefused, FileFault, SinkFault, OverLimit, NoMemory, ScriptRefused, Trapped, ScriptEnded, StepsSpent, BadAnswer, TooDeep, Usage}
+use Rattle.virt_engine.specs.declared.status.Status.TheVariants.{Done, PolicyRefused, AppRefused, FileFault, SinkFault, OverLimit, NoMemory, ScriptRefused, Trapped, ScriptEnded, StepsSpent, BadAnswer, TooDeep, Usage, PlugRefused}
 use Rattle.virt_engine.specs.Command.{Command}
 use Rattle.virt_engine.specs.Fetching.{with_input, IsFileFault}
 use Rattle.virt_engine.specs.Policies.{policy_limit, policy_due, with_policy, IsPolicyVerdict, IsPolicyFile, HasPolicy, PolicyCause, FetchesPolicy}
@@ -37,6 +37,7 @@ fault_named SinkFault h = absurd h
 fault_named (OverLimit what value) h = absurd h
 fault_named NoMemory h = absurd h
 fault_named (ScriptRefused path) h = absurd h
+fault_named (PlugRefused fault) h = absurd h
 fault_named Trapped h = absurd h
 fault_named ScriptEnded h = absurd h
 fault_named StepsSpent h = absurd h
@@ -68,6 +69,7 @@ module _ (c : Command) (s : FilesState) where
     refused_policy (AppRefused fault) h = absurd h
     refused_policy SinkFault h = absurd h
     refused_policy (ScriptRefused path) h = absurd h
+    refused_policy (PlugRefused fault) h = absurd h
     refused_policy Trapped h = absurd h
     refused_policy ScriptEnded h = absurd h
     refused_policy StepsSpent h = absurd h
@@ -149,6 +151,7 @@ module _ (c : Command) (policy : Policy) (s t : FilesState) (p : FetchesPolicy c
     refused_app (PolicyRefused fault) h = absurd h
     refused_app SinkFault h = absurd h
     refused_app (ScriptRefused path) h = absurd h
+    refused_app (PlugRefused fault) h = absurd h
     refused_app Trapped h = absurd h
     refused_app ScriptEnded h = absurd h
     refused_app StepsSpent h = absurd h
@@ -212,6 +215,7 @@ module _ (c : Command) (policy : Policy) (s t : FilesState) (p : FetchesPolicy c
       refused_trees (AppRefused fault) m h = absurd h
       refused_trees SinkFault m h = absurd h
       refused_trees (ScriptRefused path) m h = absurd h
+      refused_trees (PlugRefused fault) m h = absurd h
       refused_trees Trapped m h = absurd h
       refused_trees ScriptEnded m h = absurd h
       refused_trees StepsSpent m h = absurd h

@@ -23,7 +23,7 @@ use Rattle.component_judge.specs.Fetching.{Cause}
 use Rattle.component_judge.specs.Inputs.{IsListedBy, RefusesScript, HasComponent, HasApplication, AreReady, ScriptCause, InputsCause, ListedCause}
 use Rattle.virt_engine.specs.declared.runner.Shown.{Shown}
 use Rattle.virt_engine.specs.declared.status.Status.{Status}
-use Rattle.virt_engine.specs.declared.status.Status.TheVariants.{Done, PolicyRefused, AppRefused, FileFault, SinkFault, OverLimit, NoMemory, ScriptRefused, Trapped, ScriptEnded, StepsSpent, BadAnswer, TooDeep, Usage}
+use Rattle.virt_engine.specs.declared.status.Status.TheVariants.{Done, PolicyRefused, AppRefused, FileFault, SinkFault, OverLimit, NoMemory, ScriptRefused, Trapped, ScriptEnded, StepsSpent, BadAnswer, TooDeep, Usage, PlugRefused}
 use Rattle.virt_engine.specs.Command.{RunCommand}
 use Rattle.virt_engine.specs.Fetching.{unready_as}
 use Rattle.virt_engine.specs.Policies.{IsPolicyVerdict, PolicyCause}
@@ -53,7 +53,7 @@ module _ (s t : FilesState) (told : s.told ≡ true) (calm : (s.steady ≡ true)
   steadily : {A : Type 0} → Rose s.faults t.faults → (s.steady ≡ true → A) → A
   steadily rose so = elim calm [ inl steady ↦ so steady | inr quiet ↦ absurd (quiet rose) ]
 
-  file_due : (name what : List ℕ) (limit : ℕ) (Refuses : Refusing) (e : Unready)
+  pub file_due : (name what : List ℕ) (limit : ℕ) (Refuses : Refusing) (e : Unready)
       → ((bytes : List ℕ) (value : ℕ) → limit < value → length bytes ≡ value → Refuses bytes (refusals.OverLimit what value))
       → Cause name what limit Refuses s t e → IsVerdictBy Refuses (s.held.file name) name (unready_as e) ⊎ (unready_as e ≡ NoMemory)
   file_due name what limit Refuses (Faulted kept) long h =
@@ -98,7 +98,7 @@ module _ (s t : FilesState) (told : s.told ≡ true) (calm : (s.steady ≡ true)
     | inr none ↦ inr none
   ]
 
-  policy_due : (name : List ℕ) (status : Status) → PolicyCause name s t status → IsPolicyVerdict s.held name status ⊎ (status ≡ NoMemory)
+  pub policy_due : (name : List ℕ) (status : Status) → PolicyCause name s t status → IsPolicyVerdict s.held name status ⊎ (status ≡ NoMemory)
   policy_due name (FileFault kept) h =
       steadily h.1 (λ steady. inl (subst (λ (x : List ℕ). IsPolicyVerdict s.held name (FileFault x)) (sym h.0) (policy_absent s.held name (h.2 told steady))))
   policy_due name NoMemory h = inr refl
@@ -108,6 +108,7 @@ module _ (s t : FilesState) (told : s.told ≡ true) (calm : (s.steady ≡ true)
   policy_due name (AppRefused fault) h = absurd h
   policy_due name SinkFault h = absurd h
   policy_due name (ScriptRefused path) h = absurd h
+  policy_due name (PlugRefused fault) h = absurd h
   policy_due name Trapped h = absurd h
   policy_due name ScriptEnded h = absurd h
   policy_due name StepsSpent h = absurd h
@@ -115,7 +116,7 @@ module _ (s t : FilesState) (told : s.told ≡ true) (calm : (s.steady ≡ true)
   policy_due name TooDeep h = absurd h
   policy_due name Usage h = absurd h
 
-  trees_are_due : (policy : Policy) (status : Status) → TreesCause policy s t status → IsTreesVerdict s.held policy status ⊎ (status ≡ NoMemory)
+  pub trees_are_due : (policy : Policy) (status : Status) → TreesCause policy s t status → IsTreesVerdict s.held policy status ⊎ (status ≡ NoMemory)
   trees_are_due policy (FileFault kept) h = steadily h.0 (λ steady. inl (h.2 told steady))
   trees_are_due policy NoMemory h = inr refl
   trees_are_due policy (OverLimit what value) h = inl (h.1 told)
@@ -124,6 +125,7 @@ module _ (s t : FilesState) (told : s.told ≡ true) (calm : (s.steady ≡ true)
   trees_are_due policy (AppRefused fault) h = absurd h
   trees_are_due policy SinkFault h = absurd h
   trees_are_due policy (ScriptRefused path) h = absurd h
+  trees_are_due policy (PlugRefused fault) h = absurd h
   trees_are_due policy Trapped h = absurd h
   trees_are_due policy ScriptEnded h = absurd h
   trees_are_due policy StepsSpent h = absurd h

@@ -7,7 +7,7 @@ use Rattle.outside.specs.Sink.{SinkState}
 use Rattle.comp_types.specs.Added.{type_of}
 use Rattle.virt_engine.specs.declared.plan.Ready.{Ready}
 use Rattle.virt_engine.specs.declared.status.Status.{Status}
-use Rattle.virt_engine.specs.declared.status.Status.TheVariants.{Done, PolicyRefused, AppRefused, FileFault, SinkFault, OverLimit, NoMemory, ScriptRefused, Trapped, ScriptEnded, StepsSpent, BadAnswer, TooDeep, Usage}
+use Rattle.virt_engine.specs.declared.status.Status.TheVariants.{Done, PolicyRefused, AppRefused, FileFault, SinkFault, OverLimit, NoMemory, ScriptRefused, Trapped, ScriptEnded, StepsSpent, BadAnswer, TooDeep, Usage, PlugRefused}
 use Rattle.virt_engine.specs.Command.{Command, command_of}
 use Rattle.virt_engine.specs.Line.{status_text}
 use Rattle.virt_engine.specs.Parts.{written_by}
@@ -42,6 +42,7 @@ due_of_refusal c words s t (AppRefused fault) named stays r = (stays, refl, (c, 
 due_of_refusal c words s t Done named stays r = absurd r
 due_of_refusal c words s t SinkFault named stays r = absurd r
 due_of_refusal c words s t (ScriptRefused path) named stays r = absurd r
+due_of_refusal c words s t (PlugRefused fault) named stays r = absurd r
 due_of_refusal c words s t Trapped named stays r = absurd r
 due_of_refusal c words s t ScriptEnded named stays r = absurd r
 due_of_refusal c words s t StepsSpent named stays r = absurd r
@@ -199,6 +200,7 @@ by_due (AppRefused fault) text words s t k l result d r told files sink = then r
 by_due Usage text words s t k l result d r told files sink = then result Usage s.held words (subst (λ (o : Option Command). IsDueFor s.held o Usage) (sym d.2) refl) (put_of Usage text k l result r sink)
 by_due SinkFault text words s t k l result d r told files sink = absurd d
 by_due (ScriptRefused path) text words s t k l result d r told files sink = absurd d
+by_due (PlugRefused fault) text words s t k l result d r told files sink = absurd d
 by_due Trapped text words s t k l result d r told files sink = absurd d
 by_due ScriptEnded text words s t k l result d r told files sink = absurd d
 by_due StepsSpent text words s t k l result d r told files sink = absurd d
@@ -259,6 +261,7 @@ delivers_by (AppRefused fault) text words s t d e told = absurd cc
 delivers_by Usage text words s t d e told = absurd cc
 delivers_by SinkFault text words s t d e told = absurd cc
 delivers_by (ScriptRefused path) text words s t d e told = absurd cc
+delivers_by (PlugRefused fault) text words s t d e told = absurd cc
 delivers_by Trapped text words s t d e told = absurd cc
 delivers_by ScriptEnded text words s t d e told = absurd cc
 delivers_by StepsSpent text words s t d e told = absurd cc

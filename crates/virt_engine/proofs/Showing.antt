@@ -30,7 +30,7 @@ use Rattle.component_judge.specs.Inputs.{Fitting, IsListedBy, HasScript, AreList
 use Rattle.component_judge.proofs.Both.{listed_earlier, ready_before}
 use Rattle.virt_engine.specs.declared.runner.Shown.{Shown}
 use Rattle.virt_engine.specs.declared.status.Status.{Status}
-use Rattle.virt_engine.specs.declared.status.Status.TheVariants.{Done, PolicyRefused, AppRefused, FileFault, SinkFault, OverLimit, NoMemory, ScriptRefused, Trapped, ScriptEnded, StepsSpent, BadAnswer, TooDeep, Usage}
+use Rattle.virt_engine.specs.declared.status.Status.TheVariants.{Done, PolicyRefused, AppRefused, FileFault, SinkFault, OverLimit, NoMemory, ScriptRefused, Trapped, ScriptEnded, StepsSpent, BadAnswer, TooDeep, Usage, PlugRefused}
 use Rattle.virt_engine.specs.Command.{RunCommand}
 use Rattle.virt_engine.specs.Fetching.{unready_as, IsFileFault}
 use Rattle.virt_engine.specs.Policies.{FetchesPolicy}
@@ -114,6 +114,7 @@ trees_earlier policy s t u Done goes stays h = absurd h
 trees_earlier policy s t u (AppRefused fault) goes stays h = absurd h
 trees_earlier policy s t u SinkFault goes stays h = absurd h
 trees_earlier policy s t u (ScriptRefused path) goes stays h = absurd h
+trees_earlier policy s t u (PlugRefused fault) goes stays h = absurd h
 trees_earlier policy s t u Trapped goes stays h = absurd h
 trees_earlier policy s t u ScriptEnded goes stays h = absurd h
 trees_earlier policy s t u StepsSpent goes stays h = absurd h

@@ -20,3 +20,6 @@ pub mod Runners
 pub mod Alike
 pub mod Tallies
 pub mod Generating
+pub mod Pairs
+pub mod Parted
+pub mod Plugging

@@ -3,10 +3,12 @@ use Rattle.std.specs.Prelude.{ℕ, ◌/◌, ◌%◌, ◌+◌, List, [], ◌∷�
 use Rattle.std.specs.Fmt.{decimal}
 use Rattle.virt_base.specs.declared.fault.AppFault.{AppFault}
 use Rattle.virt_base.specs.declared.fault.AppFault.TheVariants.{Malformed, Unsupported, Invalid, Unlisted, WrongType, TwoVersions, HandleExport}
+use Rattle.virt_engine.specs.declared.status.PlugFault.{PlugFault}
+use Rattle.virt_engine.specs.declared.status.PlugFault.TheVariants.{First, Second, NothingMet}
 use Rattle.virt_engine.specs.declared.status.PolicyFault.{PolicyFault}
 use Rattle.virt_engine.specs.declared.status.PolicyFault.TheVariants.{NotToml, BadKey, BadValue, BadName}
 use Rattle.virt_engine.specs.declared.status.Status.{Status}
-use Rattle.virt_engine.specs.declared.status.Status.TheVariants.{Done, PolicyRefused, AppRefused, FileFault, SinkFault, OverLimit, NoMemory, ScriptRefused, Trapped, ScriptEnded, StepsSpent, BadAnswer, TooDeep, Usage}
+use Rattle.virt_engine.specs.declared.status.Status.TheVariants.{Done, PolicyRefused, AppRefused, FileFault, SinkFault, OverLimit, NoMemory, ScriptRefused, Trapped, ScriptEnded, StepsSpent, BadAnswer, TooDeep, Usage, PlugRefused}
 
 -- a digit from 0 to f
 abbrev pub hex_digit : ℕ → ℕ
@@ -31,6 +33,11 @@ app_text (WrongType name) = codes "wrong-type " ++ name
 app_text (TwoVersions name) = codes "two-versions " ++ name
 app_text (HandleExport name) = codes "handle-export " ++ name
 
+abbrev pub plug_text : PlugFault → List ℕ
+plug_text (First fault) = codes "first " ++ app_text fault
+plug_text (Second fault) = codes "second " ++ app_text fault
+plug_text NothingMet = codes "nothing met"
+
 -- the line of a call that wrote an output: the bytes of the application and of the output, and the imported functions
 abbrev pub done_text : ℕ → ℕ → ℕ → List ℕ
 done_text in_bytes out_bytes functions =
@@ -51,4 +58,5 @@ status_text ScriptEnded = []
 status_text StepsSpent = []
 status_text BadAnswer = []
 status_text TooDeep = []
-status_text Usage = codes "usage: wasi-virt virt APP -p POLICY -o OUT; run COMPONENT -s SCRIPT [-p POLICY] [--steps N]; gen N OUT\n"
+status_text Usage = codes "usage: wasi-virt virt APP -p POLICY -o OUT; run COMPONENT -s SCRIPT [-p POLICY] [--steps N]; gen N OUT; plug A B -p POLICY -o OUT\n"
+status_text (PlugRefused fault) = codes "plug refused: " ++ (plug_text fault ++ codes "\n")

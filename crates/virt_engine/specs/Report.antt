@@ -3,7 +3,7 @@ use Rattle.std.specs.Prelude.{ℕ, ◌≡◌, ◌++◌, ◌⊎◌, List, true, f
 use Rattle.outside.specs.Fault.{Rose}
 use Rattle.outside.specs.Sink.{SinkState, is_full}
 use Rattle.virt_engine.specs.declared.status.Status.{Status}
-use Rattle.virt_engine.specs.declared.status.Status.TheVariants.{PolicyRefused, AppRefused, FileFault, SinkFault, OverLimit, NoMemory, Usage}
+use Rattle.virt_engine.specs.declared.status.Status.TheVariants.{PolicyRefused, AppRefused, FileFault, SinkFault, OverLimit, NoMemory, Usage, PlugRefused}
 
 -- the whole text is there
 pub record Written (due : Status) (text : List ℕ) (s t : SinkState) (result : Status) : Type 0 where
@@ -33,4 +33,5 @@ IsLoud (AppRefused fault) = Unit {0}
 IsLoud (FileFault name) = Unit {0}
 IsLoud (OverLimit what value) = Unit {0}
 IsLoud Usage = Unit {0}
+IsLoud (PlugRefused fault) = Unit {0}
 IsLoud _ = ⊥

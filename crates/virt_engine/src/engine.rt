@@ -1,14 +1,16 @@
 ghost use Rattle.std.specs.Prelude.{◌≡◌, true};
 ghost use Rattle.std.specs.Prelude.{None, Some};
-ghost use Rattle.virt_engine.specs.Command.{GenCommand, NoOther, RunCommand, gen_of, names_of, run_of};
+ghost use Rattle.virt_engine.specs.Command.{GenCommand, NoOther, PlugCommand, RunCommand, gen_of, names_of, plug_of, run_of};
 ghost use Rattle.virt_engine.specs.Generating.{GenCompletes, GenDelivers, GenRan};
 ghost use Rattle.virt_engine.specs.Plan.{Ran, RanCommand, Completes, Accepts, Delivers};
+ghost use Rattle.virt_engine.specs.Plugging.{PlugAccepts, PlugCompletes, PlugDelivers, PlugRan};
 ghost use Rattle.virt_engine.specs.Runs.{RunAccepts, RunCompletes, RunsBy};
 
 use crate::command::{Names, Task, task_in};
 use crate::finishing::finish;
 use crate::generating::run_gen;
 use crate::plan::plan;
+use crate::plugging::run_plug;
 use crate::report::refuse;
 use crate::running::run_task;
 use crate::status::Status;
@@ -35,6 +37,7 @@ fn do_words<F: Files, S: Sink>(alloc: Global, words: &[Text], files: &mut F, out
     ensures virt { NoOther words.now → Ran words.now (F.state files.old) (F.state files.new) (S.state out.old) (S.state out.new) result }
     ensures run { (c : RunCommand) → run_of words.now ≡ Some c → RunsBy c (F.state files.old) (F.state files.new) (S.state out.old) (S.state out.new) result }
     ensures made { (c : GenCommand) → gen_of words.now ≡ Some c → GenRan c (F.state files.old) (F.state files.new) (S.state out.old) (S.state out.new) result }
+    ensures plugged { (c : PlugCommand) → plug_of words.now ≡ Some c → PlugRan c (F.state files.old) (F.state files.new) (S.state out.old) (S.state out.new) result }
 {
     match task_in(alloc, words) {
         Ok(
@@ -55,6 +58,7 @@ fn do_words<F: Files, S: Sink>(alloc: Global, words: &[Text], files: &mut F, out
         }
         Ok(Task::Run(task)) => run_task(alloc, &task, files, out),
         Ok(Task::Gen(task)) => run_gen(alloc, &task, files, out),
+        Ok(Task::Plug(task)) => run_plug(alloc, &task, files, out),
         Err(WordsFault::Usage) => refuse(alloc, Status::Usage, out),
         Err(WordsFault::NoMemory) => Status::NoMemory,
     }
@@ -74,6 +78,11 @@ fn do_words<F: Files, S: Sink>(alloc: Global, words: &[Text], files: &mut F, out
 ///
 /// `gen N OUT` makes a component of N functions, writes it in its adapter to OUT, runs it over the reference host of its policy, and puts
 /// one line with the counts and the sum of the run (`generated`). Nothing is written before the run has ended.
+///
+/// `plug A B -p POLICY -o OUT` makes one component of two, and writes to OUT that component in its adapter, as `virt` writes an
+/// application. The imports of B that A exports as instances are met by them; all other imports of both are asked for once each. A's
+/// imports have to be listed ones, and so have those of B that A doesn't meet; B exports neither a resource type nor a handle, and at
+/// least one of its imports is met. Neither component is limited by the code that it holds.
 ///
 /// Other commands are usage errors.
 pub fn wasi_virt<F: Files, S: Sink>(
@@ -99,6 +108,12 @@ pub fn wasi_virt<F: Files, S: Sink>(
     ensures made { (c : GenCommand) → gen_of words.now ≡ Some c → GenRan c (F.state files.old) (F.state files.new) (S.state out.old) (S.state out.new) result }
     ensures made_completes { (c : GenCommand) → gen_of words.now ≡ Some c → GenCompletes c (F.state files.old) (F.state files.new) (S.state out.old) (S.state out.new) result }
     ensures made_delivers { (c : GenCommand) → gen_of words.now ≡ Some c → (F.state files.old).told ≡ true → result ≡ Status.Done → GenDelivers c (F.state files.old) (F.state files.new) }
+
+    // of two components that are made one
+    ensures plugged { (c : PlugCommand) → plug_of words.now ≡ Some c → PlugRan c (F.state files.old) (F.state files.new) (S.state out.old) (S.state out.new) result }
+    ensures plug_completes { (c : PlugCommand) → plug_of words.now ≡ Some c → PlugCompletes c (F.state files.old) (F.state files.new) (S.state out.old) (S.state out.new) result }
+    ensures plug_accepts { (c : PlugCommand) → plug_of words.now ≡ Some c → PlugAccepts c (F.state files.old) (F.state files.new) (S.state out.old) (S.state out.new) result }
+    ensures plug_delivers { (c : PlugCommand) → plug_of words.now ≡ Some c → (F.state files.old).told ≡ true → result ≡ Status.Done → PlugDelivers c (F.state files.old) (F.state files.new) }
 {
     do_words(alloc, words, files, out)
 }

@@ -1,7 +1,7 @@
 ghost use Rattle.std.specs.Prelude.{◌≡◌, ◌<◌, IfOk, string_bytes};
-ghost use Rattle.virt_engine.specs.Line.{hex_digit, hex_byte, policy_text, app_text, done_text, status_text};
+ghost use Rattle.virt_engine.specs.Line.{hex_digit, hex_byte, policy_text, app_text, plug_text, done_text, status_text};
 
-use crate::status::{PolicyFault, Status};
+use crate::status::{PlugFault, PolicyFault, Status};
 use std::alloc::{AllocError, Global};
 use virt_base::AppFault;
 
@@ -77,6 +77,22 @@ fn app_line(alloc: Global, fault: &AppFault) -> Result<String, AllocError>
     }
 }
 
+fn plug_line(alloc: Global, fault: &PlugFault) -> Result<String, AllocError>
+    ensures { IfOk result (λ text. string_bytes text ≡ plug_text fault.now) }
+{
+    match fault {
+        PlugFault::First(fault) => {
+            let fault = app_line(alloc, fault)?;
+            format!(in alloc; "first {fault}")
+        }
+        PlugFault::Second(fault) => {
+            let fault = app_line(alloc, fault)?;
+            format!(in alloc; "second {fault}")
+        }
+        PlugFault::NothingMet => String::from_str(alloc, "nothing met"),
+    }
+}
+
 /// The line of a call that wrote an output: how many bytes it read and wrote, and how many functions the output imports.
 pub fn done_line(
     alloc: Global,
@@ -92,7 +108,7 @@ pub fn done_line(
 }
 
 const USAGE: &str =
-    "usage: wasi-virt virt APP -p POLICY -o OUT; run COMPONENT -s SCRIPT [-p POLICY] [--steps N]; gen N OUT\n";
+    "usage: wasi-virt virt APP -p POLICY -o OUT; run COMPONENT -s SCRIPT [-p POLICY] [--steps N]; gen N OUT; plug A B -p POLICY -o OUT\n";
 
 /// The text of a status that is no success.
 pub fn line_of(alloc: Global, status: &Status) -> Result<String, AllocError>
@@ -120,6 +136,10 @@ pub fn line_of(alloc: Global, status: &Status) -> Result<String, AllocError>
             format!(in alloc; "script refused: {path}\n")
         }
         Status::Usage => String::from_str(alloc, USAGE),
+        Status::PlugRefused(fault) => {
+            let fault = plug_line(alloc, fault)?;
+            format!(in alloc; "plug refused: {fault}\n")
+        }
         Status::Done
         | Status::SinkFault
         | Status::NoMemory

@@ -16,6 +16,17 @@ pub enum PolicyFault {
     BadName(Text),
 }
 
+/// Why two components are not made one.
+#[derive(Debug, Drop)]
+pub enum PlugFault {
+    /// This is at fault with the first.
+    First(AppFault),
+    /// The first will do, and this is at fault with the second.
+    Second(AppFault),
+    /// The first meets no import of the second.
+    NothingMet,
+}
+
 /// How a call ended.
 #[derive(Debug, Drop)]
 pub enum Status {
@@ -31,6 +42,7 @@ pub enum Status {
     NoMemory,
     /// The script is wrong at this path.
     ScriptRefused(Text),
+    PlugRefused(PlugFault),
     Trapped,
     ScriptEnded,
     StepsSpent,
@@ -64,6 +76,7 @@ pub fn code(status: &Status) -> u8
         Status::OverLimit(_, _) => 5,
         Status::NoMemory => 6,
         Status::ScriptRefused(_) => 7,
+        Status::PlugRefused(_) => 8,
         Status::Trapped => 10,
         Status::ScriptEnded => 11,
         Status::StepsSpent => 12,

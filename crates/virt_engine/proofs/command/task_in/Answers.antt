@@ -14,7 +14,7 @@ pub returns-in-Ok-Gen : goal.returns-in-Ok-Gen
 returns-in-Ok-Gen c = of_gen c.args.words.now c.in-Ok-Gen.words (c.in-Ok-Gen.ensures ∙ ap (λ (x : Said). Some x) c.in-Ok-Gen.field-0-is)
 
 pub returns-in-Ok-Plug : goal.returns-in-Ok-Plug
-returns-in-Ok-Plug c = of_plug c.args.words.now c.in-Ok-Plug.field-0-0 (c.in-Ok-Plug.ensures ∙ ap (λ (x : Said). Some x) c.in-Ok-Plug.field-0-is)
+returns-in-Ok-Plug c = of_plug c.args.words.now c.in-Ok-Plug.words (c.in-Ok-Plug.ensures ∙ ap (λ (x : Said). Some x) c.in-Ok-Plug.field-0-is)
 
-pub returns : goal.returns
-returns c = of_fault c.args.words.now _ c.in-Err.ensures
+pub returns-in-Err : goal.returns-in-Err
+returns-in-Err c = of_fault c.args.words.now _ c.in-Err.ensures
