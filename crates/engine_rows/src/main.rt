@@ -13,6 +13,16 @@ mod made_calls;
 #[cfg(test)]
 mod memory;
 #[cfg(test)]
+mod plug_calls;
+#[cfg(test)]
+mod plug_imports;
+#[cfg(test)]
+mod plug_refusals;
+#[cfg(test)]
+mod plug_runs;
+#[cfg(test)]
+mod plug_texts;
+#[cfg(test)]
 mod policy_limits;
 #[cfg(test)]
 mod policy_refusals;

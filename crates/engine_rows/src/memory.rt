@@ -2,7 +2,7 @@
 
 use crate::calling::{add_file, files_of, no_contents, said, sink_of};
 use crate::settings::{failing, number, setting};
-use crate::texts::{bytes_of, halves};
+use crate::texts::{bytes_of, halves, written_out};
 use crate::wrapped::{OUT, ROOM, words_for};
 use outside::{Contents, Entries, Entry, EntryKind, MemFiles, MemSink, Named};
 use std::alloc::Global;
@@ -142,4 +142,38 @@ pub fn imports_of(alloc: Global, settings: &[&str]) -> Option<String> {
     let done = said(alloc, setting(settings, "$")?, &mut *files, &mut out)?;
     let (_, imports) = done.as_str().split_once("bytes out, ")?;
     String::from_str(alloc, imports).ok()
+}
+
+/// What is said of an output, without its length.
+fn without_length(alloc: Global, said: &str) -> Option<String> {
+    let (front, rest) = halves(said, " bytes in, ");
+    match rest.split_once(" bytes out, ") {
+        Some((_, imports)) => format!(in alloc; "{front} bytes in, {imports}").ok(),
+        None => String::from_str(alloc, said).ok(),
+    }
+}
+
+/// Whether the output holds the digits that are set as `within`.
+fn is_within(alloc: Global, settings: &[&str], files: &MemFiles) -> Option<bool> {
+    let (_, text) = halves(setting(settings, "within")?, " ");
+    let part = written_out(alloc, text)?;
+    let bytes = files.file(&Text::from_str(alloc, OUT).ok()?)?;
+    Some(
+        hex::encode(alloc, bytes)
+            .ok()?
+            .as_str()
+            .contains(part.as_str()),
+    )
+}
+
+/// What is said of an output, but for its length, and whether it holds what is set.
+pub fn counts_of(alloc: Global, settings: &[&str]) -> Option<String> {
+    let mut out = sink_for(alloc, settings)?;
+    let mut files = files_to_wrap(alloc, settings)?;
+    let done = said(alloc, setting(settings, "$")?, &mut *files, &mut out)?;
+    let mut all = without_length(alloc, done.as_str())?;
+    if is_within(alloc, settings, &*files) == Some(true) {
+        all.push_str(" within").ok()?;
+    }
+    Some(all)
 }

@@ -5,6 +5,8 @@
 //! set last in its block the call has this outcome, its status and the text that is put, in which `&` ends a line, and behind it what
 //! OUT holds, as ` o=DIGITS`, if it is there. Both sides are written out as `written_out` has it.
 //!
+//! `within x DIGITS` are digits that an output is searched for where only its length is not compared.
+//!
 //! `before WORDS` are the words of a call over the same files that comes before, whose outcome is not shown.
 //!
 //! `fails N` and `puts N` say which call of the files and of the sink fails, `out N` and `room N` how many bytes OUT and the sink take, and
@@ -27,6 +29,8 @@ pub enum Over {
     Wrapped,
     /// Files in memory; of an output only what it imports is compared.
     Imports,
+    /// Files in memory; of an output only its length is not compared. After the line stands ` within` where it holds what is set so.
+    Counts,
 }
 
 fn outcome(alloc: Global, over: Over, settings: &[&str]) -> Option<String> {
@@ -35,6 +39,7 @@ fn outcome(alloc: Global, over: Over, settings: &[&str]) -> Option<String> {
         Over::Untold => untold::outcome(alloc, settings),
         Over::Wrapped => memory::wrapped_outcome(alloc, settings),
         Over::Imports => memory::imports_of(alloc, settings),
+        Over::Counts => memory::counts_of(alloc, settings),
     }?;
     said.as_str().replace(alloc, '\n', "&").ok()
 }

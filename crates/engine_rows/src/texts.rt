@@ -1,5 +1,6 @@
 //! Texts of rows.
 
+use crate::plug_texts::PLUG_PIECES;
 use std::alloc::Global;
 
 /// What stands in front of a mark, and behind it: nothing where there is no mark.
@@ -10,15 +11,23 @@ pub fn halves<'a>(text: &'a str, mark: &str) -> (&'a str, &'a str) {
     }
 }
 
-/// The text of a piece, or else of the word itself.
-fn piece_of(word: &str) -> &str {
-    for piece in PIECES.lines() {
+/// The text that has a name among these.
+fn named(pieces: &'static str, word: &str) -> Option<&'static str> {
+    for piece in pieces.lines() {
         let (name, text) = halves(piece, " ");
         if name == word {
-            return text;
+            return Some(text);
         }
     }
-    word
+    None
+}
+
+/// The text of a piece, or else of the word itself.
+fn piece_of(word: &str) -> &str {
+    if let Some(text) = named(PIECES, word) {
+        return text;
+    }
+    named(PLUG_PIECES, word).unwrap_or(word)
 }
 
 /// A text with a number in the place of a `#`.
@@ -95,7 +104,7 @@ pub fn bytes_of(alloc: Global, kind: &str, text: &str) -> Option<Vec<u8>> {
 
 /// Texts that have a name.
 const PIECES: &str = r##"# what is put where words are no command
-usage usage: wasi-virt virt APP -p POLICY -o OUT; run COMPONENT -s SCRIPT [-p POLICY] [--steps N]; gen N OUT
+usage usage: wasi-virt virt APP -p POLICY -o OUT; run COMPONENT -s SCRIPT [-p POLICY] [--steps N]; gen N OUT; plug A B -p POLICY -o OUT
 # the component without sections (Component Model, Binary.md), with which every other begins
 empty 0061736d0d000100
 # a component whose export `f` is one core function without parameters: before and behind its first instruction, which is two bytes
