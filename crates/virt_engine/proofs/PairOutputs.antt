@@ -1,5 +1,5 @@
 -- What is written of two components made one is an output of theirs.
-use Rattle.std.proofs.Common.{◌≡◌, ◌∙◌, refl, sym, ap, subst, inl, inr, ℕ, List, [], ◌∷◌, length}
+use Rattle.std.proofs.Common.{◌≡◌, ◌∙◌, refl, sym, ap, subst, inl, inr, ℕ, List}
 use Rattle.std.specs.Prelude.{map}
 use Rattle.policy_data.specs.declared.policy.Policy.{Policy}
 use Rattle.comp_grammar.specs.Trees.{Tree, plain, Nested, Instances, More as Section}
@@ -14,14 +14,13 @@ use Rattle.output_same.proofs.Bare.{same_valid, same_type}
 use Rattle.output_same.proofs.Same.{outputs_same}
 use Rattle.virt_output.specs.Output.{output_tree, exporting, one_instance}
 use Rattle.wasi_match.specs.Listed.{IsListed}
-use Rattle.wasi_match.specs.declared.listed.ListedUse.{ListedUse}
 use Rattle.component_judge.specs.declared.inputs.Fetched.{Fetched}
 use Rattle.virt_engine.specs.declared.plan.Ready.{Ready}
-use Rattle.virt_engine.specs.Output.{IsWrappedAlone, IsWrappedBeside, IsWrappedOf, wrapped_count, HoldsBeside}
+use Rattle.virt_engine.specs.Output.{IsWrappedAlone, IsWrappedBeside, IsWrappedOf, wrapped_count}
 use Rattle.virt_engine.specs.Pairs.{Pair, IsPair, IsPluggedOf, BehavesSo, IsPluggedOutput, plugged_count}
 use Rattle.virt_engine.specs.Parted.{IsMadeOf}
 use Rattle.virt_engine.specs.Parts.{Prepares, written_by}
-use Rattle.virt_engine.proofs.Outputs.{CanBeWrapped, IsBare, alone, beside, bare_components, count_alone, count_beside, entries_end}
+use Rattle.virt_engine.proofs.Outputs.{CanBeWrapped, alone, beside, bare_components, count_alone, count_beside, entries_end}
 
 -- ---- what is made, with the places where its bytes say
 

@@ -1,9 +1,7 @@
 -- What reading all that a call of `plug` needs comes to, from what its parts did.
-use Rattle.std.proofs.Common.{◌≡◌, ◌∙◌, refl, sym, ap, subst, ℕ, List, length, true, inl, inr, Ok, Err, string_bytes}
+use Rattle.std.proofs.Common.{◌≡◌, ◌∙◌, refl, sym, ap, subst, ℕ, List, length, true, inl, inr, Ok, Err}
 use Rattle.std.specs.Prelude.{Some, IsSome, Result}
-use Rattle.outside.specs.Fault.{Rose}
 use Rattle.outside.specs.Files.{FilesState, Held, Goes}
-use Rattle.outside.proofs.FailingLaws.{Rose-before}
 use Rattle.policy_data.specs.declared.policy.Policy.{Policy}
 use Rattle.tree_table.specs.declared.entries.NamedTree.{NamedTree}
 use Rattle.component_judge.specs.declared.inputs.Fetched.{Fetched}
@@ -18,9 +16,9 @@ use Rattle.virt_engine.specs.Fetching.{IsFileFault}
 use Rattle.virt_engine.specs.Line.{done_text}
 use Rattle.virt_engine.specs.Pairs.{IsTooLarge, IsPairVerdict, ArePair, plugged_count}
 use Rattle.virt_engine.specs.Parts.{Prepares, written_by}
-use Rattle.virt_engine.specs.Policies.{HasPolicy, FetchesPolicy}
-use Rattle.virt_engine.specs.PolicyTrees.{trees_verdict, HasTrees, MakesTrees}
-use Rattle.virt_engine.specs.Plugging.{IsPlugDueUnder, IsPlugDue, NoPlugFileDue, HasRead, HasPair, PartCause, HasRefusedPair, PairCause, PlugCause, HasPlugged, NoPairFileDue, FetchesPair, plugged_text, PlansPlug}
+use Rattle.virt_engine.specs.Policies.{FetchesPolicy}
+use Rattle.virt_engine.specs.PolicyTrees.{trees_verdict, MakesTrees}
+use Rattle.virt_engine.specs.Plugging.{IsPlugDueUnder, IsPlugDue, NoPlugFileDue, HasRead, HasPair, PartCause, PairCause, NoPairFileDue, FetchesPair, PlansPlug}
 use Rattle.virt_engine.proofs.Adding.{goes_on}
 use Rattle.virt_engine.proofs.PairOutputs.{plugged_output}
 use Rattle.virt_engine.proofs.Planning.{fault_named, there, policy_absent, policy_file}

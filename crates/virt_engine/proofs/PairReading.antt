@@ -1,8 +1,8 @@
 -- What reading the two components of a plugged one comes to.
-use Rattle.std.proofs.Common.{◌≡◌, ◌∙◌, refl, sym, ap, subst, ℕ, List, length, true, inl, inr, Ok, Err}
+use Rattle.std.proofs.Common.{◌≡◌, ◌∙◌, refl, sym, ap, subst, ℕ, List, true, inl, inr, Ok, Err}
 use Rattle.std.specs.Prelude.{◌⊎◌, Option, Some, None, IsSome, IfSome, Result, Vec}
 use Rattle.std.specs.declared.alloc.Global.{Global}
-use Rattle.outside.specs.Files.{FilesState, Held, Goes}
+use Rattle.outside.specs.Files.{FilesState, Held}
 use Rattle.virt_base.specs.declared.fault.AppFault.{AppFault}
 use Rattle.comp_grammar.specs.Trees.{plain}
 use Rattle.comp_write.specs.Copying.{SpellsBare}
@@ -25,7 +25,7 @@ use Rattle.plug_compose.specs.Merged.{merged_uses}
 use Rattle.plug_compose.specs.Sources.{host_uses}
 use Rattle.plug_compose.specs.Plugged.{IsPlugged}
 use Rattle.component_judge.specs.Components.{IsRefusalBy, IsNeverAtFault}
-use Rattle.component_judge.specs.Fetching.{Cause, Fetches, FetchesAs, RefusesNone}
+use Rattle.component_judge.specs.Fetching.{Cause, Fetches, RefusesNone}
 use Rattle.component_judge.specs.Limits.{bytes_limit, bytes_name}
 use Rattle.component_judge.specs.declared.inputs.Fetched.{Fetched}
 use Rattle.component_judge.specs.declared.limits.Purpose.TheVariants.{Virt}
@@ -38,15 +38,14 @@ use Rattle.virt_engine.specs.declared.plugging.Part.{Part}
 use Rattle.virt_engine.specs.declared.plugging.Part.TheVariants.{Sound, AtFault}
 use Rattle.virt_engine.specs.declared.plugging.Asking.{Asking}
 use Rattle.virt_engine.specs.declared.plugging.Joining.{Joining}
-use Rattle.virt_engine.specs.declared.status.PlugFault.{PlugFault}
 use Rattle.virt_engine.specs.declared.status.PlugFault.TheVariants as plug_faults
 use Rattle.virt_engine.specs.declared.status.Status.{Status}
-use Rattle.virt_engine.specs.declared.status.Status.TheVariants.{FileFault, NoMemory, PlugRefused}
+use Rattle.virt_engine.specs.declared.status.Status.TheVariants.{FileFault, PlugRefused}
 use Rattle.virt_engine.specs.Fetching.{IsFileFault, unready_as}
 use Rattle.virt_engine.specs.RunDue.{IsVerdictBy}
-use Rattle.virt_engine.specs.Pairs.{Read, IsTooLarge, PairVerdict, Joins, Refuses, IsPair, pair_verdict, after_first, after_second, fault_by, IsPartVerdict, IsPartFile}
+use Rattle.virt_engine.specs.Pairs.{Read, IsTooLarge, PairVerdict, Joins, IsPair, pair_verdict, after_first, after_second, fault_by, IsPartVerdict, IsPartFile}
 use Rattle.virt_engine.specs.Parted.{IsSoundHalf, IsSoundPart, IsPartOf, read_of, part_bytes, ReadsPart, HasPart, FetchesPart, first_status, second_status, IsRefusedBy, AsksFirst, joined_verdict, pair_so, MeetsSecond, ArePlugged, PlugsParts, plugged_as, IsMadeOf}
-use Rattle.virt_engine.specs.Plugging.{HasRead, HasPair, PartCause, PairCause, HasPlugged, NoPairFileDue, FetchesPair}
+use Rattle.virt_engine.specs.Plugging.{HasRead, PairCause, HasPlugged, NoPairFileDue, FetchesPair}
 use Rattle.virt_engine.proofs.Adding.{goes_on}
 use Rattle.virt_engine.proofs.Fetching.{no_fault}
 use Rattle.virt_engine.proofs.Planning.{there}

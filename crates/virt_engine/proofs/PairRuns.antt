@@ -1,11 +1,9 @@
 -- A call of `plug`, by what its parts did, and what follows.
-use Rattle.std.proofs.Common.{◌≡◌, ◌≢◌, ◌∙◌, refl, sym, ap, subst, ℕ, ◌≤◌, ◌<◌, List, [], length, true, false, inl, inr, arith, Ok, Err, string_bytes}
-use Rattle.std.specs.Prelude.{◌⊎◌, Some, Result}
+use Rattle.std.proofs.Common.{◌≡◌, ◌∙◌, refl, sym, subst, ℕ, ◌≤◌, ◌<◌, List, [], length, true, false, inl, inr, arith, Ok, Err, string_bytes}
+use Rattle.std.specs.Prelude.{◌⊎◌}
 use Rattle.outside.specs.Fault.{Rose}
-use Rattle.outside.specs.Files.{FilesState, Held, with_file, no_place}
+use Rattle.outside.specs.Files.{FilesState, Held, no_place}
 use Rattle.outside.specs.Sink.{SinkState}
-use Rattle.policy_data.specs.declared.policy.Policy.{Policy}
-use Rattle.component_judge.specs.Fetching.{Cause}
 use Rattle.component_judge.specs.Limits.{bytes_limit, bytes_name}
 use Rattle.component_judge.specs.declared.limits.Purpose.TheVariants.{Virt}
 use Rattle.component_judge.specs.declared.refusal.Refusal.TheVariants as refusals
@@ -21,10 +19,8 @@ use Rattle.virt_engine.specs.Line.{status_text}
 use Rattle.virt_engine.specs.Pairs.{IsTooLarge, IsPartVerdict, IsPairVerdict}
 use Rattle.virt_engine.specs.Parts.{written_by}
 use Rattle.virt_engine.specs.Plan.{Finishes}
-use Rattle.virt_engine.specs.PolicyTrees.{trees_verdict}
 use Rattle.virt_engine.specs.Report.{Puts, Reports}
-use Rattle.virt_engine.specs.Writing.{LeftOf}
-use Rattle.virt_engine.specs.Plugging.{IsPlugDueUnder, IsPlugDue, NoPlugFileDue, IsPlugAccepted, PartCause, PairCause, PlugCause, PlugWrote, PlugDone, PlugLeft, PlugStopped, PlugEnd, PlugFits, PlugRan, PlugCompletes, PlugAccepts, PlugDelivers, IsPlugReady, PlansPlug}
+use Rattle.virt_engine.specs.Plugging.{IsPlugDue, NoPlugFileDue, PartCause, PairCause, PlugCause, PlugWrote, PlugEnd, PlugFits, PlugRan, PlugCompletes, PlugAccepts, PlugDelivers, IsPlugReady, PlansPlug}
 use Rattle.virt_engine.proofs.Adding.{goes_on}
 use Rattle.virt_engine.proofs.PairPlanning.{are_pair}
 use Rattle.virt_engine.proofs.PairReading.{read_file}

@@ -1,13 +1,10 @@
 -- Of each call of `plug` one status is due.
-use Rattle.std.proofs.Common.{◌≡◌, ◌≢◌, ◌∙◌, refl, sym, ap, subst, ℕ, List, inl, inr, Ok, Err}
-use Rattle.std.specs.Prelude.{Option, Some}
+use Rattle.std.proofs.Common.{◌≡◌, ◌≢◌, ◌∙◌, sym, ap, subst, ℕ, List, inl, inr, Ok, Err}
+use Rattle.std.specs.Prelude.{Some}
 use Rattle.outside.specs.Files.{Held}
 use Rattle.policy_data.specs.declared.policy.Policy.{Policy}
-use Rattle.mount_tree.specs.declared.forest.Forest.{Forest}
-use Rattle.mount_tree.specs.declared.fault.TreeFault.{TreeFault}
 use Rattle.virt_base.specs.declared.fault.AppFault.{AppFault}
 use Rattle.comp_grammar.specs.Trees.{Tree}
-use Rattle.comp_types.specs.Items.{Signature}
 use Rattle.component_judge.specs.Components.{IsRefusalBy, IsNeverAtFault, IsSound}
 use Rattle.component_judge.specs.declared.limits.Purpose.TheVariants.{Virt}
 use Rattle.component_judge.specs.declared.refusal.Refusal.{Refusal}
@@ -18,9 +15,8 @@ use Rattle.virt_engine.specs.declared.status.PlugFault.{PlugFault}
 use Rattle.virt_engine.specs.declared.status.Status.{Status}
 use Rattle.virt_engine.specs.declared.status.Status.TheVariants.{Done, PlugRefused}
 use Rattle.virt_engine.specs.Command.{PlugCommand}
-use Rattle.virt_engine.specs.RunDue.{IsVerdictBy}
-use Rattle.virt_engine.specs.PolicyTrees.{with_trees, trees_verdict}
-use Rattle.virt_engine.specs.Pairs.{Read, IsRead, IsTooLarge, Pair, PairVerdict, Joins, Refuses, IsPair, pair_verdict, IsPartVerdict, IsPartFile, AreRefused, IsPairVerdict, ArePair}
+use Rattle.virt_engine.specs.PolicyTrees.{with_trees}
+use Rattle.virt_engine.specs.Pairs.{Read, IsRead, IsTooLarge, Pair, Joins, Refuses, pair_verdict, IsPartVerdict, IsPartFile, AreRefused, IsPairVerdict, ArePair}
 use Rattle.virt_engine.specs.Plugging.{IsPlugDueUnder, IsPlugDue, IsPlugAccepted}
 use Rattle.virt_engine.proofs.PolicyLaws.{policy_stands, one_policy}
 use Rattle.virt_engine.proofs.RunDue.{AreOnes, one_file, file_stands}

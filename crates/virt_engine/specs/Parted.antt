@@ -2,7 +2,7 @@
 use Rattle.std.specs.Prelude.{ℕ, ◌≡◌, ◌⊎◌, List, [], true, Some, Result, Ok, Err}
 use Rattle.outside.specs.Files.{FilesState}
 use Rattle.virt_base.specs.declared.fault.AppFault.TheVariants as app_faults
-use Rattle.comp_grammar.specs.Trees.{Tree, plain}
+use Rattle.comp_grammar.specs.Trees.{plain}
 use Rattle.comp_types.specs.Added.{type_of}
 use Rattle.comp_signature.specs.Signatures.{component_signature}
 use Rattle.wasi_match.specs.declared.fault.MatchFault.{MatchFault}
