@@ -74,7 +74,7 @@ of_pair : (exports : Exports) (pair : Option (Name × Items)) → PairTextual pa
 of_pair exports None h c is = cc
 of_pair exports (Some pair) h c is = of_params exports pair.0 pair.1 (params_named pair.0 exports) refl h c is
 
-there : {A : Type 0} (path : List ℕ) (o : Option A) (a : A) → or_bad path o ≡ Ok a → o ≡ Some a
+pub there : {A : Type 0} (path : List ℕ) (o : Option A) (a : A) → or_bad path o ≡ Ok a → o ≡ Some a
 there path None a h = cc
 there path (Some b) a h = let same : b ≡ a = cc in ap Some same
 

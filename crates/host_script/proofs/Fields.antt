@@ -15,7 +15,7 @@ use Rattle.wit_types.specs.declared.types.Case.{Case, out-Case}
 use Rattle.wit_types.specs.declared.value.Value.{Value}
 use Rattle.wit_types.specs.declared.value.Values.{Values}
 use Rattle.wit_types.specs.PlainValue.{PlainValue, PlainValues, Payload, VariantValue, Without, plain_value, plain_values, values_of, payload_of as payload_of_value}
-use Rattle.wit_types.specs.Plain.{Name, Plain, Parts, End, More, Bare, bare, cases_of, case_part, payload_of}
+use Rattle.wit_types.specs.Plain.{Name, Plain, Parts, End, More, bare, cases_of, case_part, payload_of}
 use Rattle.host_port.specs.Untyped.{Untyped, Members, Null, Truth, Number, Inexact, Text, Array, Object, NoMembers, Member, take_member, taken, case_reading, reading, fields_reading, named_member, Chosen, case_named, with_payload, only_member, choice_in, label_in, option_in, ok_or_err, variant_of}
 use Rattle.host_script.specs.Json.{untyped, untyped_members}
 use Rattle.host_script.specs.Reads.{Gives, only_one, member_in, payload_by}

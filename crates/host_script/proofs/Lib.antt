@@ -12,3 +12,5 @@ pub mod Textual
 pub mod Typed
 pub mod Whole
 pub mod ExportPlaces
+pub mod Texts
+pub mod OnePass

@@ -1,7 +1,7 @@
 -- The only member of an object.
-use Rattle.std.proofs.Common.{◌≡◌, ◌≢◌, ℕ, List, [], ◌∷◌, length, refl, String, Global}
+use Rattle.std.proofs.Common.{◌≡◌, ◌≢◌, List, [], ◌∷◌, length, refl, String, Global}
 use Rattle.std.specs.Prelude.{None}
-use Rattle.serde_json.specs.View.{view, members_view}
+use Rattle.serde_json.specs.View.{members_view}
 use Rattle.serde_json.specs.declared.value.Value.{Value as Json}
 use Rattle.host_script.specs.Json.{untyped_members}
 use Rattle.host_script.specs.Reads.{only_one}

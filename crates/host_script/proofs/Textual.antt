@@ -16,7 +16,7 @@ use Rattle.host_port.specs.Untyped.{reading}
 use Rattle.host_script.specs.Json.{untyped, untyped_number, untyped_items, untyped_members}
 use Rattle.host_script.specs.declared.script.ScriptItem.{ScriptItem}
 use Rattle.host_script.specs.declared.script.ScriptItem.TheVariants.{Traps, NoValue, Value}
-use Rattle.host_script.specs.Script.{item_seen}
+use Rattle.host_script.specs.Script.{item_read}
 use Rattle.host_script.proofs.Typed.{is_textual, are_textual, members_textual, Passes, reading_passes}
 
 abbrev IsFine : Json → Type 0
@@ -61,7 +61,7 @@ read_typed ty None p = tt
 read_typed ty (Some v) p = p
 
 -- an item's answer is one that the call may have
-pub item_typed : (ty : Option Plain) (item : ScriptItem) → IsAnswerTo ty (item_answer ty (item_seen item))
+pub item_typed : (ty : Option Plain) (item : ScriptItem) → IsAnswerTo ty (item_answer ty (item_read item))
 item_typed ty Traps = tt
 item_typed None NoValue = tt
 item_typed (Some ty) NoValue = tt

@@ -1,5 +1,5 @@
 -- What JSON in memory stands for as an untyped value.
-use Rattle.std.proofs.Common.{◌≡◌, Bool as Truth', refl, ap, ◌∙◌, rules, String, Vec, BTreeMap, Global, string_bytes}
+use Rattle.std.proofs.Common.{◌≡◌, Bool as Truth', ap, rules, String, Vec, BTreeMap, Global, string_bytes}
 use Rattle.serde_json.specs.View.{view, number_view, items_view, members_view}
 use Rattle.serde_json.specs.declared.number.Number.{Number}
 use Rattle.serde_json.specs.declared.value.Value.{Value, Null, Bool, Number as Numeral, String as Quoted, Array, Object, the_lemmas}

@@ -30,7 +30,7 @@ by_test : (b : Bool) (o : Option Data) → (b ≡ true → o ≡ None) → (if b
 by_test true o h = ap (option_map untyped) (h refl)
 by_test false o h = refl
 
-none_read : (bytes : List ℕ) → (IsUtf8 bytes → read bytes ≡ None) → json_in bytes ≡ None
+pub none_read : (bytes : List ℕ) → (IsUtf8 bytes → read bytes ≡ None) → json_in bytes ≡ None
 none_read bytes h = by_test (is_utf8 bytes) (read bytes) (λ e. h (IsUtf8-from_is_utf8 bytes e))
 
 pub no_json_given : (exports : Exports) (bytes : List ℕ) (e : Error) (fault : ScriptFault) → IsNoJson e fault → ((IsMemory e → ⊥) → IsUtf8 bytes → read bytes ≡ None)
@@ -41,6 +41,15 @@ no_json_given exports bytes e NoMemory is h = tt
 pub json_given : (exports : Exports) (bytes : List ℕ) (d : Data) (r : Result Script ScriptFault) → IsUtf8 bytes → read bytes ≡ Some d → Gives script_seen (script_of exports (untyped d)) r
     → Gives script_seen (due_script exports (json_in bytes)) r
 json_given exports bytes d r text is h = rw (json_is bytes d text is) h
+
+-- a fault is the same of a script that is read whole
+pub fault_given : {A B C : Type 0} (see : A → B) (other : C → B) (due : Result B ScriptFault) (fault : ScriptFault) → Gives see due (Err fault) → Gives other due (Err fault)
+fault_given see other due (BadScript path) h = h
+fault_given see other due NoMemory h = tt
+
+-- two texts that are read alike
+pub json_same : (bytes text : List ℕ) (d : Data) → IsUtf8 bytes → read bytes ≡ Some d → IsUtf8 text → read text ≡ Some d → json_in bytes ≡ json_in text
+json_same bytes text d utf8 is utf8' same = json_is bytes d utf8 is ∙ sym (json_is text d utf8' same)
 
 -- ---- the two arrays
 

@@ -1,6 +1,6 @@
 -- What a script stands for, or the path of its first fault. It is a JSON object (RFC 8259) with the two keys `answers` and
 -- `calls`, both arrays.
-use Rattle.std.specs.Prelude.{ℕ, ◌≡◌, ◌+◌, ◌++◌, List, [], ◌∷◌, Bool, IsTrue, All, map, codes, Option, Some, None, option_map, Result, Ok, Err, if◌then◌else◌, ◌||◌}
+use Rattle.std.specs.Prelude.{ℕ, ◌≡◌, ◌+◌, ◌++◌, List, [], ◌∷◌, Bool, IsTrue, All, map, codes, Option, Some, None, option_map, option_and_then, Result, Ok, Err, if◌then◌else◌, ◌||◌}
 use Rattle.std.specs.Str.{bytes_eq, is_utf8}
 use Rattle.std.specs.Fmt.{decimal}
 use Rattle.serde_json.specs.Read.{read}
@@ -19,6 +19,7 @@ use Rattle.host_script.specs.declared.script.ScriptItem.{ScriptItem}
 use Rattle.host_script.specs.declared.script.ScriptItem.TheVariants.{Traps, NoValue, Value}
 use Rattle.host_script.specs.declared.script.Call.{Call}
 use Rattle.host_script.specs.declared.script.Script.{Script}
+use Rattle.host_script.specs.declared.script.WholeScript.{WholeScript}
 use Rattle.host_script.specs.declared.script.ExportType.{ExportType}
 
 abbrev pub and_then : {A B : Type 0} → Result A ScriptFault → (A → Result B ScriptFault) → Result B ScriptFault
@@ -163,10 +164,13 @@ due_script exports (Some u) = script_of exports u
 
 -- ---- how the code's values are seen, and what calls answer
 
-abbrev pub item_seen : ScriptItem → port.Item
-item_seen Traps = port.Traps
-item_seen NoValue = port.NoValue
-item_seen (Value json) = port.AValue (untyped (view json))
+abbrev pub item_or_trap : Option port.Item → port.Item
+item_or_trap None = port.Traps
+item_or_trap (Some item) = item
+
+-- the answer that a text is
+unfoldable pub item_seen : List ℕ → port.Item
+item_seen text = item_or_trap (option_and_then item_in (json_in text))
 
 abbrev pub call_seen : Call → PlainCall
 call_seen c = (c.name, plain_values c.args)
@@ -192,6 +196,14 @@ Finds seen due None = due ≡ None
 Finds seen due (Some a) = due ≡ Some (seen a)
 
 -- ---- for private clauses
+
+abbrev pub item_read : ScriptItem → port.Item
+item_read Traps = port.Traps
+item_read NoValue = port.NoValue
+item_read (Value json) = port.AValue (untyped (view json))
+
+abbrev pub whole_seen : WholeScript → PlainScript
+whole_seen s = record { answers = map item_read s.answers; calls = map call_seen s.calls }
 
 -- the fault at this path, unless memory ran out
 abbrev pub IsBad : List ℕ → ScriptFault → Type 0

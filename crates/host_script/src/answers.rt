@@ -3,10 +3,10 @@
 ghost use Rattle.std.specs.Prelude.{map, codes, string_bytes};
 ghost use Rattle.serde_json.specs.View.{view, items_view, members_view};
 ghost use Rattle.host_script.specs.Json.{untyped, untyped_items, untyped_members};
-ghost use Rattle.host_script.specs.Script.{Gives, Finds, IsBad, item_in, only_value, named_value, answer_at, each_at, item_seen, nth};
+ghost use Rattle.host_script.specs.Script.{Gives, Finds, IsBad, item_in, only_value, named_value, answer_at, each_at, item_read, nth};
 
 use crate::fault::ScriptFault;
-use crate::script::{Answers, ScriptItem};
+use crate::script::ScriptItem;
 use serde_json::{Map, Value as Json};
 use std::alloc::Global;
 use virt_base::{Items, Text};
@@ -22,7 +22,7 @@ pub fn bad_item(alloc: Global, path: &str, index: usize) -> ScriptFault
 }
 
 fn named_value(name: String, json: Json) -> Option<ScriptItem>
-    ensures { Finds item_seen (named_value (string_bytes name) (untyped (view json))) result }
+    ensures { Finds item_read (named_value (string_bytes name) (untyped (view json))) result }
 {
     if name.as_str() == "value" {
         Some(ScriptItem::Value(json))
@@ -32,7 +32,7 @@ fn named_value(name: String, json: Json) -> Option<ScriptItem>
 }
 
 fn only_value(members: Map<String, Json>) -> Option<ScriptItem>
-    ensures { Finds item_seen (only_value (untyped_members (members_view members.entries))) result }
+    ensures { Finds item_read (only_value (untyped_members (members_view members.entries))) result }
 {
     let mut others = members;
     match others.pop_first() {
@@ -46,8 +46,8 @@ fn only_value(members: Map<String, Json>) -> Option<ScriptItem>
 }
 
 /// An answer is `"trap"`, `{}` or `{"value":V}`.
-fn item_in(json: Json) -> Option<ScriptItem>
-    ensures { Finds item_seen (item_in (untyped (view json))) result }
+pub fn item_in(json: Json) -> Option<ScriptItem>
+    ensures { Finds item_read (item_in (untyped (view json))) result }
 {
     match json {
         Json::String(word) => if word.as_str() == "trap" {
@@ -61,7 +61,7 @@ fn item_in(json: Json) -> Option<ScriptItem>
 }
 
 fn answer_in(alloc: Global, index: usize, json: Json) -> Result<ScriptItem, ScriptFault>
-    ensures { Gives item_seen (answer_at index (untyped (view json))) result }
+    ensures { Gives item_read (answer_at index (untyped (view json))) result }
 {
     match item_in(json) {
         Some(item) => Ok(item),
@@ -69,8 +69,8 @@ fn answer_in(alloc: Global, index: usize, json: Json) -> Result<ScriptItem, Scri
     }
 }
 
-pub fn read_answers(alloc: Global, items: Vec<Json>) -> Result<Answers, ScriptFault>
-    ensures { Gives (λ answers. map item_seen answers) (each_at answer_at 0 (untyped_items (items_view items.items))) result }
+pub fn read_answers(alloc: Global, items: Vec<Json>) -> Result<Items<ScriptItem>, ScriptFault>
+    ensures { Gives (λ answers. map item_read answers) (each_at answer_at 0 (untyped_items (items_view items.items))) result }
 {
     let mut answers = Items::empty(alloc);
     let mut rest = items.into_iter();

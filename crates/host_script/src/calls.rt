@@ -1,10 +1,10 @@
 #![tactic(auto, using(crate::proofs::Views::untypeds))]
 
-ghost use Rattle.std.specs.Prelude.{map, ◌≡◌, IfOk, option_map, string_bytes};
+ghost use Rattle.std.specs.Prelude.{map, ◌≡◌, option_map, string_bytes};
 ghost use Rattle.serde_json.specs.View.{view, items_view};
 ghost use Rattle.host_port.specs.Calls.{fields_in};
 ghost use Rattle.host_script.specs.Json.{untyped, untyped_items};
-ghost use Rattle.host_script.specs.Script.{Gives, Finds, text_of, items_of, two_in, pair_in, call_by, call_of, call_at, each_at, call_seen, exports_seen, params_named, AreTyped};
+ghost use Rattle.host_script.specs.Script.{Gives, Finds, text_of, items_of, two_in, pair_in, call_by, call_of, call_at, each_at, call_seen, exports_seen, params_named};
 
 use crate::answers::bad_item;
 use crate::exports::ExportTypes;
@@ -77,7 +77,8 @@ fn pair_in(json: Json) -> Option<(String, Vec<Json>)>
     }
 }
 
-fn call_in(
+/// The call at an index of the array.
+pub fn call_in(
     alloc: Global,
     exports: &ExportTypes,
     index: usize,
@@ -106,8 +107,7 @@ pub fn read_calls(
     exports: &ExportTypes,
     items: Vec<Json>,
 ) -> Result<Calls, ScriptFault>
-    ensures due { Gives (λ calls. map call_seen calls) (each_at (call_at (exports_seen exports.now)) 0 (untyped_items (items_view items.items))) result }
-    ensures typed { IfOk result (λ calls. AreTyped (exports_seen exports.now) calls) }
+    ensures { Gives (λ calls. map call_seen calls) (each_at (call_at (exports_seen exports.now)) 0 (untyped_items (items_view items.items))) result }
 {
     let mut calls = Items::empty(alloc);
     let mut rest = items.into_iter();

@@ -2,21 +2,23 @@ ghost use Rattle.std.specs.Prelude.{◌≡◌, [], IfOk, map};
 ghost use Rattle.host_port.specs.Calls.{plain_answer};
 ghost use Rattle.host_port.specs.Scripts.{Script, script, item_answer};
 ghost use Rattle.wit_types.specs.Plain.{plain_result};
-ghost use Rattle.host_script.specs.Script.{item_seen};
+ghost use Rattle.host_script.specs.Script.{item_read, item_seen};
 ghost use Rattle.host_script.specs.Hosts.{kept_by};
 
-use crate::script::{Answers, ScriptItem};
+use crate::answers::item_in;
+use crate::kept::Answers;
+use crate::script::ScriptItem;
 use crate::{ReadValueFault, read_value};
 use host_port::{Answer, Host, HostCall, Observation, Observations, Resource, copy_resource};
+use serde_json::Value as Json;
 use std::alloc::Global;
-use std::vec::IntoIter;
 use virt_base::{Items, NoMemory};
 use wit_types::WitType;
 
 /// The host that answers by a script: each call takes the next answer, and a drop takes none.
 #[derive(Drop)]
 pub struct ScriptHost {
-    left: IntoIter<ScriptItem>,
+    left: Answers,
     seen: Observations,
 }
 
@@ -26,18 +28,31 @@ impl ScriptHost {
         ensures state { (kept_by result).state ≡ map item_seen script }
         ensures seen { (kept_by result).seen ≡ [] }
     {
-        let answers = script.into_vec();
-        let seen = Items::empty(*answers.allocator());
-        ScriptHost {
-            left: answers.into_iter(),
-            seen,
-        }
+        let seen = Items::empty(script.allocator());
+        ScriptHost { left: script, seen }
+    }
+}
+
+/// The item that a text is.
+fn read_item(alloc: Global, text: &[u8]) -> Result<ScriptItem, NoMemory>
+    ensures { IfOk result (λ item. item_read item ≡ item_seen text.now) }
+{
+    match Json::from_slice(alloc, text) {
+        Ok(json) => match item_in(json) {
+            Some(item) => Ok(item),
+            None => Ok(ScriptItem::Traps),
+        },
+        Err(e) => if e.is_memory() {
+            Err(NoMemory)
+        } else {
+            Ok(ScriptItem::Traps)
+        },
     }
 }
 
 /// What an item answers to a call with a result type.
 fn answer_by(alloc: Global, ty: &Option<WitType>, item: ScriptItem) -> Result<Answer, NoMemory>
-    ensures { IfOk result (λ a. plain_answer a ≡ item_answer (plain_result ty.now) (item_seen item)) }
+    ensures { IfOk result (λ a. plain_answer a ≡ item_answer (plain_result ty.now) (item_read item)) }
 {
     match item {
         ScriptItem::Traps => Ok(Answer::Trap),
@@ -66,10 +81,12 @@ impl Host for ScriptHost {
     fn call(&mut self, alloc: Global, call: HostCall) -> Result<Answer, NoMemory> {
         let func = call.func.clone()?;
         self.seen.push(Observation::Called(call))?;
-        match self.left.next() {
-            None => Ok(Answer::Ended),
-            Some(item) => answer_by(alloc, &func.result, item),
-        }
+        let item = match self.left.first() {
+            None => return Ok(Answer::Ended),
+            Some(text) => read_item(alloc, text)?,
+        };
+        self.left.pass();
+        answer_by(alloc, &func.result, item)
     }
 
     fn drop_handle(&mut self, alloc: Global, resource: &Resource, id: u32) -> Result<(), NoMemory> {

@@ -1,3 +1,4 @@
+use crate::kept::Answers;
 use serde_json::Value as Json;
 use virt_base::{Items, Text};
 use wit_types::{FuncType, Values};
@@ -13,9 +14,6 @@ pub enum ScriptItem {
     Value(Json),
 }
 
-/// The answers of a script, in order.
-pub type Answers = Items<ScriptItem>;
-
 /// A call of a function that can be called, with arguments of its parameters' types.
 #[derive(Debug, Drop)]
 pub struct Call {
@@ -29,6 +27,13 @@ pub type Calls = Items<Call>;
 #[derive(Debug, Drop)]
 pub struct Script {
     pub answers: Answers,
+    pub calls: Calls,
+}
+
+/// A script as it was read whole.
+#[derive(Debug, Drop)]
+pub struct WholeScript {
+    pub answers: Items<ScriptItem>,
     pub calls: Calls,
 }
 

@@ -1,15 +1,17 @@
 #![tactic(auto, using(crate::proofs::Views::untypeds, crate::proofs::Whole::bads))]
 
-ghost use Rattle.std.specs.Prelude.{◌≡◌, ◌≢◌, [], List, ℕ, IfOk, option_map};
+ghost use Rattle.std.specs.Prelude.{◌≡◌, ◌≢◌, [], List, ℕ, Err, IfOk, option_map};
 ghost use Rattle.serde_json.specs.View.{view, items_view, members_view};
 ghost use Rattle.host_script.specs.Json.{untyped, untyped_items, untyped_members};
-ghost use Rattle.host_script.specs.Script.{Gives, IsBad, IsNoJson, array_in, value_at, is_known, first_unknown, unless_bad, made_of, script_in, script_of, due_script, script_seen, exports_seen, json_in, AreTyped};
+ghost use Rattle.host_script.specs.Script.{Gives, IsBad, IsNoJson, array_in, value_at, is_known, first_unknown, unless_bad, made_of, script_in, script_of, due_script, script_seen, whole_seen, exports_seen, json_in, AreTyped};
 
 use crate::answers::read_answers;
 use crate::calls::{items_of, read_calls};
 use crate::exports::ExportTypes;
 use crate::fault::ScriptFault;
-use crate::script::Script;
+use crate::regular::read_regular;
+use crate::script::{Script, WholeScript};
+use crate::unread::Unread;
 use serde_json::{Error, Map, Value as Json};
 use std::alloc::Global;
 use virt_base::Text;
@@ -76,13 +78,12 @@ fn read_both(
     exports: &ExportTypes,
     answers: Vec<Json>,
     calls: Vec<Json>,
-) -> Result<Script, ScriptFault>
-    ensures due { Gives script_seen (made_of (exports_seen exports.now) (untyped_items (items_view answers.items)) (untyped_items (items_view calls.items))) result }
-    ensures typed { IfOk result (λ script. AreTyped (exports_seen exports.now) script.calls) }
+) -> Result<WholeScript, ScriptFault>
+    ensures { Gives whole_seen (made_of (exports_seen exports.now) (untyped_items (items_view answers.items)) (untyped_items (items_view calls.items))) result }
 {
     let read = read_answers(alloc, answers)?;
     let made = read_calls(alloc, exports, calls)?;
-    Ok(Script {
+    Ok(WholeScript {
         answers: read,
         calls: made,
     })
@@ -92,9 +93,8 @@ fn script_in(
     alloc: Global,
     exports: &ExportTypes,
     members: Map<String, Json>,
-) -> Result<Script, ScriptFault>
-    ensures due { Gives script_seen (script_in (exports_seen exports.now) (untyped_members (members_view members.entries))) result }
-    ensures typed { IfOk result (λ script. AreTyped (exports_seen exports.now) script.calls) }
+) -> Result<WholeScript, ScriptFault>
+    ensures { Gives whole_seen (script_in (exports_seen exports.now) (untyped_members (members_view members.entries))) result }
 {
     known_keys(alloc, &members)?;
     let mut others = members;
@@ -103,9 +103,8 @@ fn script_in(
     read_both(alloc, exports, answer_items, call_items)
 }
 
-fn script_of(alloc: Global, exports: &ExportTypes, json: Json) -> Result<Script, ScriptFault>
-    ensures due { Gives script_seen (script_of (exports_seen exports.now) (untyped (view json))) result }
-    ensures typed { IfOk result (λ script. AreTyped (exports_seen exports.now) script.calls) }
+fn script_of(alloc: Global, exports: &ExportTypes, json: Json) -> Result<WholeScript, ScriptFault>
+    ensures { Gives whole_seen (script_of (exports_seen exports.now) (untyped (view json))) result }
 {
     match json {
         Json::Object(members) => script_in(alloc, exports, members),
@@ -125,6 +124,36 @@ fn no_json(alloc: Global, e: &Error) -> ScriptFault
     }
 }
 
+/// The fault of a script that is read whole.
+fn fault_in(alloc: Global, exports: &ExportTypes, json: Json) -> ScriptFault
+    ensures { Gives script_seen (script_of (exports_seen exports.now) (untyped (view json))) (Err result) }
+{
+    match script_of(alloc, exports, json) {
+        Err(fault) => fault,
+        // A script without fault was read before.
+        Ok(_) => ScriptFault::NoMemory,
+    }
+}
+
+/// Reads a script of any form. With its members in order, each once, it is of the usual form.
+fn read_any(alloc: Global, json: &[u8], exports: &ExportTypes) -> Result<Script, ScriptFault>
+    ensures due { Gives script_seen (due_script (exports_seen exports.now) (json_in json.now)) result }
+    ensures typed { IfOk result (λ script. AreTyped (exports_seen exports.now) script.calls) }
+{
+    let json = match Json::from_slice(alloc, json) {
+        Ok(json) => json,
+        Err(e) => return Err(no_json(alloc, &e)),
+    };
+    let Ok(text) = json.to_string(alloc) else {
+        return Err(ScriptFault::NoMemory);
+    };
+    match read_regular(alloc, exports, text.as_bytes()) {
+        Ok(script) => Ok(script),
+        Err(Unread::OtherForm) => Err(fault_in(alloc, exports, json)),
+        Err(Unread::NoMemory) => Err(ScriptFault::NoMemory),
+    }
+}
+
 /// Reads a script, or finds its first fault: the bytes are a JSON text (RFC 8259, at most 127 arrays and objects in one
 /// another) of an object with the keys `answers` and `calls` and no other; each answer is `"trap"`, `{}` or `{"value":V}`; each
 /// call is `[NAME,[V, ..]]` with the name of a function that can be called and a value for each of its parameters.
@@ -133,8 +162,9 @@ pub fn read_script(alloc: Global, json: &[u8], exports: &ExportTypes) -> Result<
     // The arguments of each call are of its function's parameters.
     ensures typed { IfOk result (λ script. AreTyped (exports_seen exports.now) script.calls) }
 {
-    match Json::from_slice(alloc, json) {
-        Ok(json) => script_of(alloc, exports, json),
-        Err(e) => Err(no_json(alloc, &e)),
+    match read_regular(alloc, exports, json) {
+        Ok(script) => Ok(script),
+        Err(Unread::OtherForm) => read_any(alloc, json, exports),
+        Err(Unread::NoMemory) => Err(ScriptFault::NoMemory),
     }
 }

@@ -135,6 +135,11 @@ const ANSWERS: &str = r#"# i: no result;function f
 {"value":null} | call => ["return",null]
 # i: answers in order;function f -> u8
 {"value":1},"trap",{"value":"x"},{"value":2} | call, call, call, call, call => ["return",1] ["trap"] ["bad-answer"] ["return",2] ["script-ended"]
+# i: of a key that comes twice the last value is read, and space and escapes say nothing;function f -> u64
+{"value":1,"value":2} | call, call => ["return",2] ["script-ended"]
+{ "\u0076alue" : 18446744073709551615 } , "tr\u0061p" | call, call => ["return",18446744073709551615] ["trap"]
+# i: a text with escapes;function f -> string
+{"value":"\u000a\"\\\u00e9"} | call => ["return","\n\"\\é"]
 # i: seen in order;function f
 "trap",{} | call, r 4294967295, call, seen => ["trap"] ["return"] ["call","i","f",[]] ["drop","i","r",4294967295] ["call","i","f",[]]
 # wasi:io/streams@0.2.0: a drop;function f

@@ -45,6 +45,8 @@ null => at|
 {"answers":[1],"calls":{}} => at|calls
 {"calls":[],"answers":[1],"answers":[]} => fine
 {"answers":[],"calls":[],"calls":1} => at|calls
+{"calls":[["f",[]]],"answers":["trap",{"value":[1.5]}]} => fine
+{"calls":[["f",[1]]],"answers":["trap"]} => at|calls[0]
 # i: answers come before calls;function f -> u32
 {"answers":[1],"calls":[]} => at|answers[0]
 {"answers":["trap",{},{"value":[1.5]},"Trap"],"calls":[1]} => at|answers[3]

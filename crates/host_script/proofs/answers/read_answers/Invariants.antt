@@ -2,13 +2,13 @@ use Rattle.std.proofs.Common.{◌≡◌, ◌++◌, map, length, Ok}
 use Rattle.std.specs.Vec.Iter.{into_iter_items}
 use Rattle.serde_json.specs.View.{items_view}
 use Rattle.host_script.specs.Json.{untyped_items}
-use Rattle.host_script.specs.Script.{and_then, each_at, answer_at, item_seen}
+use Rattle.host_script.specs.Script.{and_then, each_at, answer_at, item_read}
 use Rattle.host_script.proofs.answers.read_answers.Given as goal
 
 abbrev pub invariant-loop-json : goal.invariant-loop-json
 invariant-loop-json l =
     each_at answer_at 0 (untyped_items (items_view l.fn.items.items))
-    ≡ and_then (each_at answer_at (length l.answers) (untyped_items (items_view (into_iter_items l.rest)))) (λ later. Ok (map item_seen l.answers ++ later))
+    ≡ and_then (each_at answer_at (length l.answers) (untyped_items (items_view (into_iter_items l.rest)))) (λ later. Ok (map item_read l.answers ++ later))
 
 abbrev pub decreases-loop-json : goal.decreases-loop-json
 decreases-loop-json l = length (into_iter_items l.rest)

@@ -1,4 +1,4 @@
-use Rattle.std.proofs.Common.{◌≡◌, ◌∙◌, length, ◌+◌, ◌*◌, ◌^◌, ◌<◌, ◌≤◌, ◌∷◌, suc, drop, true, false, ap, sym, refl, rules, arith, add-one}
+use Rattle.std.proofs.Common.{◌≡◌, ◌∙◌, length, ◌+◌, ◌*◌, ◌^◌, ◌<◌, ◌∷◌, drop, true, false, ap, sym, refl, rules, arith, add-one}
 use Rattle.std.specs.Prelude.{option_map}
 use Rattle.std.proofs.Math.Nat.{pow-suc}
 use Rattle.std.proofs.lemmas.List.{drop_more, drop_all}

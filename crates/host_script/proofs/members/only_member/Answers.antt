@@ -1,4 +1,4 @@
-use Rattle.std.proofs.Common.{◌≡◌, rules}
+use Rattle.std.proofs.Common.{rules}
 use Rattle.host_script.proofs.Only.{more_than_one}
 use Rattle.host_script.proofs.members.only_member.Goals as goal
 

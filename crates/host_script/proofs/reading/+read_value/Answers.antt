@@ -1,8 +1,8 @@
 use Rattle.std.proofs.Common.{◌≡◌, ◌∙◌, ◌+◌, [], drop, get_or, ap, sym, rules, arith}
-use Rattle.std.specs.Prelude.{Some, None, option_map, string_bytes}
+use Rattle.std.specs.Prelude.{Some, None, string_bytes}
 use Rattle.std.proofs.lemmas.List.{drop_all}
 use Rattle.std.specs.Vec.Iter.{into_iter_items}
-use Rattle.serde_json.specs.View.{view, items_view, members_view}
+use Rattle.serde_json.specs.View.{view, members_view}
 use Rattle.wit_types.specs.declared.types.Field.{out-Field}
 use Rattle.wit_types.specs.declared.types.Case.{out-Case}
 use Rattle.wit_types.specs.declared.types.WitType.TheFolds.{the_lemmas}
@@ -10,10 +10,10 @@ use Rattle.wit_types.specs.Plain.{plain, fields_of, types_of, cases_of, payload_
 use Rattle.wit_types.specs.PlainValue.{values_of, payload_of}
 use Rattle.wit_types.proofs.PlainLemmas.{plain-List}
 use Rattle.wit_types.proofs.ValueLemmas.{plain_values-Each, plain_value-Variant}
-use Rattle.host_port.specs.Untyped.{reading, each_item, parts_reading, fields_reading, case_reading, case_named, choice_in, variant_of}
-use Rattle.host_script.specs.Json.{untyped, untyped_items, untyped_members}
+use Rattle.host_port.specs.Untyped.{reading, each_item, fields_reading, case_reading, case_named, choice_in, variant_of}
+use Rattle.host_script.specs.Json.{untyped, untyped_members}
 use Rattle.host_script.specs.Reads.{payload_by}
-use Rattle.host_script.proofs.Joins.{then_rest, seen, each_more, part_more, part_missing, parts_done, item_left, types_cut, fields_cut, all_read, nothing_left}
+use Rattle.host_script.proofs.Joins.{then_rest, seen, each_more, part_more, parts_done, types_cut, fields_cut, all_read, nothing_left}
 use Rattle.host_script.proofs.Fields.{field_missing, field_wrong, field_more, fields_done, member_left, values_fault, payload_fault, variant_is, variant_kept, null_is}
 use Rattle.host_script.proofs.reading.+read_value.Goals as goal
 

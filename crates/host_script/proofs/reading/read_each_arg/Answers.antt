@@ -1,14 +1,10 @@
-use Rattle.std.proofs.Common.{◌≡◌, ◌∙◌, ◌+◌, [], drop, ap, sym, rules, arith}
+use Rattle.std.proofs.Common.{◌≡◌, ◌∙◌, ◌+◌, [], drop, ap, sym, arith}
 use Rattle.std.proofs.lemmas.List.{drop_all}
 use Rattle.std.specs.Vec.Iter.{into_iter_items}
 use Rattle.wit_types.specs.declared.types.Field.{out-Field}
 use Rattle.wit_types.specs.Plain.{plain, fields_of}
 use Rattle.wit_types.proofs.ValueLemmas.{plain_values-Each}
-use Rattle.host_port.specs.Untyped.{reading, parts_reading}
-use Rattle.host_script.specs.Json.{untyped, untyped_items}
-use Rattle.serde_json.specs.View.{view, items_view}
-use Rattle.host_script.proofs.Joins.{part_more, part_missing, part_wrong, parts_done, item_left, fields_cut, nothing_left}
-use Rattle.host_script.proofs.Fields.{values_fault}
+use Rattle.host_script.proofs.Joins.{part_more, parts_done, fields_cut, nothing_left}
 use Rattle.host_script.proofs.reading.read_each_arg.Goals as goal
 
 pub loop-param-preserved : goal.loop-param-preserved

@@ -1,4 +1,4 @@
-use Rattle.std.proofs.Common.{◌≡◌, ◌∙◌, rules}
+use Rattle.std.proofs.Common.{◌≡◌, rules}
 use Rattle.wit_types.specs.Plain.{bare}
 use Rattle.wit_types.proofs.ValueLemmas.{plain_value-Variant}
 use Rattle.host_port.specs.Untyped.{case_named}

@@ -1,4 +1,4 @@
-use Rattle.std.proofs.Common.{◌≡◌, ◌∙◌, rules}
+use Rattle.std.proofs.Common.{rules}
 use Rattle.wit_types.proofs.ValueLemmas.{plain_value-Char}
 use Rattle.host_script.proofs.Views.{untyped-String}
 use Rattle.host_script.proofs.Chars.{one_char, no_char}

@@ -1,5 +1,4 @@
 use Rattle.std.proofs.Common.{ap}
-use Rattle.std.specs.Vec.Iter.{into_iter_items}
 use Rattle.host_port.specs.declared.answer.Observation.TheVariants as observations
 use Rattle.host_port.specs.Calls.{Dropped}
 use Rattle.host_script.proofs.HostLaws.{next_drop}
@@ -7,5 +6,5 @@ use Rattle.host_script.proofs.host.ScriptHostHost.drop_handle.Goals as goal
 
 pub returns : goal.returns
 returns c =
-    next_drop (into_iter_items c.args.self.now.left) c.args.self.now.seen c.push.new.self c.args.resource.now c.args.id (observations.Dropped c.in_ok-copy.copy c.args.id) c.in_ok-push.ensures.ok
+    next_drop c.args.self.now.left c.args.self.now.seen c.push.new.self c.args.resource.now c.args.id (observations.Dropped c.in_ok-copy.copy c.args.id) c.in_ok-push.ensures.ok
     (ap (λ r. Dropped r c.args.id) c.in_ok-copy.ensures)
