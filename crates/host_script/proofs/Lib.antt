@@ -14,3 +14,4 @@ pub mod Whole
 pub mod ExportPlaces
 pub mod Texts
 pub mod OnePass
+pub mod InMemory

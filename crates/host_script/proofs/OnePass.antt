@@ -1,15 +1,11 @@
 -- A script of the usual form is what its items, taken in turn, give.
-use Rattle.std.proofs.Common.{◌≡◌, ◌∙◌, ℕ, ◌+◌, ◌-◌, ◌<◌, ◌≤◌, List, [], ◌∷◌, ◌++◌, length, map, codes, refl, ap, sym, subst, append-nil, arith}
+use Rattle.std.proofs.Common.{◌≡◌, ◌∙◌, ℕ, ◌+◌, ◌-◌, ◌<◌, ◌≤◌, List, [], ◌∷◌, ◌++◌, length, map, codes, refl, ap, sym, subst, arith}
 use Rattle.std.specs.Prelude.{Some, None, Result, Ok, option_map, option_and_then, IsUtf8}
 use Rattle.json.specs.Token.{Token, begin_object, end_object, begin_array, key}
 use Rattle.json.specs.Lex.{tokens}
-use Rattle.json.specs.Print.{print}
 use Rattle.json.specs.Json as json
 use Rattle.json.specs.Json.{Json, value, items, members, parse_map, after_end_array, read_key, if_last}
-use Rattle.json.specs.Tree.{json_tokens, depth, HasNumbers}
 use Rattle.json.proofs.Grammar.{left, skip_value-shorter, value-begin_array, value-begin_object, items_end, items_more, members_end, members_more}
-use Rattle.json.proofs.Printed.Tokens.{tokens-print}
-use Rattle.json.proofs.Printed.Trees.{value-json_tokens, ArePrintable-json_tokens}
 use Rattle.serde_json.specs.Data.{Data, array, object, Items, no_items, item, no_members, member, put}
 use Rattle.serde_json.specs.Read.{read, of_json, of_items, of_members}
 use Rattle.host_port.specs.Untyped.{Untyped}
@@ -132,16 +128,6 @@ regular exports text texts calls ts first middle second last utf8 begins is_firs
     let is : read text ≡ Some (both_datas a.datas b.datas) = ap (λ o. option_and_then of_json (option_and_then (λ p. if_last p.0 p.1) o)) tree ∙ stands a.trees b.trees a.datas b.datas a.stand b.stand in
     ap (due_script exports) (json_is text (both_datas a.datas b.datas) utf8 is)
     ∙ given_by exports a.datas b.datas texts calls (answers_read texts a.datas a.each) (calls_read exports calls b.datas b.each)
-
--- ---- the text of one item
-
-pub read_printed : (tree : Json) → HasNumbers tree → depth tree ≤ 125 → read (print (json_tokens tree)) ≡ of_json tree
-read_printed tree numbers shallow =
-    ap (λ ts. option_and_then of_json (option_and_then (λ p. if_last p.0 p.1) (value 127 ts))) (tokens-print (json_tokens tree) (ArePrintable-json_tokens tree numbers) ∙ sym (append-nil (json_tokens tree)))
-    ∙ ap (λ o. option_and_then of_json (option_and_then (λ p. if_last p.0 p.1) o)) (value-json_tokens tree 127 [] (omega arith))
-
-pub item_stands : (tree : Json) (text : List ℕ) (d : Data) → HasNumbers tree → depth tree ≤ 125 → text ≡ print (json_tokens tree) → read text ≡ Some d → of_json tree ≡ Some d
-item_stands tree text d numbers shallow is reads = sym (read_printed tree numbers shallow) ∙ (ap read (sym is) ∙ reads)
 
 -- ---- the answer that a text is
 

@@ -7,6 +7,7 @@ mod calls;
 mod exports;
 mod fault;
 mod host;
+mod json_value;
 mod kept;
 mod labels;
 mod members;

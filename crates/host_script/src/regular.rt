@@ -1,12 +1,11 @@
 //! A script whose members are `answers` and then `calls`, and which is not at fault, is read in one pass: each answer is kept as
 //! its text, so that no tree of all of them stands in memory.
 
-ghost use Rattle.std.specs.Prelude.{◌≡◌, ◌<◌, [], ◌∷◌, length, Some, Ok, IfOk, OnOk, IsUtf8};
+ghost use Rattle.std.specs.Prelude.{◌≡◌, ◌<◌, ◌≤◌, [], ◌∷◌, length, Ok, IfOk, OnOk, IsUtf8};
 ghost use Rattle.json.specs.Token.{begin_object, end_object, begin_array, key as key_token};
-ghost use Rattle.json.specs.Lex.{tokens};
-ghost use Rattle.serde_json.specs.Read.{read};
+ghost use Rattle.serde_json.specs.Data.{depth as nesting};
+ghost use Rattle.serde_json.specs.Read.{max_depth};
 ghost use Rattle.serde_json.specs.View.{view};
-ghost use Rattle.host_script.specs.Json.{untyped};
 ghost use Rattle.host_script.specs.Script.{AreTyped, due_script, exports_seen, json_in, script_seen};
 ghost use Rattle.host_script.specs.Taken.{IsNext, IsAnswer, IsCall, Takes, TakesAll};
 
@@ -14,10 +13,11 @@ use crate::answers::item_in;
 use crate::calls::call_in;
 use crate::exports::ExportTypes;
 use crate::fault::ScriptFault;
+use crate::json_value::read_json;
 use crate::kept::Answers;
 use crate::script::{Calls, Script};
 use crate::unread::Unread;
-use json::{Reader, Scratch, Token, Value as Tree, to_vec};
+use json::{Reader, Scratch, Token};
 use serde_json::Value as Json;
 use std::alloc::Global;
 use virt_base::Items;
@@ -25,36 +25,21 @@ use virt_base::Items;
 /// So deep may arrays and objects nest in an item of an array in an object.
 const DEPTH: usize = 125;
 
-fn read_json(alloc: Global, text: &[u8]) -> Result<Json, Unread>
-    ensures { IfOk result (λ json. IsUtf8 text.now × (read text.now ≡ Some (view json))) }
-{
-    match Json::from_slice(alloc, text) {
-        Ok(json) => Ok(json),
-        Err(e) => if e.is_memory() {
-            Err(Unread::NoMemory)
-        } else {
-            Err(Unread::OtherForm)
-        },
-    }
-}
-
-/// The next item of an array, and its text.
-fn next_item(alloc: Global, reader: &mut Reader<'_>) -> Result<(Vec<u8>, Json), Unread>
-    ensures next { IfOk result (λ item. IsNext (view item.1) reader.old reader.new) }
-    ensures text { IfOk result (λ item. json_in item.0.items ≡ Some (untyped (view item.1))) }
+/// The next item of an array.
+fn next_item(alloc: Global, reader: &mut Reader<'_>) -> Result<Json, Unread>
+    ensures next { IfOk result (λ json. IsNext (view json) reader.old reader.new) }
+    ensures nests { IfOk result (λ json. nesting (view json) ≤ max_depth) }
     ensures shorter { OnOk result (length reader.new < length reader.old) }
 {
-    let tree = Tree::read(alloc, reader, DEPTH)?;
-    let text = to_vec(alloc, &tree)?;
-    drop(tree);
-    let json = read_json(alloc, text.as_slice())?;
-    Ok((text, json))
+    let json = read_json(alloc, reader, DEPTH)?;
+    Ok(json)
 }
 
 fn keep_answer(alloc: Global, reader: &mut Reader<'_>, answers: &mut Answers) -> Result<(), Unread>
     ensures { OnOk result (Takes IsAnswer answers.old answers.new reader.old reader.new) }
 {
-    let (text, json) = next_item(alloc, reader)?;
+    let json = next_item(alloc, reader)?;
+    let text = json.to_vec(alloc)?;
     match item_in(json) {
         Some(_) => {
             answers.push(text.as_slice())?;
@@ -83,7 +68,7 @@ fn keep_call(
     ensures due { OnOk result (Takes (IsCall (exports_seen exports.now)) calls.old calls.new reader.old reader.new) }
     ensures typed { OnOk result (AreTyped (exports_seen exports.now) calls.old → AreTyped (exports_seen exports.now) calls.new) }
 {
-    let (_, json) = next_item(alloc, reader)?;
+    let json = next_item(alloc, reader)?;
     match call_in(alloc, exports, calls.len(), json) {
         Ok(call) => {
             calls.push(call)?;

@@ -1,4 +1,4 @@
-use std::alloc::AllocError;
+use std::alloc::{AllocError, AllocFailed};
 use virt_base::NoMemory;
 
 /// Why a text is not read as a script of the usual form.
@@ -8,20 +8,6 @@ pub enum Unread {
     OtherForm,
     /// Memory ran out.
     NoMemory,
-}
-
-impl From<json::Error> for Unread {
-    ghost use Rattle.std.specs.Prelude.{⊤};
-
-    ghost from_gives = { λ _ _. ⊤ };
-
-    fn from(error: json::Error) -> Unread {
-        match error {
-            json::Error::OutOfMemory => Unread::NoMemory,
-            json::Error::Invalid | json::Error::TooLong | json::Error::DuplicateKey =>
-                Unread::OtherForm,
-        }
-    }
 }
 
 impl From<json::Invalid> for Unread {
@@ -53,6 +39,17 @@ impl From<NoMemory> for Unread {
     ghost from_gives = { λ _ u. u ≡ NoMemory };
 
     fn from(_: NoMemory) -> Unread {
+        Unread::NoMemory
+    }
+}
+
+impl<T: Drop> From<AllocFailed<T>> for Unread {
+    ghost use Rattle.std.specs.Prelude.{◌≡◌};
+    ghost use Rattle.host_script.specs.declared.unread.Unread.TheVariants.{NoMemory};
+
+    ghost from_gives = { λ _ u. u ≡ NoMemory };
+
+    fn from(_: AllocFailed<T>) -> Unread {
         Unread::NoMemory
     }
 }
