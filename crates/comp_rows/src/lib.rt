@@ -2,6 +2,8 @@
 #![tactic(auto)]
 
 #[cfg(test)]
+mod joining;
+#[cfg(test)]
 mod matching;
 #[cfg(test)]
 mod parts;

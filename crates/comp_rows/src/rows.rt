@@ -2,7 +2,7 @@
 //! missing. A line behind `# ` says what the next ones share.
 
 use crate::spelling::component_of;
-use crate::{parts, plans, reading, running, validity, writing};
+use crate::{joining, parts, plans, reading, running, validity, writing};
 use std::alloc::Global;
 use std::process::Abort;
 use std::test::Fail;
@@ -15,6 +15,7 @@ pub enum Asked {
     Writing,
     Validity,
     Plans,
+    Joining,
     Running,
     Code,
 }
@@ -26,6 +27,7 @@ fn answer(alloc: Global, asked: Asked, bytes: &[u8]) -> Result<String, Fail> {
         Asked::Writing => writing::answer(alloc, bytes),
         Asked::Validity => validity::answer(alloc, bytes),
         Asked::Plans => plans::answer(alloc, bytes),
+        Asked::Joining => joining::answer(alloc, bytes),
         Asked::Running => running::answer(alloc, bytes),
         Asked::Code => running::code(alloc, bytes),
     }
