@@ -1,12 +1,33 @@
 -- An output with an adapter that is right.
-use Rattle.std.proofs.Common.{ℕ, List}
-use Rattle.comp_grammar.specs.Trees.{Tree}
+use Rattle.std.proofs.Common.{◌≡◌, ℕ, List}
+use Rattle.comp_grammar.specs.Trees.{Tree, plain}
+use Rattle.comp_types.specs.Items.{Entries}
 use Rattle.policy_data.specs.declared.policy.Policy.{Policy}
 use Rattle.wasi_match.specs.declared.listed.ListedUse.{ListedUse}
+use Rattle.adapter_world.specs.Names.{needed_count}
 use Rattle.comp_pair.specs.declared.assembled.Front.{Front}
 use Rattle.comp_pair.specs.declared.assembled.Assembled.{Assembled}
 use Rattle.comp_pair.specs.Assembled.{IsFront, IsAssembled}
-use Rattle.compose.specs.Assembled.{HasAdapter, IsMade}
+use Rattle.compose.specs.Composed.{IsComposed}
+use Rattle.compose.specs.Assembled.{HasAdapter, IsMade, IsRight}
 
 pub is_made : (policy : Policy) (uses : List ListedUse) (app : Tree) (size : ℕ) (f : Front) (a : Assembled) → HasAdapter policy uses f → ((adapter : Tree) → IsFront adapter f → IsAssembled adapter app size a) → IsMade policy uses app size a
 is_made policy uses app size f a h made = record { adapter = h.adapter; right = h.right; assembled = made h.adapter h.front }
+
+-- What was made and is right is composed.
+pub is_composed : (policy : Policy) (uses : List ListedUse) (app : Tree) (exported : Entries) (size needed : ℕ) (a : Assembled) → IsMade policy uses app size a → IsRight policy uses exported (plain a.whole) → needed ≡ needed_count policy uses
+    → IsComposed policy app uses exported size (record { front = a.front; back = a.back; needed = needed })
+is_composed policy uses app exported size needed a made right count = record {
+  output = plain a.whole;
+  spelled = made.assembled.spelled;
+  valid = right.valid;
+  imports = right.imports;
+  exports = right.exports;
+  adapter = made.adapter;
+  right = made.right;
+  components = made.assembled.components;
+  joins = right.joins made.adapter app made.assembled.components;
+  before = made.assembled.before;
+  front = made.assembled.front;
+  count = count;
+}

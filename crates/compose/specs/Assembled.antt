@@ -1,5 +1,5 @@
 -- An output that is put together of an adapter and an application.
-use Rattle.std.specs.Prelude.{◌≡◌, ℕ, List}
+use Rattle.std.specs.Prelude.{◌≡◌, ℕ, List, [], ◌∷◌}
 use Rattle.comp_grammar.specs.Trees.{Tree}
 use Rattle.comp_types.specs.Items.{Entries}
 use Rattle.comp_types.specs.Added.{type_of}
@@ -7,6 +7,8 @@ use Rattle.comp_types.specs.Validity.{IsValidComponent}
 use Rattle.policy_data.specs.declared.policy.Policy.{Policy}
 use Rattle.wasi_match.specs.declared.listed.ListedUse.{ListedUse}
 use Rattle.adapter_world.specs.Imports.{AreNeeded}
+use Rattle.output_same.specs.Holding.{components_in}
+use Rattle.comp_joined.specs.Form.{IsJoining}
 use Rattle.comp_pair.specs.Assembled.{IsFront, IsAssembled}
 use Rattle.comp_pair.specs.declared.assembled.Front.{Front}
 use Rattle.comp_pair.specs.declared.assembled.Assembled.{Assembled}
@@ -29,3 +31,5 @@ pub record IsRight (policy : Policy) (uses : List ListedUse) (exported : Entries
   pub valid : IsValidComponent output
   pub imports : AreNeeded policy uses (type_of output).imports
   pub exports : (type_of output).exports ≡ exported
+  -- it joins the two that it holds
+  pub joins : (first second : Tree) → components_in output ≡ first ∷ second ∷ [] → IsJoining first second output

@@ -7,6 +7,7 @@ use Rattle.comp_types.specs.Items.{Entries}
 use Rattle.comp_types.specs.Added.{type_of}
 use Rattle.comp_types.specs.Validity.{IsValidComponent}
 use Rattle.output_same.specs.Holding.{components_in}
+use Rattle.comp_joined.specs.Form.{IsJoining}
 use Rattle.policy_data.specs.declared.policy.Policy.{Policy}
 use Rattle.wasi_match.specs.declared.listed.ListedUse.{ListedUse}
 use Rattle.adapter_world.specs.Names.{needed_count}
@@ -31,6 +32,8 @@ pub record IsComposed (policy : Policy) (app : Tree) (uses : List ListedUse) (ex
   pub adapter : Tree
   pub right : IsAdapter policy uses adapter
   pub components : components_in output ≡ adapter ∷ app ∷ []
+  -- it makes an instance of each, and its own sections make nothing
+  pub joins : IsJoining adapter app output
   pub before : List ℕ
   pub front : c.front.items ≡ before ++ (4 ∷ u32_format.write size)
   pub count : c.needed ≡ needed_count policy uses

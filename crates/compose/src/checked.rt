@@ -9,6 +9,7 @@ ghost use Rattle.compose.specs.Assembled.{IsRight};
 
 use crate::fault::ComposeFault;
 use adapter_world::are_needed;
+use comp_joined::is_joining;
 use comp_pair::same_exports;
 use comp_read::{CompReadFault, read_component};
 use comp_signature::ComponentType;
@@ -59,7 +60,7 @@ pub fn adapter_in(
     Ok(component)
 }
 
-/// The output is valid, imports exactly what is needed, and exports what the application exports.
+/// The output is valid, imports exactly what is needed, exports what the application exports, and joins the two components in it.
 pub fn check(
     alloc: Global,
     policy: &Policy,
@@ -74,6 +75,9 @@ pub fn check(
         return Err(ComposeFault::Unsound);
     }
     if !same_exports(alloc, &ty.exports, exports)? {
+        return Err(ComposeFault::Unsound);
+    }
+    if !is_joining(output) {
         return Err(ComposeFault::Unsound);
     }
     Ok(())

@@ -181,7 +181,8 @@ fn made(
 /// What stands around a listed application of so many bytes: the adapter that gives it what it imports under the policy, joined with
 /// it. The application's bytes need not be in memory.
 ///
-/// What was made is checked: it is a valid component, which imports exactly what is needed and exports what the application exports.
+/// What was made is checked: it is a valid component, which imports exactly what is needed, exports what the application exports, and
+/// joins the adapter and the application.
 pub fn compose(
     alloc: Global,
     policy: &Policy,

@@ -45,6 +45,7 @@ pub is_plugged : (first second : Tree) (exported : Entries) (imported wanted : L
 is_plugged first second exported imported wanted first_bytes second_bytes a p both whole right asked bytes =
     let tree : plain a.whole ≡ plain p.component = sym (ap plain whole) in
     let is : IsRight (plain p.component) exported imported p.ty p.listed = subst (λ (t : Tree). IsRight t exported imported p.ty p.listed) tree right in
+    let components : components_in (plain p.component) ≡ first ∷ second ∷ [] = subst (λ (t : Tree). components_in t ≡ first ∷ second ∷ []) tree both.components in
     record {
       spelled = subst (SpellsBare 0 (plain p.component)) (sym bytes) (subst (λ (t : Tree). SpellsBare 0 t (bytes_around a second_bytes)) tree both.spelled);
       valid = is.valid;
@@ -52,7 +53,8 @@ is_plugged first second exported imported wanted first_bytes second_bytes a p bo
       listed = is.listed;
       imports = is.imports ∙ asked;
       exports = is.exports;
-      components = subst (λ (t : Tree). components_in t ≡ first ∷ second ∷ []) tree both.components;
+      components = components;
+      joins = is.joins first second components;
       held_first = subst (HasSection first_bytes) (sym bytes) both.held_first;
       held_second = subst (HasSection second_bytes) (sym bytes) both.held_second;
     }

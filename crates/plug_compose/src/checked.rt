@@ -9,6 +9,7 @@ ghost use Rattle.plug_compose.specs.Plugged.{IsRight};
 
 use crate::fault::PlugFault;
 use crate::merged::same_uses;
+use comp_joined::is_joining;
 use comp_pair::same_exports;
 use comp_signature::ComponentType;
 use comp_types::InstanceEntries;
@@ -39,7 +40,8 @@ fn listed_in(alloc: Global, ty: &ComponentType) -> Result<Listed, PlugFault>
     }
 }
 
-/// The whole is valid and listed, asks for exactly this of the host, and exports exactly this. Its type, and what it asks for.
+/// The whole is valid and listed, asks for exactly this of the host, exports exactly this, and joins the two components in it. Its type,
+/// and what it asks for.
 #[tactic(auto, using(crate::proofs::CheckLaws::is_right))]
 pub fn check(
     alloc: Global,
@@ -55,6 +57,9 @@ pub fn check(
         return Err(PlugFault::Unsound);
     }
     if !same_exports(alloc, &ty.exports, exports)? {
+        return Err(PlugFault::Unsound);
+    }
+    if !is_joining(whole) {
         return Err(PlugFault::Unsound);
     }
     Ok((ty, listed))

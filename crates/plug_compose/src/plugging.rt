@@ -74,8 +74,8 @@ fn bytes_of(front: Vec<u8>, second: &[u8], back: &[u8]) -> Result<Vec<u8>, PlugF
 /// One component of two: the first is instantiated over the host, the second over what the first exports and the host. Of each the
 /// component and its bytes are given, and what each asks for.
 ///
-/// What was made is checked: it is a valid component, which imports exactly what either asks of the host and exports what the second
-/// exports.
+/// What was made is checked: it is a valid component, which imports exactly what either asks of the host, exports what the second
+/// exports, and joins the two.
 #[tactic(auto, using(crate::proofs::PlugLaws::is_plugged))]
 pub fn plug(
     alloc: Global,

@@ -11,6 +11,8 @@ use Rattle.comp_types.specs.Validity.{IsValidComponent}
 use Rattle.virt_output.specs.Output.{exporting, output_tree}
 use Rattle.output_same.specs.Holding.{and_inner, components_in}
 use Rattle.output_same.proofs.Bare.{same_valid, same_type}
+use Rattle.comp_joined.proofs.Joined.{holds_two}
+use Rattle.comp_joined.proofs.Placed.{joins_placed}
 use Rattle.output_same.proofs.Outputs.{output_stands, same_types}
 use Rattle.comp_link.proofs.Spelled.{spelled_define}
 use Rattle.output_same.proofs.Same.{outputs_same}
@@ -97,22 +99,12 @@ wrapped_alone app out tree exports a nothing is written spelled =
 
 -- ---- an output of an application with imports
 
-only_two : (xs : List Tree) (y z : Tree) → map bare xs ≡ y ∷ z ∷ [] → (a : Tree) × (b : Tree) × (xs ≡ a ∷ b ∷ []) × (bare b ≡ z)
-only_two [] y z e = absurd (cc)
-only_two (a ∷ []) y z e = absurd (cc)
-only_two (a ∷ b ∷ []) y z e = (a, b, refl, cc)
-only_two (a ∷ b ∷ c ∷ xs) y z e = absurd (cc)
-
-two : (u output adapter tree : Tree) → bare u ≡ bare output → components_in output ≡ adapter ∷ tree ∷ [] → (a : Tree) × (b : Tree) × (components_in u ≡ a ∷ b ∷ []) × (bare b ≡ bare tree)
-two u output adapter tree same both =
-    only_two (components_in u) (bare adapter) (bare tree) (sym (bare_components u) ∙ ap components_in same ∙ bare_components output ∙ ap (λ (xs : List Tree). map bare xs) both)
-
 wrapped_beside : (policy : Policy) (app out : List ℕ) (tree : Tree) (uses : List ListedUse) (exports : Entries) (parts : Composed) → SpellsBare 0 tree app → exports ≡ (type_of tree).exports
     → out ≡ parts.front.items ++ (app ++ parts.back.items) → IsComposed policy tree uses exports (length app) parts → IsWrappedBeside policy uses tree app out
 wrapped_beside policy app out tree uses exports parts spelled_app is written c =
     let spelled : SpellsBare 0 c.output out = subst (λ (z : List ℕ). SpellsBare 0 c.output z) (sym written) (c.spelled app refl spelled_app) in
     let same : type_of c.output ≡ type_of spelled.0 = same_type c.output spelled.0 (sym spelled.2) in
-    let held = two spelled.0 c.output c.adapter tree spelled.2 c.components in
+    let held = joins_placed spelled.0 c.output c.adapter tree spelled.2 c.joins in
     record {
       output = spelled.0;
       spelled = spelled.1;
@@ -120,10 +112,11 @@ wrapped_beside policy app out tree uses exports parts spelled_app is written c =
       imports = subst (λ (s : Signature). AreNeeded policy uses s.imports) same c.imports;
       exports = ap (λ (s : Signature). s.exports) (sym same) ∙ c.exports ∙ is;
       unchanged = record {
-        adapter = held.0;
-        inner = held.1;
-        both = held.2;
-        same = held.3;
+        adapter = held.one;
+        inner = held.other;
+        both = holds_two held.one held.other spelled.0 held.joining;
+        joins = held.joining;
+        same = held.second_one;
         before = c.before;
         behind = parts.back.items;
         unchanged = written ∙ ap (λ (front : List ℕ). front ++ (app ++ parts.back.items)) c.front;

@@ -8,6 +8,7 @@ use Rattle.comp_write.specs.Copying.{bare, bare_part}
 use Rattle.comp_types.specs.Added.{type_of}
 use Rattle.comp_types.specs.Items.{Entries, Signature, End}
 use Rattle.comp_link.proofs.Spelled.{spelled_define}
+use Rattle.comp_joined.proofs.Placed.{joins_placed}
 use Rattle.output_same.specs.Holding.{components_in}
 use Rattle.output_same.specs.Strategies.{DoesTheSame}
 use Rattle.output_same.proofs.Bare.{same_valid, same_type}
@@ -45,6 +46,7 @@ module _ (pair : Pair) (a b : List ℕ) (f : Fetched) (m : IsMadeOf pair a b f) 
     imports = m.imports;
     exports = ap (λ (s : Signature). s.exports) (sym types) ∙ m.exports;
     components = sym (bare_components whole) ∙ ap components_in same ∙ bare_components made ∙ ap (λ (xs : List Tree). map bare xs) m.components;
+    joined = joins_placed whole made pair.first pair.second same m.joins;
     held_first = m.held_first;
     held_second = m.held_second;
   }
@@ -96,6 +98,7 @@ module _ (pair : Pair) (a b : List ℕ) (f : Fetched) (m : IsMadeOf pair a b f) 
             adapter = w.unchanged.adapter;
             inner = w.unchanged.inner;
             both = w.unchanged.both;
+            joins = w.unchanged.joins;
             same = w.unchanged.same ∙ sym same;
             before = w.unchanged.before;
             behind = w.unchanged.behind;

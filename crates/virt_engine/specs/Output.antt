@@ -12,6 +12,7 @@ use Rattle.comp_write.specs.Copying.{bare}
 use Rattle.comp_types.specs.Added.{type_of}
 use Rattle.comp_types.specs.Validity.{IsValidComponent}
 use Rattle.output_same.specs.Holding.{components_in, HoldsOnce}
+use Rattle.comp_joined.specs.Form.{IsJoining}
 use Rattle.output_same.specs.Strategies.{DoesTheSame}
 use Rattle.virt_output.specs.Bytes.{front_bytes, back_bytes}
 use Rattle.wasi_match.specs.declared.listed.ListedUse.{ListedUse}
@@ -21,11 +22,12 @@ use Rattle.component_judge.specs.Applications.{IsApplication}
 use Rattle.component_judge.specs.declared.limits.Purpose.TheVariants.{Virt}
 
 -- Two sections of the outermost level hold components, and the second is the application's: its content is the application's bytes,
--- unchanged.
+-- unchanged. The output makes an instance of each, and its own sections make nothing.
 pub record HoldsBeside (app : List ℕ) (tree : Tree) (bytes : List ℕ) (output : Tree) : Type 0 where
   pub adapter : Tree
   pub inner : Tree
   pub both : components_in output ≡ adapter ∷ inner ∷ []
+  pub joins : IsJoining adapter inner output
   pub same : bare inner ≡ bare tree
   pub before : List ℕ
   pub behind : List ℕ

@@ -10,6 +10,7 @@ use Rattle.comp_grammar.specs.Components.{SpellsComponent}
 use Rattle.comp_write.specs.Copying.{bare}
 use Rattle.comp_types.specs.Added.{type_of}
 use Rattle.comp_types.specs.Validity.{IsValidComponent}
+use Rattle.comp_joined.specs.Form.{Joins as AreJoined}
 use Rattle.comp_pair.specs.Assembled.{HasSection}
 use Rattle.output_same.specs.Holding.{components_in}
 use Rattle.output_same.specs.Strategies.{DoesTheSame}
@@ -134,7 +135,8 @@ pub record ArePair (held : Held) (first second : List ℕ) : Type 0 where
 -- ---- what is made of them
 
 -- The bytes spell a valid component that is listed. It imports what either asks of the host, with each function once, and exports what
--- the second exports. Two components stand at its outermost level, the first and the second, with their bytes unchanged.
+-- the second exports. Two components stand at its outermost level, the first and the second, with their bytes unchanged. It makes an
+-- instance of each, and its own sections make nothing.
 pub record IsPluggedOf (pair : Pair) (a b bytes : List ℕ) (whole : Tree) (uses : List ListedUse) : Type 0 where
   pub spelled : SpellsComponent whole bytes
   pub valid : IsValidComponent whole
@@ -142,6 +144,7 @@ pub record IsPluggedOf (pair : Pair) (a b bytes : List ℕ) (whole : Tree) (uses
   pub imports : uses ≡ merged_uses pair.asked.uses (host_uses pair.sources)
   pub exports : (type_of whole).exports ≡ (type_of pair.second).exports
   pub components : map bare (components_in whole) ≡ bare pair.first ∷ bare pair.second ∷ []
+  pub joined : AreJoined pair.first pair.second whole
   pub held_first : HasSection a bytes
   pub held_second : HasSection b bytes
 
