@@ -1,0 +1,16 @@
+ghost use Rattle.joined_laws.specs.Behaves.{JoiningDoesSame};
+ghost use Rattle.joined_laws.specs.PluggedIn.{PluggedInDoesSame};
+
+use host_port::Host;
+
+/// A component that joins two valid ones is observed to do what the second does over the first and the host, where each of the two is
+/// given what it asks for: over any host, for every list of calls, whatever the limit on calls in progress.
+pub fn joining_components_do_what_their_parts_do<H: Host>()
+    ensures { JoiningDoesSame H.step }
+{}
+
+/// Where it imports what the first imports, and the first exports all that the second imports, it is observed to do what the second does
+/// over the first alone, which has its own numbers of resources.
+pub fn plugged_in_components_do_what_their_parts_do<H: Host>()
+    ensures { PluggedInDoesSame H.step }
+{}
