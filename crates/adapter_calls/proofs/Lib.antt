@@ -1,0 +1,5 @@
+pub mod Turns
+pub mod Instance
+pub mod Handling
+pub mod Leaving
+pub mod Routines

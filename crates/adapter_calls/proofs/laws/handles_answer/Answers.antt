@@ -1,0 +1,8 @@
+use Rattle.comp_worlds.specs.Hosts.{hosted}
+use Rattle.comp_worlds.proofs.Fair.{host_fair}
+use Rattle.comp_frames.proofs.Going.{goes_by_its_rest}
+use Rattle.adapter_calls.proofs.Handling.{handles_answer as answer_all}
+use Rattle.adapter_calls.proofs.laws.handles_answer.Goals as goal
+
+pub returns : goal.returns
+returns g c = answer_all g.H.Host.step (λ G. goes_by_its_rest G (hosted g.H.Host.step) (host_fair g.H.Host.step))
