@@ -28,4 +28,4 @@ RoutinesReturn {S} h =
     (w : World S) (c : Config ℕ) (s : S) → IsAt home to state made c → (n : ℕ) →
     running G (hosted h) Endless instance f (map core_value (take params state.locals)) (standing w instance c s) (does.steps + (length does.effects + n))
     ≡ Next (lost h G to does.effects s).seen n
-      (standing w instance (with_both c (store_with home run.state.memory does.made') (map_to to run.state.table)) (lost h G to does.effects s).next) []
+    (standing w instance (with_both c (store_with home run.state.memory does.made') (map_to to run.state.table)) (lost h G to does.effects s).next) []
