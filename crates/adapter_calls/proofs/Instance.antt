@@ -87,6 +87,12 @@ module _ {S : Type 0} (G : Group) (p : Ports S) (unfolds : Unfolds G p) (by : Go
 -- ---- at the end of core code
 
 module _ {S : Type 0} (G : Group) (p : Ports S) (by : GoesByItsRest G p) (w : World S) (k : ℕ) where
+  pub goes_to_trap : (X : Rest) → IsRest X → (d : Config ℕ) (s : S) (n : ℕ) → X [] n ≡ CoreTrapped → going G p Endless k X (standing w k d s) n ≡ Over [] Trapped
+  unfolding ◌>>◌ comes_to
+  goes_to_trap X rest d s n trapped =
+      ap (λ (act : Act (World S) (List CoreValue)). act (standing w k d s) n) (by.unfolds Endless k X rest)
+      ∙ ap (λ o. then_do (core_end (standing w k d s) k n o) (goes_on G p (running G p) (λ reply. going G p Endless k (λ replies. X (reply ∷ replies))) Endless k)) trapped
+
   pub goes_to_end : (X : Rest) → IsRest X → (d : Config ℕ) (t : State) (s : S) (results : List CoreValue) (n m : ℕ) → X [] n ≡ Done results t m → going G p Endless k X (standing w k d s) n ≡ Next [] m (standing w k (with_store d t) s) results
   unfolding ◌>>◌ comes_to gives
   goes_to_end X rest d t s results n m done =

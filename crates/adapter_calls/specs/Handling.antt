@@ -1,8 +1,10 @@
 -- What core code of an adapter's instance asks for handles, as canonical functions of its group answer it (Component Model,
 -- CanonicalABI.md, `canon resource.new` and `canon resource.drop`).
-use Rattle.std.specs.Prelude.{◌≡◌, ℕ, ◌+◌, ◌<◌, List, [], ◌∷◌, ◌++◌, length, map, Some, None, true, false}
+use Rattle.std.specs.Prelude.{◌≡◌, ℕ, ◌+◌, ◌<◌, List, [], ◌∷◌, ◌++◌, length, map, Option, Some, None, true, false}
 use Rattle.std.specs.Option.{option_map}
 use Rattle.core_store.specs.State.{State}
+use Rattle.core_store.specs.Config.{Reply}
+use Rattle.core_store.specs.Laws.{Further}
 use Rattle.handle_space.specs.HandleMap.{Entry, HandleMap}
 use Rattle.adapter_code.specs.declared.state.Effect.{Effect}
 use Rattle.adapter_code.specs.declared.state.Effect.TheVariants.{Made, Dropped}
@@ -30,6 +32,8 @@ pub record KnowsKinds (G : Group) (instance : ℕ) (numbers : Numbers) (to : ℕ
   pub own : (kind : ℕ) → IsKind kind → owns G instance (to (own_resource kind)) ≡ true
   pub imported : (kind : ℕ) → IsKind kind → G.owner (to kind) ≡ None
   pub once : (r s : ℕ) → to r ≡ to s → r ≡ s
+  -- numbers of no kind are those of no canonical function
+  pub beyond : (kind : ℕ) → (IsKind kind → ⊥) → (G.canons instance (numbers.makes kind) ≡ None) × (G.canons instance (numbers.drops kind) ≡ None)
 
 -- handles of the same, by the group's numbers
 abbrev pub entry_to : (ℕ → ℕ) → Entry ℕ → Entry ℕ
@@ -43,6 +47,12 @@ abbrev pub OfKinds : List Effect → Type 0
 OfKinds [] = Unit {0}
 OfKinds (Made kind rep index ∷ es) = IsKind kind × OfKinds es
 OfKinds (Dropped kind rep index ∷ es) = IsKind kind × OfKinds es
+
+-- no handle is borrowed
+abbrev pub AreOwned : List (Option (Entry ℕ)) → Type 0
+AreOwned [] = Unit {0}
+AreOwned (None ∷ es) = AreOwned es
+AreOwned (Some e ∷ es) = (e.owned ≡ true) × AreOwned es
 
 -- ---- what a host is told
 
@@ -69,5 +79,5 @@ pub record GoesOnAfter {S : Type 0} (h : HostStep S) (G : Group) (instance : ℕ
 abbrev pub HandlesAnswer : {S : Type 0} → HostStep S → Type 0
 HandlesAnswer {S} h =
     (G : Group) (instance : ℕ) (numbers : Numbers) (to : ℕ → ℕ) → KnowsKinds G instance numbers to → (w : World S) (c : Config ℕ) → c.closed ≡ false →
-    (start : ℕ) (X last : Rest) (table table' : HandleMap ℕ) (es : List Effect) (store : State) (s : S) → IsRest X → OfKinds es →
+    (start : ℕ) (X last : Rest) (table table' : HandleMap ℕ) (es : List Effect) (store : State) (s : S) → IsRest X → ((replies : List Reply) (n d : ℕ) → Further d (X replies n) (X replies (d + n))) → AreOwned table.entries → OfKinds es →
     AsksInTurn numbers start X table es (λ Y g. (Y ≡ last) × (g ≡ table')) → GoesOnAfter h G instance to start X last table table' es w c store s

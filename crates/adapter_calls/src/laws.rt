@@ -1,8 +1,11 @@
 //! The laws, each a function without code whose contract states it.
 
+ghost use Rattle.adapter_calls.specs.Dropping.{DropsByDestructor};
 ghost use Rattle.adapter_calls.specs.Handling.{HandlesAnswer};
 ghost use Rattle.adapter_calls.specs.Leaving.{PostReturns};
-ghost use Rattle.adapter_calls.specs.Routines.{RoutinesReturn};
+ghost use Rattle.adapter_calls.specs.Lifting.{LiftsAsTaken};
+ghost use Rattle.adapter_calls.specs.Routines.{RoutinesReturn, RoutinesTrap};
+ghost use Rattle.adapter_calls.specs.Storing.{LowersByArea, StoresByArea};
 ghost use Rattle.adapter_calls.specs.Turns.{CalledAsksInTurn, StubAsksInTurn};
 
 use host_port::Host;
@@ -33,4 +36,31 @@ pub fn post_returns_empty_the_area<H: Host>()
 /// The host was told, in order, of the handles that it dropped. It takes its own steps and one for each handle made or dropped.
 pub fn routines_return<H: Host>()
     ensures { RoutinesReturn H.step }
+{}
+
+/// A value is stored in the adapter's instance exactly as its steps say, where each request is answered with the end of the transfer area's
+/// used part; a request that passes the area's end, or a length that is refused, traps. A request takes twenty steps, and a write none.
+pub fn storing_goes_by_the_area<H: Host>()
+    ensures { StoresByArea H.step }
+{}
+
+/// Lowering into the adapter's instance is storing by its area, while the instance is closed; the flat values go where that left answers.
+pub fn lowering_goes_by_the_area<H: Host>()
+    ensures { LowersByArea H.step }
+{}
+
+/// What a function of the adapter answers is lifted as a row's run lifts it: its handles, which are own, leave the handle map.
+pub fn answers_are_lifted_as_taken()
+    ensures { LiftsAsTaken }
+{}
+
+/// A handle of an adapter's own resource is dropped by its destructor: it leaves the memory and the handles of its routine, and the host was
+/// told of the handle that it dropped.
+pub fn destructors_drop<H: Host>()
+    ensures { DropsByDestructor H.step }
+{}
+
+/// One that traps, or that is refused a handle, traps; the host was told of the handles that it had dropped.
+pub fn routines_trap<H: Host>()
+    ensures { RoutinesTrap H.step }
 {}
