@@ -1,8 +1,8 @@
 #!/usr/bin/env python3
-"""Writes docs/TRUSTED.md: the definitions that a reader must believe for what is proved of `wasi_virt`.
+"""Writes docs/TRUSTED.md: the definitions that a reader must believe for what is proved of `wasi_virt` and of `wasi_inspect`.
 
-It reads the clauses of `wasi_virt` (crates/virt_engine/src/engine.rt) and the contracts of the traits `Files` and `Sink`, and follows
-each name that they mention to its definition in the crates' specs/, and each name in that, to the end. Types that are declared in code
+It reads the clauses of both (crates/virt_engine/src/engine.rt, crates/inspect_engine/src/engine.rt) and the contracts of the traits
+`Files` and `Sink`, and follows each name that they mention to its definition in the crates' specs/, and each name in that, to the end. Types that are declared in code
 are followed through their fields. Where a name of a definition is also one of a variable, the definition counts, so the list may be
 too long by a few and never too short. Standards and sections are those that the head of a file of definitions names.
 
@@ -19,7 +19,7 @@ import sys
 from check_docs import TOP, files_below, read
 
 RESULT = f"{TOP}/docs/TRUSTED.md"
-CLAUSES = ("virt_engine", "engine", "wasi_virt")
+CALLS = [("virt_engine", "engine", "wasi_virt"), ("inspect_engine", "engine", "wasi_inspect")]
 TRAITS = [("outside", "Files"), ("outside", "Sink")]
 
 USE = re.compile(r"(?:pub |ghost )*use Rattle\.([a-z_0-9]+)\.specs\.([^ {;]+?)(?:\.\{(.*?)\}| as (\S+?))?;?$")
@@ -268,28 +268,28 @@ def followed(library, key):
 
 
 def closure(library):
-    """All that the clauses reach, each with what it was first reached from."""
-    crate, name, function = CLAUSES
-    text = read(f"{TOP}/crates/{crate}/src/{name}.rt")
-    module = own_text(crate, text)
-    clauses = clauses_of(text, function)
-    reached, due = {}, collections.deque()
+    """The clauses of each call, with the text that they stand in; and all that they reach, each with what it was first reached from."""
+    calls, reached, due = [], {}, collections.deque()
 
     def reach(key, source):
         if key and key not in reached:
             reached[key] = source
             due.append(key)
 
-    for _, clause, body in clauses:
-        for key in library.met(module, set(TOKEN.findall(body))):
-            reach(key, ("clause", crate, clause))
+    for crate, name, function in CALLS:
+        text = read(f"{TOP}/crates/{crate}/src/{name}.rt")
+        module, clauses = own_text(crate, text), clauses_of(text, function)
+        calls.append((function, module, clauses))
+        for _, clause, body in clauses:
+            for key in library.met(module, set(TOKEN.findall(body))):
+                reach(key, ("clause", crate, clause))
     for home, trait in TRAITS:
-        reach(("type", home, trait), ("clause", crate, "the outside"))
+        reach(("type", home, trait), ("clause", home, "the outside"))
     while due:
         key = due.popleft()
         for other in followed(library, key):
             reach(other, key)
-    return clauses, reached
+    return calls, reached
 
 
 def citations(head):
@@ -342,19 +342,18 @@ def heading(by_file, types, lines, crates):
     declared = f"{counted(sum(map(len, types.values())), 'type')} that are declared in code, in {counted(len(crates), 'crate')}"
     return f"""# What a reader must believe
 
-What is proved of the program is said by the clauses of `wasi_virt` (`crates/virt_engine/src/engine.rt`). A clause is made of definitions, and these of others. This list has all of them: {total}, and {declared}. If you have read them and agree with them, you need to read no other code and no proof. `README.md` says what else is trusted: the toolchain and its logic, the C library, the machine's files.
+What is proved of the two programs is said by the clauses of `wasi_virt` (`crates/virt_engine/src/engine.rt`) and of `wasi_inspect` (`crates/inspect_engine/src/engine.rt`). A clause is made of definitions, and these of others. This list has all of them: {total}, and {declared}. If you have read them and agree with them, you need to read no other code and no proof. `README.md` says what else is trusted: the toolchain and its logic, the C library, the machine's files.
 
 This file is generated: `tools/trusted.py` writes it, and `tools/trusted.py --check` says whether it is stale. `tools/trusted.py --why CRATE NAME` says by which definitions one is reached.
 """
 
 
-def clause_table(library, clauses):
-    crate, name, _ = CLAUSES
-    module = own_text(crate, read(f"{TOP}/crates/{crate}/src/{name}.rt"))
-    yield "## The clauses\n\n| Clause | Begins with |\n|---|---|"
-    for _, clause, body in clauses:
-        first = sorted({key[3] for key in library.met(module, set(TOKEN.findall(body))) if key and key[0] == "definition"})
-        yield f"| `{clause}` | {', '.join(f'`{it}`' for it in first)} |"
+def clause_table(library, calls):
+    yield "## The clauses\n\n| Call | Clause | Begins with |\n|---|---|---|"
+    for function, module, clauses in calls:
+        for _, clause, body in clauses:
+            first = sorted({key[3] for key in library.met(module, set(TOKEN.findall(body))) if key and key[0] == "definition"})
+            yield f"| `{function}` | `{clause}` | {', '.join(f'`{it}`' for it in first)} |"
     yield "\nThey are said over any `Files` and `Sink`, so the contracts of these traits (`outside`) belong to them.\n"
 
 
@@ -389,11 +388,11 @@ def crate_lines(library, crate, by_file, types, constants):
 
 
 def document(library):
-    clauses, reached = closure(library)
+    calls, reached = closure(library)
     by_file, types, constants, kit = rows_of(library, reached)
     lines = sum(lines_of(library, home, names) for home, names in by_file.items())
     crates = [it for it in library.crates if it in types or any(home[0] == it for home in by_file)]
-    out = [heading(by_file, types, lines, crates), *clause_table(library, clauses), *standard_table(library, by_file, kit)]
+    out = [heading(by_file, types, lines, crates), *clause_table(library, calls), *standard_table(library, by_file, kit)]
     out.append("## Crate by crate\n\nIn the order of `crates.txt`. A line is a file of `specs/`: what its head says, the standard and the section, and the definitions. A type with a star has a model, by which contracts see it: `impl Model for` it in the crate's `src/`.\n")
     for crate in crates:
         out += crate_lines(library, crate, by_file, types, constants)

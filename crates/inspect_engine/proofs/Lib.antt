@@ -1,0 +1,4 @@
+pub mod Joining
+pub mod PolicyReading
+pub mod Inspecting
+pub mod Accepting
