@@ -115,7 +115,7 @@ def build(crates):
         said = prove(crates, room)
         if said is not None:
             print(said, file=sys.stderr)
-            say("not built: a crate is not proved, as is said above")
+            say("not built: the check failed, as is said above")
             sys.exit(NOT_BUILT)
         os.makedirs(in_program(), exist_ok=True)
         made = os.path.join(room, "crates", PROGRAM, "out", PROGRAM)
