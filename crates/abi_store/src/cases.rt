@@ -1,5 +1,4 @@
-//! The cases of variants, enums, options and results: the width of their numbers, and where and of which type a payload is.
-
+// The cases of variants, enums, options and results.
 #![tactic(auto, using(crate::proofs::Views::kinds))]
 
 ghost use Rattle.std.specs.Prelude.{◌≡◌, ◌≤◌, IfOk};

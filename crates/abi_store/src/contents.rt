@@ -1,5 +1,4 @@
-//! What memory was asked for is stored at the answer: a string, the items of a list, or a whole value.
-
+// What is stored at the answer to a request.
 #![tactic(auto, using(crate::proofs::Views::views))]
 
 ghost use Rattle.std.specs.Prelude.{◌≡◌, ◌<◌, ◌≤◌, ◌*◌, ◌^◌, Some, true, false, length, IfOk, IfSome, IfNone};

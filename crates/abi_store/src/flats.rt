@@ -1,5 +1,4 @@
-//! The flat values of a value; strings and lists ask for memory later (Component Model, CanonicalABI.md, "Flat Lowering").
-
+// The flat values of values.
 #![tactic(auto, using(crate::proofs::Views::views))]
 
 ghost use Rattle.std.specs.Prelude.{◌≡◌, ◌≤◌, ◌<◌, ◌+◌, ◌-◌, ◌^◌, length, reverse, IfOk};

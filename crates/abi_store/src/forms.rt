@@ -1,5 +1,4 @@
-//! Values are taken apart by the form that their type has: the text, list, record or variant that a value is.
-
+// Values by their forms.
 #![tactic(auto, using(crate::proofs::Views::views))]
 
 ghost use Rattle.std.specs.Prelude.{◌≡◌, IfOk, IfSome, IfNone, pos, reverse};

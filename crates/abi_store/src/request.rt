@@ -1,4 +1,4 @@
-//! Requests for memory, and how far storing came when it stops.
+// Requests for room.
 
 ghost use Rattle.std.specs.Prelude.{◌≡◌, ◌≤◌, ◌^◌, Some};
 ghost use Rattle.abi_store.specs.Rooms.{room_of, cell_place};

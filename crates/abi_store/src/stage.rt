@@ -1,5 +1,4 @@
-//! How far a plan of storing has come: only flat values are left, a place is to be tested, a request waits for its answer, or it broke
-//! off.
+// How far a plan has come.
 
 ghost use Rattle.std.specs.Prelude.{◌≤◌};
 

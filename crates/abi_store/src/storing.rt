@@ -1,5 +1,4 @@
-//! What is in progress in memory goes on, turn by turn, up to the next request for memory.
-
+// Values into memory, up to the next request.
 #![tactic(auto, using(crate::proofs::Views::views))]
 
 ghost use Rattle.std.specs.Prelude.{◌≡◌, ◌≤◌, ◌<◌, ◌+◌, ◌*◌, ◌^◌, ◌++◌, ◌∷◌, [], length, reverse, IfOk, OnOk};

@@ -1,5 +1,3 @@
-//! Where a value is stored, and what a plan of storing answers at each step.
-
 use core_store::CoreValue;
 use virt_base::Items;
 

@@ -1,5 +1,4 @@
-//! Flat values as values of core types, as core functions take them.
-
+// Flat values as values of core types.
 #![tactic(auto)]
 
 ghost use Rattle.std.specs.Prelude.{◌≡◌, IfOk};

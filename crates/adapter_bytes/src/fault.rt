@@ -1,5 +1,3 @@
-//! Why the adapter's modules were not written.
-
 use virt_base::NoMemory;
 
 /// Why the adapter's modules were not written.

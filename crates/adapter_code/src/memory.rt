@@ -1,4 +1,4 @@
-//! Numbers in a memory, in 1, 2, 4 or 8 bytes, the lowest first.
+// Numbers in a memory.
 
 ghost use Rattle.std.specs.Prelude.{◌≡◌, ◌+◌, ◌<◌, ◌≤◌, ◌^◌, Some, None, IfSome, IsTrue, IsFalse, length, take, drop};
 ghost use Rattle.core_memory.specs.Number.{number, IsWidth};

@@ -1,4 +1,4 @@
-//! Bounds on how deep statements stand in one another, so that labels and locals have numbers of 32 bits.
+// How deep a routine's statements stand in one another.
 
 ghost use Rattle.std.specs.Prelude.{◌≡◌, ◌+◌, max, ◌<◌, ◌≤◌, ◌^◌, ◌↔◌, true, length};
 ghost use Rattle.adapter_code.specs.Code.{Stop, before, code_of};

@@ -1,5 +1,3 @@
-//! Static data in the making, and the texts and lists in it, by their places in the adapter's memory.
-
 use crate::places::image_place;
 use std::alloc::Global;
 use virt_base::{Bytes, Items, NoMemory};
@@ -31,7 +29,7 @@ fn capped(len: usize) -> u32 {
 }
 
 impl StaticData {
-    /// None, for slot tables of that many places.
+    /// None, for slot tables of so many places.
     pub fn new(alloc: Global, slots: u32) -> StaticData {
         StaticData {
             base: image_place(slots),

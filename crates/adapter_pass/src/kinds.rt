@@ -1,5 +1,3 @@
-//! The kinds of resources of the listed interfaces of WASI 0.2, by their numbers.
-
 /// The kinds of resources of the listed interfaces, by their numbers.
 #[derive(Clone, Copy, PartialEq, Eq, Debug)]
 pub enum Kind {

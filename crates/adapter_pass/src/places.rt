@@ -1,5 +1,3 @@
-//! How the adapter's memory is cut: the records of answers, the slot tables, the static data, the spare bytes and the transfer area.
-
 use crate::kinds::Kind;
 use adapter_code::Layout;
 

@@ -1,5 +1,4 @@
-//! The destructors of the adapter's resources (Component Model, CanonicalABI.md, `canon resource.drop`): the place of a handle is freed,
-//! and the host's handle in it is dropped.
+// The destructors of the adapter's resources.
 
 ghost use Rattle.std.specs.Prelude.{◌≡◌, ◌<◌, IfOk, IfSome};
 ghost use Rattle.adapter_code.specs.Code.{code_of};

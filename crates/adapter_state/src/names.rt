@@ -1,4 +1,4 @@
-//! The names of imports and exports that have the number of a kind in them.
+// The names of imports and exports.
 
 ghost use Rattle.std.specs.Prelude.{◌≡◌, ◌++◌, IfOk, codes};
 ghost use Rattle.std.specs.Fmt.{decimal};

@@ -1,5 +1,4 @@
-//! The bodies of the stubs' functions: the routine before, and where it leaves a flag that is not 0, the call of the host's function and
-//! the routine after.
+// The functions of stubs.
 
 ghost use Rattle.std.specs.Prelude.{◌≡◌, suc, ◌+◌, ◌<◌, ◌≤◌, ◌^◌, max, ◌++◌, ◌∷◌, [], IfOk, OnOk, length};
 ghost use Rattle.adapter_code.specs.Code.{code_of};

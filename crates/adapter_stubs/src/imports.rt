@@ -1,5 +1,4 @@
-//! What the stubs module imports: the memory and realloc of the state module, what makes handles of each kind, and the functions of the
-//! host that stubs ask.
+// What the module imports.
 
 ghost use Rattle.std.specs.Prelude.{◌≡◌, ◌+◌, ◌<◌, ◌≤◌, ◌^◌, ◌++◌, ◌∷◌, [], length, IfOk, OnOk};
 ghost use Rattle.adapter_code.specs.Layout.{Fits};

@@ -1,4 +1,4 @@
-//! Core modules from their parts: the functions that a module defines are exported in order, each by its name.
+// Modules from their parts.
 
 ghost use Rattle.std.specs.Prelude.{◌≡◌, ◌+◌, ◌<◌, ◌^◌, length, IfOk};
 ghost use Rattle.adapter_transfer.specs.Module.{module_of};

@@ -1,5 +1,3 @@
-//! Calls in progress: core code that runs, why it runs, and so what follows once it ends.
-
 ghost use Rattle.std.specs.Prelude.{◌≡◌, true};
 ghost use Rattle.abi_store.specs.Plan.{is_due};
 

@@ -1,5 +1,3 @@
-//! Copies of labels, since the types of flags and enumerations own theirs.
-
 ghost use Rattle.std.specs.Prelude.{◌≡◌, IfOk};
 
 use std::alloc::Global;

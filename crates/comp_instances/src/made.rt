@@ -1,9 +1,7 @@
-//! An instance that an instantiation made, before it is added.
-
 use comp_types::InstanceType;
 use std::rc::Rc;
 
-/// An instance that was made, and the next number after its resources.
+/// An instance that was made, and the next number behind its resources.
 #[derive(Drop)]
 pub struct Made {
     pub instance: Rc<InstanceType>,

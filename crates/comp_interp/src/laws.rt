@@ -1,5 +1,3 @@
-//! The law that the linked form of a valid component can be made.
-
 ghost use Rattle.comp_interp.specs.Sound.{LinkedCanBeMade};
 
 /// What linking answers for a valid component that bytes spell can be made.

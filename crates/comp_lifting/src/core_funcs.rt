@@ -1,5 +1,3 @@
-//! The core functions of a scope, as the options of canonical functions look them up.
-
 ghost use Rattle.std.specs.Prelude.{ℕ};
 
 use crate::CoreFuncs;

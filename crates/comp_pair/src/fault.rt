@@ -1,5 +1,3 @@
-//! Why two components were not put together.
-
 use virt_base::NoMemory;
 use virt_output::PieceFault;
 

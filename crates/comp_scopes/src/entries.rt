@@ -1,5 +1,3 @@
-//! What index spaces keep of a type and of a component.
-
 use comp_types::{InstanceEntries, TypeItem};
 use virt_base::Items;
 

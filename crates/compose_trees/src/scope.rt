@@ -1,6 +1,3 @@
-//! A scope in which types and functions are declared: the type of an imported instance, the adapter, or one side of a shim. The form of the
-//! scope says what a declaration adds to it.
-
 use crate::catalogue::Catalogue;
 use crate::sections::Sections;
 use crate::standing::Standing;
@@ -16,7 +13,7 @@ use wasm_ast::{
 pub enum Form {
     /// The type of an instance that is imported.
     Instance,
-    /// The adapter, whose functions are lifted after all else.
+    /// The adapter, whose functions are lifted behind all.
     Adapter,
     /// What a shim imports.
     In,

@@ -1,5 +1,3 @@
-//! Where the types of the catalogue stand in a scope, by their indexes there.
-
 use crate::catalogue::Catalogue;
 use std::alloc::Global;
 use virt_base::NoMemory;

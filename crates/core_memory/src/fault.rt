@@ -1,5 +1,3 @@
-//! Why a call that reads or writes many bytes fails: a trap, or out of memory.
-
 use std::alloc::{AllocError, AllocFailed};
 use virt_base::{NoMemory, Trap};
 

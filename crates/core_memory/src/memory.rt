@@ -1,5 +1,3 @@
-//! A linear memory: what its instructions do (core WebAssembly, "Execution", "Memory Instructions").
-
 ghost use Rattle.std.specs.Prelude.{◌≡◌, ◌+◌, ◌*◌, ◌≤◌, ◌<◌, ◌^◌, length, IfOk, IsTrue, Ok, ◌↔◌};
 ghost use Rattle.std.specs.Bool.{OnTrue, OnFalse};
 ghost use Rattle.core_memory.specs.Number.{IsWidth, bytes_of};
@@ -86,7 +84,7 @@ impl Memory {
         Ok(read_slowly(&self.pages, at as usize, width))
     }
 
-    /// `len` bytes from a place on. `Trap` comes exactly where they pass the end.
+    /// So many bytes from a place on. `Trap` comes exactly where they pass the end.
     #[tactic(auto, using(crate::proofs::Memories::linear_bytes, crate::proofs::Memories::linear_range, crate::proofs::Memories::linear_few))]
     pub fn read(&self, alloc: Global, at: u64, len: u64) -> Result<Bytes, StoreFault>
         ensures { Reads self.now at len result }

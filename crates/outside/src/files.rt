@@ -1,5 +1,3 @@
-//! The outside as files and folders by name: the trait, and why its calls fail.
-
 ghost use Rattle.outside.specs.Files.{FilesState, Reads, Lists, Creates, Appends};
 
 use std::alloc::Global;
@@ -12,7 +10,7 @@ pub enum FileFail {
     Missing,
     /// It is there, and the call failed.
     Failed,
-    /// The file has that many bytes, which is more than the limit.
+    /// The file has so many bytes, which is more than the limit.
     TooLong(u64),
     NoMemory,
 }
@@ -42,7 +40,7 @@ pub type Entries = Items<Entry>;
 pub trait Files {
     ghost state: { Self → FilesState };
 
-    /// The bytes of a file of at most `limit`.
+    /// The bytes of a file of at most so many.
     fn read(&mut self, alloc: Global, name: &Text, limit: u64) -> Result<Vec<u8>, FileFail>
         ensures { Reads name.now limit (state self.old) (state self.new) result };
 

@@ -1,5 +1,3 @@
-//! What the fields of a policy are made of: variables, clocks, folders, trees, the scratch folder, and rules on addresses.
-
 use virt_base::{Bytes, Items, Text};
 
 /// Texts in order.
@@ -46,7 +44,7 @@ pub enum WallClock {
     Fixed(WallTime),
 }
 
-/// The monotonic clock that the application sees: that of the host, none, or one that stands still at that many nanoseconds.
+/// The monotonic clock that the application sees: that of the host, none, or one that stands still at so many nanoseconds.
 #[derive(Debug, Clone, Copy, PartialEq, Eq)]
 pub enum MonotonicClock {
     Allow,

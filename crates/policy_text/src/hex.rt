@@ -1,5 +1,3 @@
-//! Bytes spelled by pairs of hexadecimal digits, in lower or upper case.
-
 ghost use Rattle.std.specs.Prelude.{◌≡◌, ◌<◌, IfOk, IfSome};
 ghost use Rattle.policy_text.specs.Hex.{hex_bytes, hex_digit};
 

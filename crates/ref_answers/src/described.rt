@@ -1,5 +1,4 @@
-//! All listed interfaces in one list, described once.
-
+// All listed interfaces.
 ghost use Rattle.std.specs.Prelude.{◌≡◌, ◌<◌, IfOk};
 ghost use Rattle.wasi_table.specs.Plain.{plain_interface};
 ghost use Rattle.reference_step.specs.Listed.{interface_at};

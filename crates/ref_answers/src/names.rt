@@ -1,5 +1,4 @@
-//! The names of interfaces: before `@` the interface's, and after it the version.
-
+// The names of interfaces: before `@` the interface's, and behind it the version.
 #![tactic(auto)]
 
 ghost use Rattle.std.specs.Prelude.{◌≡◌, ◌<◌, IfSome, length, position};
@@ -8,7 +7,7 @@ ghost use Rattle.reference_step.specs.Listed.{cut};
 
 use wasi_table::Interface;
 
-/// What stands before the first `@` of a name, and after it.
+/// What stands before the first `@` of a name, and behind it.
 pub fn cut(name: &str) -> (&str, &str)
     ensures { (result.0.now, result.1.now) ≡ cut name.now }
 {

@@ -1,5 +1,4 @@
-//! Whether there is an argument for each parameter, of its type.
-
+// Whether arguments are of the types of parameters.
 #![tactic(auto, using(wit_types::proofs::ValueLemmas::values))]
 
 ghost use Rattle.std.specs.Prelude.{◌≡◌, pos};

@@ -1,5 +1,4 @@
-//! The folders that `get-directories` gives beside the host's: the roots of the trees, and the scratch folder.
-
+// The roots of the trees, and the scratch folder.
 #![tactic(auto, using(crate::proofs::OfferLemmas::offer_rules))]
 
 ghost use Rattle.std.specs.Prelude.{◌≡◌, ℕ, ◌<◌, ◌++◌, OnOk, length};
@@ -45,7 +44,7 @@ fn note_scratch<'a, H: Host>(
     }
 }
 
-/// The folders after the host's.
+/// The folders behind the host's.
 pub fn note_own<'a, H: Host>(
     folders: Folders<'a>,
     offers: &mut Vec<Offer<'a>>,

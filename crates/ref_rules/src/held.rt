@@ -1,5 +1,4 @@
-//! How many live handles hold each scratch file open.
-
+// How many live handles hold each scratch file open.
 ghost use Rattle.std.specs.Prelude.{◌≡◌, ◌+◌, ◌-◌, ◌<◌, ◌≤◌, ◌^◌, ℕ, Some, true, IfOk, length, replicate, get_or, slice_set};
 ghost use Rattle.ref_rules.specs.Contents.{open_file};
 ghost use Rattle.ref_rules.specs.Lives.{is_inside};
@@ -9,7 +8,7 @@ use crate::content::Content;
 use std::alloc::Global;
 use virt_base::NoMemory;
 
-/// That many zeros.
+/// So many zeros.
 pub fn zeros(alloc: Global, count: usize) -> Result<Vec<u32>, NoMemory>
     ensures { IfOk result (λ v. v.items ≡ replicate count 0) }
 {

@@ -1,5 +1,4 @@
-//! The name that a text may give to a new file, or the error code where it gives none.
-
+// The name that a text may give to a new file.
 #![tactic(auto, using(crate::proofs::NameLemmas::naming))]
 
 ghost use Rattle.std.specs.Prelude.{◌≡◌, ◌∷◌, []};

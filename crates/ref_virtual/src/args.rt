@@ -1,5 +1,4 @@
-//! Arguments by their places, from 0.
-
+// Arguments by their places, from 0.
 #![tactic(auto, using(wit_types::proofs::ValueLemmas::values))]
 
 ghost use Rattle.std.specs.Prelude.{◌≡◌, ◌<◌, ◌^◌};

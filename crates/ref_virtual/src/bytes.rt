@@ -1,5 +1,4 @@
-//! The bytes of an argument, which is a list of numbers or a run of bytes.
-
+// Bytes in an argument.
 #![tactic(auto, using(wit_types::proofs::ValueLemmas::values, crate::proofs::ByteLemmas::each_number, crate::proofs::ByteLemmas::byte_number))]
 
 ghost use Rattle.std.specs.Prelude.{◌≡◌, ◌<◌, All, IfOk, map};

@@ -1,5 +1,4 @@
-//! wasi:filesystem/types, where the descriptor is a file of the scratch folder: the row of each method.
-
+// wasi:filesystem/types, where the descriptor is a file of the scratch folder.
 #![tactic(auto, using(wit_types::proofs::ValueLemmas::values))]
 
 ghost use Rattle.std.specs.Prelude.{◌≡◌, Bool, IfOk, IsSome, length, ℕ, true};
@@ -146,7 +145,7 @@ fn pair_row(
     }
 }
 
-/// What a method answers of a file of the scratch folder, which counts as one tree more than that many.
+/// What a method answers of a file of the scratch folder, which counts as one tree more than so many.
 pub fn file_row(
     alloc: Global,
     folder: &mut Folder,

@@ -1,5 +1,4 @@
-//! Methods by their WIT names, among those of one interface.
-
+// Methods by their WIT names.
 ghost use Rattle.std.specs.Prelude.{◌≡◌, map};
 ghost use Rattle.std.specs.List.{find};
 ghost use Rattle.std.specs.Option.{option_copied};

@@ -1,5 +1,4 @@
-//! wasi:filesystem/types, where the descriptor is a node of a tree: the row of each method.
-
+// wasi:filesystem/types, where the descriptor is a node of a tree.
 #![tactic(auto, using(wit_types::proofs::ValueLemmas::values))]
 
 ghost use Rattle.std.specs.Prelude.{◌≡◌, ◌≤◌, ◌<◌, IfOk, IfSome, true};

@@ -1,6 +1,4 @@
-//! wasi:io/streams, where the stream is neither the host's nor of the scratch folder: from a file of a tree, without bytes, or one that
-//! drops them.
-
+// wasi:io/streams, where the stream is neither the host's nor of the scratch folder.
 #![tactic(auto, using(wit_types::proofs::ValueLemmas::values))]
 
 ghost use Rattle.std.specs.Prelude.{◌≡◌, ◌<◌, IfOk, true};
@@ -27,7 +25,7 @@ use tree_table::Table;
 use virt_base::NoMemory;
 use wit_types::Values;
 
-/// That many bytes may be written at once.
+/// So many bytes may be written at once.
 const ROOM: u64 = 65536;
 
 /// What a method answers of a stream from a file of a tree.

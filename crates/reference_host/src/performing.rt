@@ -1,5 +1,4 @@
-//! What a row does: handles stand for something else, what is made enters, and its answer is given.
-
+// What a row does.
 ghost use Rattle.std.specs.Prelude.{◌≡◌, [], None, true, IfOk, IfSome, OnOk, option_map, slice_index_or, slice_set};
 ghost use Rattle.host_port.specs.Calls.{plain_answer};
 ghost use Rattle.wit_types.specs.PlainValue.{plain_values};

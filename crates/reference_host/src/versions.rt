@@ -1,5 +1,4 @@
-//! The versions under which interfaces are listed: those by which the component imports them.
-
+// The versions under which interfaces are listed.
 ghost use Rattle.std.specs.Prelude.{◌≡◌, ◌==◌, IfOk};
 ghost use Rattle.std.specs.List.{find};
 ghost use Rattle.std.specs.Option.{option_copied};

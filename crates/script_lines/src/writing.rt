@@ -1,5 +1,3 @@
-//! Values and arguments written to a line by their types, a list value by value, so that no tree of JSON holds a long one.
-
 #![tactic(auto, using(wit_types::proofs::PlainLemmas::plains, wit_types::proofs::ValueLemmas::values, crate::proofs::Views::views, crate::proofs::Places::counts))]
 
 ghost use Rattle.std.specs.Prelude.{◌<◌, length, OnOk};
@@ -81,7 +79,7 @@ fn write_nth(
     }
 }
 
-/// The values of a list, and the bracket after them.
+/// The values of a list, and the bracket behind them.
 #[cycle(write_value)]
 fn write_each(
     alloc: Global,
@@ -165,7 +163,7 @@ fn write_each_arg(
     Ok(())
 }
 
-/// Writes arguments in order, one for each parameter, and the bracket after them.
+/// Writes arguments in order, one for each parameter, and the bracket behind them.
 pub fn write_args(
     alloc: Global,
     params: &Fields,

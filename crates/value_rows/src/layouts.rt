@@ -1,5 +1,4 @@
-//! Rows: sizes, alignments and flat types, worked by hand by the rules of the Component Model's CanonicalABI.md, "Alignment",
-//! "Element Size" and "Flattening".
+// Sizes, alignments and flat types worked by hand by the rules of the Component Model's CanonicalABI.md.
 
 use crate::named::read;
 use crate::rows::{Asked, hold, printed};
@@ -45,7 +44,7 @@ fn labels(alloc: Global, count: usize) -> Result<Rc<Labels>, Fail> {
     Ok(Rc::new(alloc, all)?)
 }
 
-/// A byte's case, and that many without a payload after it.
+/// A byte's case, and so many without a payload behind it.
 fn cases(alloc: Global, count: usize) -> Result<WitType, Fail> {
     let mut items = Vec::new(alloc);
     let name = Text::from_str(alloc, "c")?;
@@ -58,7 +57,7 @@ fn cases(alloc: Global, count: usize) -> Result<WitType, Fail> {
     Ok(WitType::Variant(Rc::new(alloc, Cases { items })?))
 }
 
-/// That many core types of one kind in a tuple.
+/// So many core types of one kind in a tuple.
 fn words(alloc: Global, count: usize) -> Result<WitType, Fail> {
     let mut items = Vec::new(alloc);
     for _ in 0..count {
@@ -67,7 +66,7 @@ fn words(alloc: Global, count: usize) -> Result<WitType, Fail> {
     Ok(WitType::Tuple(Rc::new(alloc, Types { items })?))
 }
 
-/// A type of a form with that many parts.
+/// A type of a form with so many parts.
 fn counted(alloc: Global, form: &str, count: usize) -> Result<WitType, Fail> {
     match form {
         "flags" => Ok(WitType::Flags(labels(alloc, count)?)),
@@ -94,7 +93,7 @@ fn type_of(alloc: Global, text: &'static str) -> Result<WitType, Fail> {
     }
 }
 
-/// After each type what is wanted. A type is the last in a text in the notation of `wasi_table`, or a form and how many parts
+/// Behind each type what is wanted. A type is the last in a text in the notation of `wasi_table`, or a form and how many parts
 /// it has.
 const ROWS: &str = "\
 one byte;type t bool => (1, 1, 1, 1, Some([I32]))

@@ -1,5 +1,3 @@
-//! The application of `virt`, read from its file and judged.
-
 ghost use Rattle.virt_engine.specs.Apps.{FetchesApp};
 
 use crate::status::Status;

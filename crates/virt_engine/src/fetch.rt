@@ -1,5 +1,3 @@
-//! Files that `component_judge` could not read or refuses, as statuses.
-
 use crate::status::Status;
 use component_judge::{Refusal, Unready};
 

@@ -1,5 +1,3 @@
-//! The lines of what is seen of a run, kept until the run is over.
-
 ghost use Rattle.std.specs.Prelude.{◌≡◌, ◌++◌, [], All, None, OnOk, map};
 ghost use Rattle.host_port.specs.Calls.{plain_observation};
 ghost use Rattle.script_lines.specs.Lines.{line_text, type_of};
@@ -19,7 +17,7 @@ use wit_types::WitType;
 /// Lines of what is seen of a run, each with an LF at its end.
 #[derive(Drop)]
 pub struct Lines {
-    /// One after the other.
+    /// One behind the other.
     text: Vec<u8>,
     /// How many bytes each has.
     sizes: Vec<usize>,
@@ -47,7 +45,7 @@ impl Lines {
         }
     }
 
-    /// Adds the line of what is seen, where a returned value has this type. None is left where memory ran out.
+    /// Adds the line of what is seen, where a returned value has this type. None is left after want of memory.
     pub fn add(
         &mut self,
         alloc: Global,

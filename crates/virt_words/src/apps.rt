@@ -1,5 +1,3 @@
-//! The commands as `clap` is told them: the words that each takes, and its options.
-
 ghost use Rattle.std.specs.Prelude.{◌≡◌, IfOk, false};
 ghost use Rattle.clap.specs.Words.{app_of, rule_of};
 ghost use Rattle.virt_words.specs.Apps.{plain_app, positional, option_named, long_option, required_option, virt_app, run_app, gen_app, plug_app, inspect_app};
@@ -49,7 +47,7 @@ fn spelled<'a>(alloc: Global, id: &'a str) -> Arg<'a>
     Arg::new(alloc, id).long(id)
 }
 
-/// The command after `virt`.
+/// The command behind `virt`.
 pub fn virt_command<'a>(alloc: Global) -> Result<Command<'a>, AllocError>
     ensures { IfOk result (λ c. app_of c ≡ virt_app) }
 {
@@ -59,7 +57,7 @@ pub fn virt_command<'a>(alloc: Global) -> Result<Command<'a>, AllocError>
     plain(alloc, "virt").arg(app)?.arg(policy)?.arg(out)
 }
 
-/// The command after `run`.
+/// The command behind `run`.
 pub fn run_command<'a>(alloc: Global) -> Result<Command<'a>, AllocError>
     ensures { IfOk result (λ c. app_of c ≡ run_app) }
 {
@@ -74,7 +72,7 @@ pub fn run_command<'a>(alloc: Global) -> Result<Command<'a>, AllocError>
         .arg(steps)
 }
 
-/// The command after `gen`.
+/// The command behind `gen`.
 pub fn gen_command<'a>(alloc: Global) -> Result<Command<'a>, AllocError>
     ensures { IfOk result (λ c. app_of c ≡ gen_app) }
 {

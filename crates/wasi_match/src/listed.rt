@@ -1,5 +1,3 @@
-//! What is kept of a listed component: each of its imports, with the interface, the version and the functions that it asks for.
-
 use virt_base::{Items, Text};
 
 /// An import of a listed interface.

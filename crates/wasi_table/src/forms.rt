@@ -1,5 +1,3 @@
-//! The words of the notation that are no names: the primitive types, the forms of types, and the arrow of a signature.
-
 ghost use Rattle.std.specs.Prelude.{◌≡◌};
 ghost use Rattle.wasi_table.specs.Forms.{form_named};
 
@@ -17,11 +15,11 @@ pub enum Form {
     List,
     Option,
     Result,
-    /// A tuple of that many types.
+    /// A tuple of so many types.
     Tuple(usize),
     Own,
     Borrow,
-    /// The arrow between parameters and answer: what stands after it is no parameter.
+    /// The arrow between parameters and answer: what stands behind it is no parameter.
     Arrow,
 }
 

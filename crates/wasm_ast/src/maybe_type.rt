@@ -1,5 +1,3 @@
-//! A value type that may be absent, with one tag for both. Contracts see an option.
-
 ghost use Rattle.std.specs.Prelude.{◌≡◌};
 
 use crate::component::{Primitive, ValType};

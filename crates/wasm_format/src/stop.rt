@@ -1,5 +1,3 @@
-//! Why a reader stops. Readers of core modules and of components stop for the same reasons.
-
 ghost use Rattle.std.specs.Prelude.{◌≡◌};
 ghost use Rattle.wasm_format.specs.declared.stop.Stop.TheVariants.{NoMemory};
 

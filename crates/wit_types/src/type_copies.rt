@@ -1,5 +1,3 @@
-//! Copies of types, which share their parts, and of types of functions.
-
 #![tactic(auto, using(crate::proofs::PlainLemmas::plains))]
 
 ghost use Rattle.std.specs.Prelude.{◌≡◌, IfOk};

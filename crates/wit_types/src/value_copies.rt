@@ -1,5 +1,3 @@
-//! Copies of values, with memory of their own.
-
 #![tactic(auto, using(crate::proofs::ValueLemmas::values))]
 
 ghost use Rattle.std.specs.Prelude.{◌≡◌, IfOk};
