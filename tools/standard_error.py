@@ -81,7 +81,7 @@ def comes_out(folder, row):
 
 
 def memory_is_told(folder):
-    """A script of a million answers in 64 MB of memory gives no result."""
+    """A script of a million answers in 16 MB of memory gives no result."""
     with open(f"{folder}/long.json", "w", encoding="utf-8") as script:
         script.write('{"answers":[' + ",".join(['{"value":0}'] * 1_000_000) + '],"calls":[]}')
     ran = subprocess.run(
@@ -90,7 +90,7 @@ def memory_is_told(folder):
         capture_output=True,
         text=True,
         check=False,
-        preexec_fn=lambda: resource.setrlimit(resource.RLIMIT_AS, (1 << 26, 1 << 26)),
+        preexec_fn=lambda: resource.setrlimit(resource.RLIMIT_AS, (1 << 24, 1 << 24)),
     )
     return ran.returncode == 6 and ran.stdout == "" and ran.stderr == NO_RESULT
 
@@ -112,7 +112,7 @@ with tempfile.TemporaryDirectory() as folder:
             file.write(held.read())
     otherwise = [row for row in ROWS.strip().splitlines() if not comes_out(folder, row)]
     if not memory_is_told(folder):
-        otherwise.append("want of memory")
+        otherwise.append("too little memory")
     if not pipe_is_read_once(folder):
         otherwise.append("a script from a pipe")
 for row in otherwise:
