@@ -1,3 +1,5 @@
+//! Lists of flat types, which are kept up to the 16 that parameters may have (Component Model, CanonicalABI.md, "Flattening").
+
 #![tactic(auto, using(crate::proofs::FlatLemmas::flats))]
 
 ghost use Rattle.std.specs.Prelude.{◌≡◌, ◌≤◌, ◌∷◌, [], length, Some};

@@ -1,3 +1,6 @@
+//! The flat types of a type: those of fields follow one another, those of cases are joined (Component Model, CanonicalABI.md,
+//! "Flattening").
+
 #![tactic(auto, using(crate::proofs::FlatLemmas::flats))]
 
 ghost use Rattle.std.specs.Prelude.{◌≡◌, ◌<◌, ◌≤◌, ◌∷◌, [], max, Some, None, slice_index_or, take};

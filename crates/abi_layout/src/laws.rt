@@ -1,3 +1,6 @@
+//! The laws that values with other numbers for their handles keep their type, and that what is loaded or lifted has the type. No code but
+//! laws.
+
 ghost use Rattle.abi_layout.specs.Handles.{HandlesKeep, TypesKeep};
 ghost use Rattle.abi_layout.specs.Loading.{LoadedHasType, LiftedHasType};
 

@@ -1,3 +1,5 @@
+//! Whether a type is small enough to be laid out. It is tested by counting down, so that the test ends early where the type is large.
+
 #![tactic(auto, using(crate::proofs::LayoutLemmas::counts))]
 
 ghost use Rattle.std.specs.Prelude.{◌≤◌, ◌-◌, ◌↔◌, IsTrue, SomeIff, []};
@@ -50,7 +52,7 @@ fn left_of_cases(cases: &[Case], left: u32) -> Option<u32>
     Some(rest)
 }
 
-/// What is left of so many parts without those of the type; none where it has more.
+/// What is left of that many parts without those of the type; none where it has more.
 #[cycle(left_of)]
 fn left_of(ty: &WitType, left: u32) -> Option<u32>
     ensures { SomeIff result (parts (plain ty.now) ≤ left) (left - parts (plain ty.now)) }
@@ -70,7 +72,7 @@ fn left_of(ty: &WitType, left: u32) -> Option<u32>
 }
 
 /// Whether the type has at most 1,000,000 parts when it is written out, which layout asks for. A type that has more costs no
-/// more to test than one of so many.
+/// more to test than one of that many.
 pub fn is_small(ty: &WitType) -> bool
     ensures { IsTrue result ↔ IsSmall ty.now }
 {

@@ -1,3 +1,6 @@
+//! The size and the alignment of a type, and where the payload of a variant lies (Component Model, CanonicalABI.md, "Alignment" and
+//! "Element Size").
+
 #![tactic(auto, using(crate::proofs::LayoutLemmas::layouts))]
 
 ghost use Rattle.std.specs.Prelude.{◌≡◌, ◌<◌, ◌^◌, ◌≤◌, ◌+◌, ◌-◌, ◌*◌, ◌/◌, max, []};
@@ -16,7 +19,7 @@ pub struct Layout {
     pub align: u32,
 }
 
-/// The bytes of the number of a case, of so many cases.
+/// The bytes of the number of a case, of that many cases.
 pub fn discriminant_width(cases: usize) -> u8
     ensures value { result ≡ discriminant_size cases }
     ensures width { IsWidth result }
@@ -32,7 +35,7 @@ pub fn discriminant_width(cases: usize) -> u8
     }
 }
 
-/// The bytes of so many flags.
+/// The bytes of that many flags.
 pub fn flags_width(labels: usize) -> u8
     ensures value { result ≡ flags_size labels }
     ensures width { IsWidth result }
@@ -58,7 +61,7 @@ pub fn align_to(at: u32, align: u32) -> u32
     (at + (align - 1)) / align * align
 }
 
-/// Where the payload of a variant of so many cases lies in it, by the greatest alignment of the payloads.
+/// Where the payload of a variant of that many cases lies in it, by the greatest alignment of the payloads.
 pub fn payload_offset(cases: usize, align: u32) -> u32
     requires least { 1 ≤ align }
     requires aligned { align ≤ 8 }

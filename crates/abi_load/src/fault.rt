@@ -1,3 +1,5 @@
+//! Why no value is loaded or lifted: a trap, or out of memory.
+
 use core_store::StoreFault;
 use std::alloc::{AllocError, AllocFailed};
 use virt_base::{NoMemory, Trap};

@@ -1,3 +1,5 @@
+//! Values are lifted from flat values (Component Model, CanonicalABI.md, "Flat Lifting").
+
 #![tactic(auto, using(crate::proofs::Views::views))]
 
 ghost use Rattle.std.specs.Prelude.{◌≡◌, ◌↔◌, ◌<◌, ◌≤◌, ◌+◌, length, slice_index, Some, None, IfOk, IsErrOf, IsTrue, List, ℕ, []};

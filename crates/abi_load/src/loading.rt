@@ -1,3 +1,5 @@
+//! Values are loaded from a memory (Component Model, CanonicalABI.md, "Loading").
+
 #![tactic(auto, using(crate::proofs::Views::views))]
 
 ghost use Rattle.std.specs.Prelude.{◌≡◌, ◌<◌, ◌≤◌, ◌^◌, ◌+◌, ◌*◌, length, Some, None, IfOk, IsErrOf, ◌∷◌, [], ◌==◌, if◌then◌else◌};
@@ -204,7 +206,7 @@ fn load_types(
     Ok(values)
 }
 
-/// So many items of one size, one behind the other.
+/// `count` items of one size, one after the other.
 #[cycle(load_at)]
 fn load_items(
     alloc: Global,
@@ -257,7 +259,7 @@ fn load_values(
     }
 }
 
-/// The list of so many items at a place.
+/// The list of `count` items at a place.
 #[cycle(load_at)]
 pub(crate) fn load_range(
     alloc: Global,

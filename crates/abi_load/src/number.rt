@@ -1,3 +1,5 @@
+//! Values that are one number: integers with their sign, chars, flags and handles. Loading and lifting share it.
+
 #![tactic(auto, using(crate::proofs::Views::views))]
 
 ghost use Rattle.std.specs.Prelude.{◌≡◌, ◌<◌, ◌≤◌, ◌^◌, ◌*◌, ◌-ℤ◌, pos, nat_lt, length, Some, None, IfOk, IsErrOf, if◌then◌else◌, option_map, option_and_then, ◌%◌};
@@ -100,7 +102,7 @@ fn char_value(code: u32) -> Option<Value>
     }
 }
 
-/// The bits that the flags of so many labels have.
+/// The bits that the flags of that many labels have.
 fn known_flags(bits: u32, labels: usize) -> u32
     ensures { result ≡ bits % 2 ^ labels }
 {

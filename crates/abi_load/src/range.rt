@@ -1,3 +1,5 @@
+//! Strings and lists of bytes, which are loaded as one run, and the test that a range is within a memory.
+
 #![tactic(auto, using(crate::proofs::Views::views))]
 
 ghost use Rattle.std.specs.Prelude.{◌≡◌, ◌<◌, ◌≤◌, ◌^◌, ◌+◌, ◌*◌, length, take, drop, Some, None, IfOk, IsErrOf, IsTrue, ◌↔◌, ℕ, slice_index};
@@ -12,7 +14,7 @@ use crate::fault::LoadFault;
 use core_store::{Store, read, size};
 use virt_base::{Bytes, Text};
 
-/// Whether so many bytes from a place on are within a memory.
+/// Whether `len` bytes from a place on are within a memory.
 pub fn is_within(store: &Store, memory: u32, place: u64, len: u64) -> bool
     requires memory { memory < length store.now.memories }
     ensures within { IsTrue result ↔ (place + len ≤ length (bytes_at store.now memory)) }
@@ -22,7 +24,7 @@ pub fn is_within(store: &Store, memory: u32, place: u64, len: u64) -> bool
     place <= end && len <= end - place
 }
 
-/// The string of so many bytes at a place.
+/// The string of `len` bytes at a place.
 pub fn load_string(store: &Store, memory: u32, place: u64, len: u64) -> Result<Text, LoadFault>
     requires { memory < length store.now.memories }
     ensures ok { IfOk result (λ t. string_at (bytes_at store.now memory) place len ≡ Some (StringValue t)) }

@@ -1,4 +1,6 @@
-// Values into memory: what comes before all others of a value.
+//! Storing a value at a place begins: what comes before its parts is written at once, the parts are left in progress (Component Model,
+//! CanonicalABI.md, "Storing").
+
 #![tactic(auto, using(crate::proofs::Views::views))]
 
 ghost use Rattle.std.specs.Prelude.{◌≡◌, ◌≤◌, ◌<◌, ◌+◌, ◌*◌, ◌^◌, [], length, IfOk};

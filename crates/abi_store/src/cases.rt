@@ -1,4 +1,5 @@
-// The cases of variants, enums, options and results.
+//! The cases of variants, enums, options and results: the width of their numbers, and where and of which type a payload is.
+
 #![tactic(auto, using(crate::proofs::Views::kinds))]
 
 ghost use Rattle.std.specs.Prelude.{◌≡◌, ◌≤◌, IfOk};

@@ -1,4 +1,4 @@
-// What is asked for room for, and where the answer goes.
+//! What memory is asked for: the string, list or whole value that waits for the answer, and where the answer goes.
 
 ghost use Rattle.std.specs.Prelude.{◌≤◌};
 ghost use Rattle.wit_types.specs.Plain.{plain};
@@ -35,7 +35,7 @@ pub enum Content {
 /// Where the answer goes.
 #[derive(Clone, Copy)]
 pub enum Cell {
-    /// To a place of the memory, and the length behind it.
+    /// To a place of the memory, and the length after it.
     Memory(u64),
     /// Among the flat values.
     Flat,

@@ -1,4 +1,5 @@
-// What is stored at the answer to a request.
+//! What memory was asked for is stored at the answer: a string, the items of a list, or a whole value.
+
 #![tactic(auto, using(crate::proofs::Views::views))]
 
 ghost use Rattle.std.specs.Prelude.{◌≡◌, ◌<◌, ◌≤◌, ◌*◌, ◌^◌, Some, true, false, length, IfOk, IfSome, IfNone};

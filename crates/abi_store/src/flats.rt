@@ -1,4 +1,5 @@
-// The flat values of values.
+//! The flat values of a value; strings and lists ask for memory later (Component Model, CanonicalABI.md, "Flat Lowering").
+
 #![tactic(auto, using(crate::proofs::Views::views))]
 
 ghost use Rattle.std.specs.Prelude.{◌≡◌, ◌≤◌, ◌<◌, ◌+◌, ◌-◌, ◌^◌, length, reverse, IfOk};

@@ -1,4 +1,5 @@
-// Values by their forms.
+//! Values are taken apart by the form that their type has: the text, list, record or variant that a value is.
+
 #![tactic(auto, using(crate::proofs::Views::views))]
 
 ghost use Rattle.std.specs.Prelude.{◌≡◌, IfOk, IfSome, IfNone, pos, reverse};

@@ -1,4 +1,5 @@
-// What is in progress goes on, up to the next request.
+//! A plan of storing goes on, with an answer or without: what is in progress in memory first, then the flat values.
+
 #![tactic(auto, using(crate::proofs::Views::views))]
 
 ghost use Rattle.std.specs.Prelude.{ℕ, ◌≡◌, ◌≤◌, ◌<◌, ◌^◌, length, reverse, IfOk};

@@ -1,3 +1,5 @@
+//! Values that are one number, as numbers, and many of them as one run of bytes. Storing and lowering share it.
+
 #![tactic(auto, using(crate::proofs::Views::views))]
 
 ghost use Rattle.std.specs.Prelude.{◌≡◌, ◌<◌, ◌≤◌, ◌^◌, ◌++◌, ℕ, slice_index, IfOk};
@@ -16,7 +18,7 @@ pub const LONG: u128 = 0x1_0000_0000_0000_0000;
 /// How many numbers a core integer of 32 bits holds.
 pub const SHORT: u128 = 0x1_0000_0000;
 
-/// An integer among so many numbers, a negative one in two's complement.
+/// An integer among `count` numbers, a negative one in two's complement.
 fn within(count: u128, n: i128) -> u128
     requires { 0 < count }
     ensures value { result ≡ among count n }
@@ -29,7 +31,7 @@ fn within(count: u128, n: i128) -> u128
     }
 }
 
-/// The number of a value, where an integer is one of so many numbers; 0 for a value that is none.
+/// The number of a value, where an integer is one of `count` numbers; 0 for a value that is none.
 pub fn number(count: u128, value: &Value) -> u64
     requires some { 0 < count }
     requires fits { count ≤ 2 ^ 64 }
@@ -91,7 +93,7 @@ fn is_own_run(values: &[u8])
     are_small(values);
 }
 
-/// The numbers of values one behind the other, each in so many bytes. A run of bytes is not copied.
+/// The numbers of values one after the other, each in `width` bytes. A run of bytes is not copied.
 pub fn run_of(alloc: Global, values: Values, width: u8) -> Result<Bytes, NoMemory>
     ensures { IfOk result (λ run. run ≡ run_bytes width (plain_values values)) }
 {

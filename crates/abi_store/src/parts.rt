@@ -1,3 +1,5 @@
+//! The types in a record or a tuple by number, so that both are stored in the same way.
+
 #![tactic(auto, using(crate::proofs::Views::views))]
 
 ghost use Rattle.std.specs.Prelude.{◌≡◌, ◌+◌, IfOk, IfSome, IfNone, []};

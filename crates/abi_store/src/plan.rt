@@ -1,3 +1,6 @@
+//! The plan of storing a value, from request to request for memory (Component Model, CanonicalABI.md, "Storing" and "Flat Lowering").
+//! Between two steps the caller runs `realloc`.
+
 #![tactic(auto, using(crate::proofs::Views::views))]
 
 ghost use Rattle.std.specs.Prelude.{◌≡◌, ◌≤◌, ◌<◌, [], true, length, reverse, IfOk, Some, take};
@@ -184,7 +187,7 @@ impl StorePlan {
     }
 
     /// Goes on up to the next request, or to the end, with the answer to the last request. Where no answer is brought to a request,
-    /// it traps. After `Trap`, and after want of memory, the plan is not used again.
+    /// it traps. After `Trap`, and where memory ran out, the plan is not used again.
     pub fn next(
         &mut self,
         alloc: Global,

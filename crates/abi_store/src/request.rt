@@ -1,4 +1,4 @@
-// Requests for room.
+//! Requests for memory, and how far storing came when it stops.
 
 ghost use Rattle.std.specs.Prelude.{◌≡◌, ◌≤◌, ◌^◌, Some};
 ghost use Rattle.abi_store.specs.Rooms.{room_of, cell_place};

@@ -1,4 +1,5 @@
-// What is asked for room for.
+//! How much memory a string, a list or a whole value asks for, and whether an answer has that much.
+
 #![tactic(auto, using(crate::proofs::Views::views))]
 
 ghost use Rattle.std.specs.Prelude.{◌≡◌, ◌≤◌, ◌<◌, ◌^◌, length, IfSome, IfNone, Some, None};
@@ -17,7 +18,7 @@ use abi_layout::layout_of;
 use core_store::{Store, size};
 use virt_base::Text;
 
-/// The number that is stored behind the place.
+/// The number that is stored after the place.
 pub fn len_of(content: &Content) -> u64
     ensures { result ≡ content_len content.now }
 {
@@ -92,7 +93,7 @@ pub fn request_for(content: Content, cell: Cell) -> Flow
     }
 }
 
-/// Whether a place is aligned, and so many bytes from it on are within the memory.
+/// Whether a place is aligned, and `len` bytes from it on are within the memory.
 pub fn is_room(store: &Store, memory: u32, place: u32, align: u32, len: u32) -> bool
     requires memory { memory < length store.now.memories }
     requires least { 1 ≤ align }

@@ -1,4 +1,4 @@
-// Flat values that are still to come.
+//! Flat values while a value is lowered: those that are known, and those that are still to come.
 
 use crate::content::Content;
 

@@ -1,4 +1,5 @@
-// How far a plan has come.
+//! How far a plan of storing has come: only flat values are left, a place is to be tested, a request waits for its answer, or it broke
+//! off.
 
 ghost use Rattle.std.specs.Prelude.{◌≤◌};
 

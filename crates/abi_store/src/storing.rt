@@ -1,4 +1,5 @@
-// Values into memory, up to the next request.
+//! What is in progress in memory goes on, turn by turn, up to the next request for memory.
+
 #![tactic(auto, using(crate::proofs::Views::views))]
 
 ghost use Rattle.std.specs.Prelude.{◌≡◌, ◌≤◌, ◌<◌, ◌+◌, ◌*◌, ◌^◌, ◌++◌, ◌∷◌, [], length, reverse, IfOk, OnOk};

@@ -1,3 +1,5 @@
+//! Where a value is stored, and what a plan of storing answers at each step.
+
 use core_store::CoreValue;
 use virt_base::Items;
 

@@ -1,4 +1,5 @@
-// Flat values as values of core types.
+//! Flat values as values of core types, as core functions take them.
+
 #![tactic(auto)]
 
 ghost use Rattle.std.specs.Prelude.{◌≡◌, IfOk};

@@ -1,4 +1,4 @@
-// What is in progress in memory.
+//! What is in progress in memory while a value is stored. It is kept as a list, so that a plan can stop at a request and go on later.
 
 ghost use Rattle.std.specs.Prelude.{◌≡◌, ◌≤◌, ◌+◌, ◌*◌, ◌^◌, length};
 ghost use Rattle.wit_types.specs.Plain.{plain};
@@ -46,7 +46,7 @@ pub struct ValueWork {
     pub ghost low: { at + 32 * parts_in (plain ty.value) ≤ 2 ^ 50 },
 }
 
-/// The place of what was stored, and its length behind it.
+/// The place of what was stored, and its length after it.
 #[derive(Clone, Copy)]
 pub struct PlaceWork {
     pub at: u64,

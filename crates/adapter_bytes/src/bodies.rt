@@ -1,3 +1,6 @@
+//! Laws of what instantiation leaves in the store: the bodies of a module as functions of its instance, and its memory as its segment fills
+//! it.
+
 ghost use Rattle.adapter_bytes.specs.Bodies.{BodiesStand};
 ghost use Rattle.adapter_bytes.specs.Memories.{MemoriesAreFilled};
 

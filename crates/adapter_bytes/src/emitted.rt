@@ -1,3 +1,5 @@
+//! The laws of both modules in a store where their instances stand: what their functions do, and what the memory holds at first.
+
 ghost use Rattle.adapter_bytes.specs.StateWorks.{StateDoes};
 ghost use Rattle.adapter_bytes.specs.StubsWork.{StubsDo};
 

@@ -1,3 +1,5 @@
+//! Why the adapter's modules were not written.
+
 use virt_base::NoMemory;
 
 /// Why the adapter's modules were not written.

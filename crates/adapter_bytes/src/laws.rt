@@ -1,3 +1,5 @@
+//! The law that both modules may be written (WebAssembly Core 2.0, chapter 5, "Binary Format").
+
 ghost use Rattle.adapter_bytes.specs.Bytes.{EmittedAreWritable};
 
 /// Both modules of the adapter may be written (WebAssembly Core 2.0, chapter 5), where the statements and locals of all stubs

@@ -1,4 +1,4 @@
-// Which post-returns the stubs need.
+//! Which post-returns the state module needs: one for each flat result that some stub has.
 
 ghost use Rattle.std.specs.Prelude.{◌≡◌};
 ghost use Rattle.std.specs.List.{list_any};

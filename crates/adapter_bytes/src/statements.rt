@@ -1,4 +1,4 @@
-// How many statements a routine has.
+//! The statements of a routine are counted down from a number, so that a count that is too large is found without an overflow.
 
 ghost use Rattle.std.specs.Prelude.{◌≡◌, ◌+◌, ◌<◌, ◌^◌, IfSome, IfNone};
 ghost use Rattle.adapter_code.specs.Code.{Stop, before, code_of};

@@ -1,4 +1,4 @@
-// Runs routines.
+//! The evaluator: lists of statements, and the statements that hold others. `plain` runs the rest.
 
 ghost use Rattle.std.specs.Prelude.{◌≡◌, [], IfOk, OnOk, map, ℕ};
 ghost use Rattle.adapter_code.specs.Code.{Stop, before, code_of};

@@ -1,3 +1,5 @@
+//! How a list of statements ends, for those that run it: it goes on, a `Leave` is under way, or the routine is over.
+
 use crate::state::CodeEnd;
 
 /// How a list of statements ends.

@@ -1,3 +1,5 @@
+//! The layout of the adapter's memory: which parts it has, where each begins, and how many pages hold them.
+
 ghost use Rattle.std.specs.Prelude.{◌≡◌, ◌+◌, ◌*◌, ◌<◌, ◌↔◌, true};
 ghost use Rattle.adapter_code.specs.Layout.{table_at as table_of, image_at as image_of, spare_at as spare_of, transfer_at as transfer_of, end_of, pages_of, padded as padded_of, Fits};
 

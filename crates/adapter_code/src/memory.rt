@@ -1,4 +1,4 @@
-// Numbers in a memory.
+//! Numbers in a memory, in 1, 2, 4 or 8 bytes, the lowest first.
 
 ghost use Rattle.std.specs.Prelude.{◌≡◌, ◌+◌, ◌<◌, ◌≤◌, ◌^◌, Some, None, IfSome, IsTrue, IsFalse, length, take, drop};
 ghost use Rattle.core_memory.specs.Number.{number, IsWidth};

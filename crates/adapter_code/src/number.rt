@@ -1,4 +1,4 @@
-// Operators on numbers of one width.
+//! Operators of the table language on numbers of 32 or 64 bits, and numbers of one width as those of the other.
 
 ghost use Rattle.std.specs.Prelude.{◌≡◌, ◌<◌, ◌^◌};
 ghost use Rattle.adapter_code.specs.declared.statement.Width.TheVariants.{Narrow, Broad};

@@ -1,4 +1,4 @@
-// Statements that hold no others.
+//! The run of one statement that holds no others: it sets a local, loads, stores, makes or drops a handle, or ends a list.
 
 ghost use Rattle.std.specs.Prelude.{◌≡◌, ◌+◌, ◌<◌, ◌^◌, IfOk, OnOk, map, length, List, ℕ};
 ghost use Rattle.adapter_code.specs.declared.statement.Width.TheVariants.{Narrow};

@@ -1,4 +1,4 @@
-// Whether a routine is well formed.
+//! Whether a routine is well formed over locals of these widths, which its evaluator and its compiler ask for.
 
 ghost use Rattle.std.specs.Prelude.{◌≡◌, ◌<◌, ◌↔◌, [], ◌∷◌, true, IfOk, OnOk, List, ℕ, length, slice_get};
 ghost use Rattle.adapter_code.specs.declared.statement.Width.{Width};
@@ -148,7 +148,7 @@ fn has_width(widths: &[Width], local: u32, width: Width) -> bool
     }
 }
 
-// Whether a local is there and may be loaded or stored in so many bytes.
+// Whether a local is there and may be loaded or stored in that many bytes.
 fn has_size(widths: &[Width], local: u32, size: u8) -> bool
     ensures { result ≡ true ↔ (w : Width) × HasWidth widths.now local w × IsSize w size }
 {

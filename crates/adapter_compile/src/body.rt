@@ -1,4 +1,4 @@
-// Routines as functions.
+//! A routine as the body of a core function, with parameters, further locals, and counters for its repeats.
 
 ghost use Rattle.std.specs.Prelude.{◌≡◌, ◌+◌, ◌<◌, ◌≤◌, ◌^◌, [], IfOk, length};
 ghost use Rattle.adapter_code.specs.Code.{code_of};
@@ -14,7 +14,7 @@ use std::alloc::Global;
 use virt_base::{CoreType, Items, NoMemory};
 use wasm_ast::{Body, Instr, LocalRun};
 
-/// The body of a function that does what a routine does. So many of the routine's locals are its parameters, the others begin
+/// The body of a function that does what a routine does. The first `params` of the routine's locals are its parameters, the others begin
 /// as 0, and it has no result.
 ///
 /// A call ends after at least one and at most 32 steps for each statement that the routine runs and 32 more, with the
@@ -40,7 +40,7 @@ pub fn compile(
     Ok(Body { locals, code })
 }
 
-/// The declaration of locals of these widths, and of so many counters behind them.
+/// The declaration of locals of these widths, and of that many counters after them.
 pub fn declared(alloc: Global, widths: &[Width], counters: u32) -> Result<Items<LocalRun>, NoMemory>
     ensures { IfOk result (λ runs. runs ≡ declared_of widths.now counters) }
 {

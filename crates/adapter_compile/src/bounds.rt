@@ -1,4 +1,4 @@
-// How deep a routine's statements stand in one another.
+//! Bounds on how deep statements stand in one another, so that labels and locals have numbers of 32 bits.
 
 ghost use Rattle.std.specs.Prelude.{◌≡◌, ◌+◌, max, ◌<◌, ◌≤◌, ◌^◌, ◌↔◌, true, length};
 ghost use Rattle.adapter_code.specs.Code.{Stop, before, code_of};

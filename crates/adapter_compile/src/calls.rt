@@ -1,3 +1,5 @@
+//! By which functions code makes and drops handles, kind by kind.
+
 use virt_base::Items;
 
 /// The index of a function for each kind, by its number; none where a kind has none.

@@ -1,4 +1,4 @@
-// The code of routines.
+//! The code of a routine, statement by statement: a `Repeat` becomes a block with a loop in it.
 
 ghost use Rattle.std.specs.Prelude.{◌≡◌, suc, ◌+◌, ◌<◌, ◌≤◌, ◌^◌, [], ◌∷◌, ◌++◌, None, Some, IfOk, OnOk, length, reverse};
 ghost use Rattle.adapter_code.specs.Code.{Stop, before, code_of};
@@ -16,7 +16,7 @@ use std::alloc::Global;
 use virt_base::NoMemory;
 use wasm_ast::{BlockType, Instr, MemArg, Op};
 
-/// Puts the code of a routine behind other code.
+/// Puts the code of a routine after other code.
 pub fn put_routine(
     alloc: Global,
     out: &mut Vec<Instr>,
@@ -104,7 +104,7 @@ fn begin_turns(out: &mut Vec<Instr>, count: u32, counter: u32) -> Result<(), NoM
     put(out, Instr::Loop(BlockType::Empty))
 }
 
-// The same behind its body.
+// The same after its body.
 fn end_turns(out: &mut Vec<Instr>, counter: u32) -> Result<(), NoMemory>
     ensures { OnOk result (out.new.items ≡ out.old.items ++ turns_end counter) }
 {

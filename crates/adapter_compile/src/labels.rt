@@ -1,9 +1,9 @@
-// The brackets around a statement.
+//! Labels of branches: how many of the brackets around a statement a `Leave` passes.
 
 ghost use Rattle.std.specs.Prelude.{◌≡◌, ◌≤◌, length, reverse};
 ghost use Rattle.adapter_compile.specs.Instructions.{label_of as label_in};
 
-/// The label behind the innermost `Repeat` of a name, of the brackets from the outermost on.
+/// The label after the innermost `Repeat` of a name, of the brackets from the outermost on.
 pub fn label_of(labels: &[Option<u32>], name: u32) -> usize
     ensures label { result ≡ label_in name (reverse labels.now) }
     ensures within { result ≤ length labels.now }

@@ -1,4 +1,4 @@
-// The instructions that read, write and calculate.
+//! The core instructions for constants, operators, loads and stores of the table language (core WebAssembly, "Instructions").
 
 ghost use Rattle.std.specs.Prelude.{◌≡◌, true};
 ghost use Rattle.adapter_code.specs.declared.statement.Width.TheVariants.{Narrow, Broad};
@@ -85,7 +85,7 @@ pub fn numeric(code: u8) -> Instr
     }
 }
 
-/// The load of so many bytes into a local of a width.
+/// The load of that many bytes into a local of a width.
 pub fn load_of(width: Width, size: u8) -> LoadOp
     ensures { result ≡ load_at width size }
 {
@@ -104,7 +104,7 @@ pub fn load_of(width: Width, size: u8) -> LoadOp
     }
 }
 
-/// The store of so many bytes of a local of a width.
+/// The store of that many bytes of a local of a width.
 pub fn store_of(width: Width, size: u8) -> StoreOp
     ensures { result ≡ store_at width size }
 {

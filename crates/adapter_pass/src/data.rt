@@ -1,3 +1,5 @@
+//! Static data in the making, and the texts and lists in it, by their places in the adapter's memory.
+
 use crate::places::image_place;
 use std::alloc::Global;
 use virt_base::{Bytes, Items, NoMemory};
@@ -29,7 +31,7 @@ fn capped(len: usize) -> u32 {
 }
 
 impl StaticData {
-    /// None, for slot tables of so many places.
+    /// None, for slot tables of that many places.
     pub fn new(alloc: Global, slots: u32) -> StaticData {
         StaticData {
             base: image_place(slots),

@@ -1,3 +1,5 @@
+//! Fields of records in memory, by their offsets and widths.
+
 use adapter_code::Field;
 
 /// The number of the case of a result, an option or a variant of few cases, at the beginning of its record.

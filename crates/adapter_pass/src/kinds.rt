@@ -1,3 +1,5 @@
+//! The kinds of resources of the listed interfaces of WASI 0.2, by their numbers.
+
 /// The kinds of resources of the listed interfaces, by their numbers.
 #[derive(Clone, Copy, PartialEq, Eq, Debug)]
 pub enum Kind {

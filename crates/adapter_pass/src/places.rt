@@ -1,3 +1,5 @@
+//! How the adapter's memory is cut: the records of answers, the slot tables, the static data, the spare bytes and the transfer area.
+
 use crate::kinds::Kind;
 use adapter_code::Layout;
 

@@ -1,3 +1,5 @@
+//! Locals that a routine is free to use, of 32 and of 64 bits in turn.
+
 /// Free locals, of 32 and of 64 bits in turn. Past the last number there is they are one local, and a routine that names it is not
 /// well formed.
 #[derive(Clone, Copy, Debug)]
@@ -16,7 +18,7 @@ impl Spare {
         self.first.saturating_add(2 * i as u32 + 1)
     }
 
-    /// Those that are left where so many pairs are taken.
+    /// Those that are left where that many pairs are taken.
     pub fn after(&self, pairs: u8) -> Spare {
         Spare {
             first: self.first.saturating_add(2 * pairs as u32),

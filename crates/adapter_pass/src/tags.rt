@@ -1,3 +1,5 @@
+//! The tags of entries in slot tables: what a used place holds, and so what a handle stands for.
+
 /// What a used place of a slot table holds, by the tag of its entry. The entry's word is the index of the host's handle, the number
 /// of a node or of a scratch file, or 0; its long word is a place in a file, how many entries are left, or 0.
 #[derive(Clone, Copy, PartialEq, Eq, Debug)]

@@ -1,3 +1,5 @@
+//! How a row ends where the quota has no room for what is written.
+
 use adapter_fs::shared::CLOSED;
 use adapter_pass::{Frame, Routine, fs_code};
 

@@ -1,3 +1,5 @@
+//! Where the scratch folder stands in the adapter's spare bytes: the entries of its files, its blocks and its marks.
+
 use adapter_code::Field;
 use adapter_pass::Places;
 use policy_data::Scratch;
@@ -38,7 +40,7 @@ pub const NAMED: Field = Field {
 /// Where the name begins in an entry.
 pub const NAME: u32 = 16;
 
-/// The bytes of the marks behind the blocks.
+/// The bytes of the marks after the blocks.
 const MARKS: u32 = 12;
 
 fn entries_len(scratch: &Scratch) -> u32 {
@@ -75,7 +77,7 @@ pub struct ScratchAt {
 }
 
 impl ScratchAt {
-    /// The scratch folder of a policy, of which the trees are so many.
+    /// The scratch folder of a policy with that many trees.
     pub fn of(scratch: &Scratch, places: &Places, trees: u32) -> ScratchAt {
         let quota = blocks_len(scratch);
         let blocks = places.spare.saturating_add(entries_len(scratch));

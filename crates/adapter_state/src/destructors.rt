@@ -1,4 +1,5 @@
-// The destructors of the adapter's resources.
+//! The destructors of the adapter's resources (Component Model, CanonicalABI.md, `canon resource.drop`): the place of a handle is freed,
+//! and the host's handle in it is dropped.
 
 ghost use Rattle.std.specs.Prelude.{◌≡◌, ◌<◌, IfOk, IfSome};
 ghost use Rattle.adapter_code.specs.Code.{code_of};

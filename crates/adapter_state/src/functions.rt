@@ -1,4 +1,4 @@
-// The functions that the module defines, in the order of their exports.
+//! The functions that the state module defines, in the order of their exports.
 
 ghost use Rattle.std.specs.Prelude.{◌≡◌, ◌≤◌, ◌<◌, ◌++◌, ◌∷◌, [], length, IfOk, OnOk, List, ℕ};
 ghost use Rattle.adapter_code.specs.Layout.{Fits};

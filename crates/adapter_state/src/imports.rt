@@ -1,4 +1,4 @@
-// What the module imports: the functions that drop the host's handles.
+//! What the state module imports: for each kind that the host has, the function that drops a handle.
 
 ghost use Rattle.std.specs.Prelude.{◌≡◌, ◌+◌, ◌<◌, ◌≤◌, ◌^◌, ◌++◌, length, IfOk, OnOk};
 ghost use Rattle.adapter_state.specs.State.{each_kind, drop_import, drop_call, hosts, drop_calls};

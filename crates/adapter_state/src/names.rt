@@ -1,4 +1,4 @@
-// The names of imports and exports.
+//! The names of imports and exports that have the number of a kind in them.
 
 ghost use Rattle.std.specs.Prelude.{◌≡◌, ◌++◌, IfOk, codes};
 ghost use Rattle.std.specs.Fmt.{decimal};

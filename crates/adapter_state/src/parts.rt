@@ -1,3 +1,5 @@
+//! What the state module is made for: the kinds of resources in its world, and which post-returns there are.
+
 /// Whether the adapter's world has a kind of resource, and whether the host has it too.
 #[derive(Clone, Copy, PartialEq, Eq, Debug)]
 pub enum Presence {

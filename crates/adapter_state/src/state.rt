@@ -1,4 +1,4 @@
-// The module.
+//! The state module, put together: types, imports, memory, global, static data and functions.
 
 ghost use Rattle.std.specs.Prelude.{◌≡◌, ◌≤◌, length, IfOk};
 ghost use Rattle.core_validate.specs.Validity.{IsValidModule};

@@ -1,4 +1,5 @@
-// The functions of stubs.
+//! The bodies of the stubs' functions: the routine before, and where it leaves a flag that is not 0, the call of the host's function and
+//! the routine after.
 
 ghost use Rattle.std.specs.Prelude.{◌≡◌, suc, ◌+◌, ◌<◌, ◌≤◌, ◌^◌, max, ◌++◌, ◌∷◌, [], IfOk, OnOk, length};
 ghost use Rattle.adapter_code.specs.Code.{code_of};

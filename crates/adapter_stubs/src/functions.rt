@@ -1,4 +1,4 @@
-// The functions that the module defines.
+//! The functions that the stubs module defines and exports, one for each stub.
 
 ghost use Rattle.std.specs.Prelude.{◌≡◌, ◌+◌, ◌<◌, ◌^◌, length, IfOk};
 ghost use Rattle.adapter_stubs.specs.Stubs.{stub_function, stub_functions, AreStubs};

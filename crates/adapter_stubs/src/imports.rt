@@ -1,4 +1,5 @@
-// What the module imports.
+//! What the stubs module imports: the memory and realloc of the state module, what makes handles of each kind, and the functions of the
+//! host that stubs ask.
 
 ghost use Rattle.std.specs.Prelude.{◌≡◌, ◌+◌, ◌<◌, ◌≤◌, ◌^◌, ◌++◌, ◌∷◌, [], length, IfOk, OnOk};
 ghost use Rattle.adapter_code.specs.Layout.{Fits};

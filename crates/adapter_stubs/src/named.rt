@@ -1,4 +1,4 @@
-// How many locals a routine needs.
+//! How many locals a routine needs, so that each that it names is there.
 
 ghost use Rattle.std.specs.Prelude.{◌≡◌, max, suc, ◌≤◌, ◌^◌};
 ghost use Rattle.adapter_code.specs.Code.{Stop, before, code_of};
@@ -54,7 +54,7 @@ fn named_plainly(statement: &Statement) -> u64
     }
 }
 
-// The local behind one.
+// The local after one.
 fn behind(local: u32) -> u64
     ensures { result ≡ suc local }
 {

@@ -1,3 +1,5 @@
+//! A stub: what a function of the adapter does, by two routines and the host's function that may be asked between them.
+
 use adapter_code::Statements;
 use wasm_ast::CoreFunc;
 

@@ -1,4 +1,4 @@
-// The module.
+//! The stubs module, put together from its types, imports and functions.
 
 ghost use Rattle.std.specs.Prelude.{◌≡◌, ◌≤◌, length, IfOk};
 ghost use Rattle.core_validate.specs.Validity.{IsValidModule};

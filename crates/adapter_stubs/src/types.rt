@@ -1,4 +1,5 @@
-// The types of the functions that are imported and defined.
+//! The function types of the stubs module: those of what drops a handle, of realloc and of what makes a handle; then those of the host's
+//! functions, and then those of the stubs.
 
 ghost use Rattle.std.specs.Prelude.{◌≡◌, ◌++◌, ◌∷◌, [], IfOk, OnOk};
 ghost use Rattle.adapter_compile.specs.Handles.{makes_type, drops_type};

@@ -1,4 +1,5 @@
-// The locals of a stub.
+//! The widths of a stub's locals: of its parameters, the flag, what goes to the host and the result, and then of those that its routines
+//! name.
 
 ghost use Rattle.std.specs.Prelude.{◌≡◌, ◌+◌, ◌-◌, ◌++◌, IfOk, OnOk, max};
 ghost use Rattle.adapter_code.specs.Code.{code_of};
@@ -43,7 +44,7 @@ fn put_host(widths: &mut Vec<Width>, host: &Option<HostFunc>) -> Result<(), NoMe
     }
 }
 
-// How many locals the routines name behind the first ones.
+// How many locals the routines name after the first ones.
 fn named_behind(stub: &Stub, first: u64) -> u64
     ensures { result ≡ max (span (code_of stub.now.before.items)) (span (code_of stub.now.after.items)) - first }
 {

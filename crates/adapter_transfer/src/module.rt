@@ -1,4 +1,4 @@
-// Modules from their parts.
+//! Core modules from their parts: the functions that a module defines are exported in order, each by its name.
 
 ghost use Rattle.std.specs.Prelude.{◌≡◌, ◌+◌, ◌<◌, ◌^◌, length, IfOk};
 ghost use Rattle.adapter_transfer.specs.Module.{module_of};

@@ -1,3 +1,5 @@
+//! Laws of valid code (WebAssembly Core 2.0, section 3.3): of routines, of pieces one after another, and of bodies and whole functions.
+
 ghost use Rattle.adapter_transfer.specs.Valid.{RoutinesAreValid, PiecesJoin, BodiesAreValid, FunctionsAreValid};
 
 /// The code of a well-formed routine has its type by the rules of validation (WebAssembly Core 2.0, section 3.3), and keeps
@@ -6,7 +8,7 @@ pub fn routines_are_valid()
     ensures { RoutinesAreValid }
 {}
 
-/// Code behind code is valid where both are.
+/// Code after code is valid where both are.
 pub fn pieces_join()
     ensures { PiecesJoin }
 {}

@@ -1,3 +1,5 @@
+//! Whether parameters borrow a handle of a kind that can't be the host's: no call of such a function asks the host.
+
 #![tactic(auto, using(crate::proofs::Labels::borrows_of))]
 
 ghost use Rattle.std.specs.Prelude.{◌≡◌, []};

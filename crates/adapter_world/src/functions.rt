@@ -1,3 +1,6 @@
+//! The functions of the host that an output needs: its application asks for them, and under the policy some call of them asks the host.
+//! They are found by their names, and by their places among all that the application asks for.
+
 ghost use Rattle.std.specs.Prelude.{◌≡◌, ◌++◌, IfOk, OnOk, map, nat_eq};
 ghost use Rattle.std.specs.List.{list_any};
 ghost use Rattle.ref_rules.specs.Seen.{access_of};

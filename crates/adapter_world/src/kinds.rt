@@ -1,3 +1,5 @@
+//! Whether a handle of a kind can be the host's, by what the policy leaves to the host.
+
 ghost use Rattle.std.specs.Prelude.{◌≡◌, ◌||◌};
 ghost use Rattle.reference_step.specs.Access.{any_sockets, asks_folders, can_be_host, host_input, host_kinds, host_output, is_host_stream, all_files, is_hosted, by_monotonic};
 

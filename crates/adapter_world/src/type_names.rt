@@ -1,3 +1,5 @@
+//! Names of types, each with the number of the listed interface in which it is known.
+
 use virt_base::{Items, Text};
 
 /// A name of a type in the interface with a number.

@@ -1,3 +1,5 @@
+//! Rows: calls of files and of a sink in memory, with what they answer where calls fail at listed places.
+
 use crate::rows::{number_in, parts, printed, same};
 use outside::{
     Contents, Entries, Entry, EntryKind, FileFail, Files, MemFiles, MemSink, Named, Places, Sink,
@@ -84,7 +86,7 @@ fn answer(a: Global, files: &mut MemFiles, asked: &str) -> Result<String, Fail> 
     printed(a, &(answer, len, files.faults()))
 }
 
-/// Each row: a name, a call and its number, and behind ` => ` its answer.
+/// Each row: a name, a call and its number, and after ` => ` its answer.
 fn runs(a: Global, failing: &[u64], rows: &str) -> Result<(), Fail> {
     let mut files = files_with(a, failing)?;
     for row in rows.lines() {
@@ -147,7 +149,7 @@ fn gives_what_it_holds(rt: HostRuntime) -> Result<(), Fail> {
     same("what is held", found.as_str(), wanted)
 }
 
-/// Each row: what is put, and behind ` => ` how it goes, what the sink holds then, and how many calls failed so far.
+/// Each row: what is put, and after ` => ` how it goes, what the sink holds then, and how many calls failed so far.
 const PUTS: &str = "\
 1 => Ok(()) [49] 0
 2 => Err(PutFailed) [49] 1

@@ -1,3 +1,5 @@
+//! Rows: the readers and writers that every binary format shares: literals, numbers, counted lists, bytes and names.
+
 use crate::rows::{hold, parts, printed, same};
 use std::alloc::Global;
 use std::test::Fail;
@@ -98,7 +100,7 @@ fn lists(rt: HostRuntime) -> Result<(), Fail> {
     same("lists", found.as_str(), wanted)
 }
 
-/// What is written, one behind the other: a byte and bytes, four numbers, three lists, bytes, and a name.
+/// What is written, one after the other: a byte and bytes, four numbers, three lists, bytes, and a name.
 const WRITTEN: &str = "ff6f6b\
     e58e26c0bb78ff7ec000\
     0105020506028001\

@@ -1,9 +1,11 @@
+//! Rows: numbers in LEB128, read and written (WebAssembly Core 2.0, section 5.2.2).
+
 use crate::rows::{hold, number_in, parts, printed};
 use std::alloc::Global;
 use std::test::Fail;
 use virt_base::{Cursor, read_s32, read_s33, read_s64, read_u32, write_s64, write_u32};
 
-/// Numbers in bytes, and behind each what is read and the place behind it: WebAssembly Core 2.0, section 5.2.2, and the values
+/// Numbers in bytes, and after each what is read and the place after it: WebAssembly Core 2.0, section 5.2.2, and the values
 /// of its test suite's `binary-leb128`.
 const READS: &str = "\
 leb u32 00 => (Ok(0), 1)
@@ -40,7 +42,7 @@ leb s64 8080808080808080807e => (Err(TooLong), 0)
 leb s64 ffffffffffffffffff01 => (Err(TooLong), 0)
 leb s64 8080808080808080808000 => (Err(TooLong), 0)";
 
-/// What is written behind the byte 2a: the examples of DWARF 4, section 7.6, which the standard's LEB128 comes from, and the
+/// What is written after the byte 2a: the examples of DWARF 4, section 7.6, which the standard's LEB128 comes from, and the
 /// ends of the ranges.
 const WRITES: &str = "\
 write u32 2 => 2a02

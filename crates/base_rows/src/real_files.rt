@@ -1,3 +1,6 @@
+//! A test of the machine's files and standard output: what is written is read again, and a file that is too long is told from one that
+//! is missing.
+
 use outside::{FileFail, Files, Sink};
 use real_outside::{RealFiles, RealSink};
 use std::io;

@@ -1,3 +1,5 @@
+//! A test of counted steps: a counter starts, and takes two.
+
 ghost use Rattle.std.specs.Prelude.{◌≡◌, ◌<◌};
 
 use std::marker::Brand;

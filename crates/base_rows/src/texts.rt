@@ -1,3 +1,6 @@
+//! Rows: bytes that are texts and bytes that are none (The Unicode Standard, table 3-7), how texts compare, and how much memory kept items
+//! take.
+
 use crate::rows::{hold, printed, same};
 use std::alloc::Global;
 use std::mem::size_of;

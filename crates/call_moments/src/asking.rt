@@ -1,3 +1,5 @@
+//! The call by which the host is asked for an import.
+
 ghost use Rattle.std.specs.Prelude.{◌≡◌, IfOk};
 ghost use Rattle.wit_types.specs.PlainValue.{plain_value};
 ghost use Rattle.host_port.specs.Calls.{plain_call};

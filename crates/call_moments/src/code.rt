@@ -1,3 +1,5 @@
+//! The law that core code of an instance runs as defined.
+
 ghost use Rattle.comp_worlds.specs.Groups.{Group};
 ghost use Rattle.call_moments.specs.CodeLaws.{CodeBegins, CodeGoes, CodeGetsResults};
 

@@ -1,3 +1,5 @@
+//! How many calls are in progress, and the most that may be.
+
 ghost use Rattle.std.specs.Prelude.{◌≡◌, ◌≤◌, ◌+◌, IfSome, IfNone};
 
 /// The most calls in progress.
@@ -18,7 +20,7 @@ impl Depth {
         Depth { calls: 0 }
     }
 
-    /// One more than so many, unless these are the most.
+    /// One more than that many, unless these are the most.
     pub fn above(calls: u32) -> Option<Depth>
         ensures deeper { IfSome result (λ depth. depth.calls ≡ calls + 1) }
         ensures full { IfNone result (65536 ≤ calls) }

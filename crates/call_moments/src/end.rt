@@ -1,3 +1,5 @@
+//! How a run ends, and why it stops before it is done.
+
 use core_store::StoreFault;
 use instance_state::HandleFault;
 use std::alloc::{AllocError, AllocFailed};

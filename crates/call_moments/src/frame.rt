@@ -1,3 +1,5 @@
+//! Calls in progress: core code that runs, why it runs, and so what follows once it ends.
+
 ghost use Rattle.std.specs.Prelude.{◌≡◌, true};
 ghost use Rattle.abi_store.specs.Plan.{is_due};
 

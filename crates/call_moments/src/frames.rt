@@ -1,3 +1,5 @@
+//! Laws of frames, which stand for core code in progress: the innermost gets its results, and code begins inside the others.
+
 ghost use Rattle.comp_worlds.specs.Groups.{Group};
 ghost use Rattle.call_moments.specs.FrameLaws.{ResultsComeBack, CodeBeginsInside};
 

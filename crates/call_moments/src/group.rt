@@ -1,3 +1,5 @@
+//! What the instances of a component have in common: canonical functions, the owners of resources, and the resources of imports.
+
 ghost use Rattle.std.specs.Prelude.{◌≡◌, IfOk, option_map};
 ghost use Rattle.instance_state.specs.Targets.{func_of};
 ghost use Rattle.call_moments.specs.Grouped.{canon_in};

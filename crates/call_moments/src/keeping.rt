@@ -1,3 +1,5 @@
+//! Laws of what stays of an instance while code runs in it: its functions and memories, code that awaits results, handles that are lent.
+
 ghost use Rattle.call_moments.specs.KeptLaws.{StoresStay, StoresGrow, HostsFunctionsAreAsked, StoresAreLeft};
 ghost use Rattle.call_moments.specs.LoanLaws.{HandlesStayWhileLent};
 

@@ -1,3 +1,5 @@
+//! Laws of the steps of a call: how it begins, what a host answers, and what is done to one instance of a world.
+
 ghost use Rattle.call_moments.specs.Configs.{InstancesAct, StoresBegin};
 ghost use Rattle.call_moments.specs.Laws.{CallsBegin, HostsAnswer};
 

@@ -1,3 +1,6 @@
+//! Values that pass out of an instance and into one, with their handles and loans (Component Model, CanonicalABI.md, "Lifting and Lowering
+//! Values").
+
 #![tactic(auto, using(crate::proofs::Plans::plans, crate::proofs::Faults::faults))]
 
 ghost use Rattle.std.specs.Prelude.{◌≡◌, IfOk, OnOk, Some, None, false, true};

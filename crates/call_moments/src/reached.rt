@@ -1,3 +1,5 @@
+//! The memory that a canonical function names, and whether it is there where values of a type need one.
+
 ghost use Rattle.std.specs.Prelude.{◌≡◌, ◌<◌, IfSome, IfNone, IsTrue, IsFalse, Some, true, length};
 ghost use Rattle.wit_types.specs.Plain.{plain};
 ghost use Rattle.instance_state.specs.Passed.{needs_memory, IsInStore};

@@ -1,3 +1,5 @@
+//! Parameters and results as tuples, which are the values that pass between instances.
+
 #![tactic(auto, using(wit_types::proofs::ValueLemmas::values, crate::proofs::Firsts::firsts))]
 
 ghost use Rattle.std.specs.Prelude.{◌≡◌, IfOk, pos};

@@ -1,3 +1,5 @@
+//! Core values of 32 bits: arguments and results of canonical functions, and the arguments of `realloc`.
+
 ghost use Rattle.std.specs.Prelude.{◌≡◌, ◌∷◌, [], IfOk, Some, slice_get};
 ghost use Rattle.core_store.specs.declared.value.CoreValue.TheVariants.{I32 as Word};
 ghost use Rattle.call_moments.specs.Words.{word_in, only_word_in};

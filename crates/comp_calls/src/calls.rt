@@ -1,3 +1,6 @@
+//! Canonical calls that core code asks for, and calls from outside: where each leads, and what the host answers (Component Model,
+//! CanonicalABI.md, `canon_lower`).
+
 #![tactic(auto, using(crate::proofs::Working::works))]
 
 ghost use Rattle.std.specs.Prelude.{◌≡◌, ◌≤◌, ◌<◌, ◌+◌, OnOk, option_map};
@@ -34,7 +37,7 @@ fn answer_in(tuple: Option<Value>) -> Option<Value>
 }
 
 impl<H: Host> World<H> {
-    /// Core code of an instance asks for a canonical call, where so many calls are in progress.
+    /// Core code of an instance asks for a canonical call, where that many calls are in progress.
     pub(crate) fn answer(
         &mut self,
         alloc: Global,

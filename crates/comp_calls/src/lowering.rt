@@ -1,3 +1,6 @@
+//! Parameters and results are lowered into an instance, from request to request for memory, each of which runs `realloc` (Component Model,
+//! CanonicalABI.md, "Lifting and Lowering Values").
+
 #![tactic(auto, using(crate::proofs::Working::works))]
 
 ghost use Rattle.std.specs.Prelude.{◌≡◌, ◌≤◌, ◌<◌, ◌+◌, OnOk, IsTrue, None};

@@ -1,3 +1,6 @@
+//! Canonical calls on resources, and the destructors that they run (Component Model, CanonicalABI.md, `canon_resource_new`,
+//! `canon_resource_rep`, `canon_resource_drop`).
+
 #![tactic(auto, using(crate::proofs::Working::works))]
 
 ghost use Rattle.std.specs.Prelude.{◌≡◌, ◌≤◌, ◌<◌, ◌+◌, nat_eq, OnOk};
@@ -59,7 +62,7 @@ impl<H: Host> World<H> {
         self.resume(&one_word(alloc, rep)?)
     }
 
-    /// `resource.drop`, where so many calls are in progress.
+    /// `resource.drop`, where that many calls are in progress.
     pub(crate) fn drop_resource(
         &mut self,
         alloc: Global,

@@ -1,3 +1,5 @@
+//! A call of a lifted function, from its beginning to its post-return (Component Model, CanonicalABI.md, `canon_lift`).
+
 #![tactic(auto, using(crate::proofs::Working::works))]
 
 ghost use Rattle.std.specs.Prelude.{◌≡◌, ◌≤◌, ◌<◌, ◌+◌, OnOk};

@@ -1,3 +1,5 @@
+//! The instances of a component and their host, with the core code in progress, and the loop by which it goes on from pause to pause.
+
 #![tactic(auto, using(crate::proofs::Working::works))]
 
 ghost use Rattle.std.specs.Prelude.{◌≡◌, ◌≤◌, ◌<◌, ◌+◌, ◌++◌, ◌∷◌, [], reverse, OnOk, IfOk};
@@ -83,7 +85,7 @@ impl<H: Host> World<H> {
         Ok(())
     }
 
-    /// A canonical call begins, where so many calls are in progress: it takes its step before it is counted.
+    /// A canonical call begins, where that many calls are in progress: it takes its step before it is counted.
     pub(crate) fn begin_call(&mut self, calls: u32) -> Result<Depth, Stop>
         ensures begins { BeginsCall self.old.budget calls self.new.budget result }
         ensures frames { OnOk result (self.new.frames.items ≡ self.old.frames.items) }

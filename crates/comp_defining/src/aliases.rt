@@ -1,3 +1,5 @@
+//! Outer aliases by where they stand: in a component, or among the declarations of an instance type, where they name types alone.
+
 ghost use Rattle.std.specs.Prelude.{List, IfOk};
 ghost use Rattle.wasm_ast.specs.declared.component.Alias.TheVariants.{Outer as OuterAlias};
 ghost use Rattle.wasm_ast.specs.declared.component.TypeAlias.TheVariants.{Outer as OuterType};

@@ -1,3 +1,5 @@
+//! The part of rule 12 that is about definitions of types: `own` and `borrow` name a resource.
+
 ghost use Rattle.std.specs.Prelude.{◌≡◌};
 ghost use Rattle.comp_types.specs.Declarations.{ATypeDef};
 ghost use Rattle.comp_types.specs.Definitions.{AType};

@@ -1,3 +1,5 @@
+//! The part of rule 11 that is about definitions of types: a value type stands wherever one is due.
+
 ghost use Rattle.std.specs.Prelude.{◌≡◌};
 ghost use Rattle.std.specs.List.{list_all};
 ghost use Rattle.comp_types.specs.Rules.{def_has_values, if_there, is_value, value_is_due};

@@ -1,3 +1,5 @@
+//! The rules that are asked of a definition of a type, in order, and the least that it breaks.
+
 ghost use Rattle.std.specs.Prelude.{◌≡◌, ◌&&◌, not, nat_le, List, IfOk};
 ghost use Rattle.wasm_ast.specs.declared.component.TypeDef.TheVariants.{Func};
 ghost use Rattle.comp_facts.specs.Handles.{has_borrow};

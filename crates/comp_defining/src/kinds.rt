@@ -1,3 +1,5 @@
+//! The type for which each form of a definition stands (Component Model, Binary.md, "Type Definitions").
+
 #![tactic(auto, using(wit_types::proofs::PlainLemmas::plains))]
 
 ghost use Rattle.std.specs.Prelude.{◌≡◌, [], IfOk, Some, map, option_map};

@@ -1,3 +1,5 @@
+//! Copies of labels, since the types of flags and enumerations own theirs.
+
 ghost use Rattle.std.specs.Prelude.{◌≡◌, IfOk};
 
 use std::alloc::Global;

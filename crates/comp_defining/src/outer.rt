@@ -1,3 +1,6 @@
+//! Outer aliases of types, modules and components: the rules that are asked of them, and what they add to the innermost scope (Component
+//! Model, Binary.md, "Alias Definitions").
+
 ghost use Rattle.std.specs.Prelude.{◌≡◌, ◌∷◌, List, IfOk, OnOk, slice_get};
 ghost use Rattle.std.specs.Option.{option_and_then};
 ghost use Rattle.wasm_ast.specs.declared.component.Alias.TheVariants.{Outer};

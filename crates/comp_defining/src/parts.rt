@@ -1,3 +1,5 @@
+//! The parts of a type, made from a definition in one walk: fields, types of a tuple or cases, and what is kept of all of them.
+
 ghost use Rattle.std.specs.Prelude.{◌≡◌, [], IfOk, OnOk, map, option_map};
 ghost use Rattle.comp_facts.specs.Facts.{and_part};
 ghost use Rattle.comp_defining.specs.Parts.{and_case, known_of};

@@ -1,3 +1,6 @@
+//! The scope of a definition and those around it, with one table for the value types in all of them, and one bound on the walks over
+//! entries of types that judging definitions takes.
+
 ghost use Rattle.std.specs.Prelude.{◌≡◌, [], ◌∷◌, List, OnOk, IsTrue, None, length, nat_lt, option_map, slice_get};
 ghost use Rattle.comp_types.specs.Added.{entered, opened, root};
 ghost use Rattle.comp_types.specs.Rules.{leaves_component};
@@ -11,10 +14,10 @@ use std::mem;
 use type_table::TypeTable;
 use virt_base::NoMemory;
 
-/// A walk over so many entries takes half a second.
+/// A walk over this many entries takes half a second.
 const WALKED_IN_ANY: u64 = 16_777_216;
 
-/// So many more may be walked over for each definition: a component's time and memory stay in proportion to its length.
+/// This many more may be walked over for each definition: a component's time and memory stay in proportion to its length.
 const WALKED_FOR_EACH: u64 = 512;
 
 /// A scope further out, and how many instance types stand between it and its component.
@@ -125,7 +128,7 @@ impl Scopes {
         self.inner
     }
 
-    /// The scope so many scopes further out.
+    /// The scope `count` scopes further out.
     pub fn scope_at(&self, count: u32) -> Option<&Scope>
         ensures { (around : List Space) → (s : Space) → StandAll around s self.now → EachSome Stands (slice_get (s ∷ around) count) (option_map (λ x. x.now) result) }
     {
@@ -141,7 +144,7 @@ impl Scopes {
         }
     }
 
-    /// Whether the scope so many scopes further out, if it is there, is beyond the border of the innermost component.
+    /// Whether the scope `count` scopes further out, if it is there, is beyond the border of the innermost component.
     pub fn leaves(&self, count: u32) -> bool
         ensures { (around : List Space) → (s : Space) → StandAll around s self.now → IsTrue (nat_lt count (length (s ∷ around))) → result ≡ leaves_component (s ∷ around) count }
     {

@@ -1,3 +1,5 @@
+//! Definitions of types, judged and added: to the index space of types, to the table of value types, and to the resources of the scope.
+
 ghost use Rattle.std.specs.Prelude.{◌≡◌, ℕ, List, IfOk, OnOk, Option, min};
 ghost use Rattle.wasm_ast.specs.declared.component.TypeDef.TheVariants.{Resource};
 ghost use Rattle.comp_types.specs.Added.{after_declaration, and_depth, and_resource};

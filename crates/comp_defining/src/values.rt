@@ -1,3 +1,6 @@
+//! The value types that a definition uses, each by its index or as a primitive type. For what is none `bool` stands, since another rule is
+//! at fault then.
+
 ghost use Rattle.std.specs.Prelude.{◌≡◌, IfOk, Some, option_map};
 ghost use Rattle.comp_facts.specs.Primitives.{primitive_type};
 ghost use Rattle.comp_types.specs.Spaces.{Space};

@@ -1,3 +1,5 @@
+//! The facts of a value type, made from those of its parts for each form of type.
+
 ghost use Rattle.std.specs.Prelude.{◌≡◌, ◌≤◌};
 ghost use Rattle.wit_types.specs.Plain.{Plain, Parts, ListType, RecordType, VariantType, FlagsType, OwnType, BorrowType};
 ghost use Rattle.comp_facts.specs.Primitives.{primitive_type};

@@ -1,3 +1,6 @@
+//! The forms of types that are alike in their facts: records with tuples; variants with enums, options and results. A key tells them
+//! apart.
+
 ghost use Rattle.std.specs.Prelude.{◌≡◌};
 ghost use Rattle.comp_facts.specs.Keys.{record_number, variant_number};
 ghost use Rattle.comp_facts.specs.Forms.{record_form, variant_form};

@@ -1,3 +1,6 @@
+//! The facts of a function type, and what a canonical function of this type needs: a memory, a realloc, parameters or results in memory
+//! (Component Model, Explainer.md, "Canonical ABI"; CanonicalABI.md, "Flattening").
+
 ghost use Rattle.std.specs.Prelude.{◌≡◌, ◌≤◌, false, min, nat_lt, IfSome};
 ghost use Rattle.wit_types.specs.Plain.{PlainFunc};
 ghost use Rattle.abi_layout.specs.Functions.{params_spill, result_spills};

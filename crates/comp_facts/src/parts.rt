@@ -1,3 +1,5 @@
+//! The facts of the fields or cases of a type together, which grow part by part.
+
 ghost use Rattle.std.specs.Prelude.{◌≡◌, ◌≤◌, ◌||◌};
 ghost use Rattle.wit_types.specs.Plain.{Plain, Parts, End};
 
@@ -16,7 +18,7 @@ pub struct PartFacts {
     /// A handle is in one of them, owned or borrowed.
     pub handles: bool,
     pub pointed: bool,
-    /// The flat types of the fields, one behind another.
+    /// The flat types of the fields, one after another.
     pub fields: Flat,
     /// The flat types of the payloads, joined.
     pub cases: Flat,

@@ -1,3 +1,5 @@
+//! Laws of what canonical calls of core code lead to, one step at a time. No code but laws.
+
 ghost use Rattle.comp_worlds.specs.Groups.{Group, Nesting};
 ghost use Rattle.comp_frames.specs.Laws.{CallsGoBack, CallsFromOutside, StoringGoesOn, LowersByPlans, LeavesCalls};
 

@@ -1,3 +1,6 @@
+//! Laws of core code that runs in a group: it goes from question to question, with no bound on how deep they nest, as its machine pauses.
+//! No code but laws.
+
 ghost use Rattle.std.specs.Prelude.{List};
 ghost use Rattle.comp_worlds.specs.Groups.{Group};
 ghost use Rattle.comp_worlds.specs.Hosts.{hosted};

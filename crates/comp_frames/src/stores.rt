@@ -1,3 +1,5 @@
+//! Laws of a plan of storing while it goes on: it does what the definition does, and its room stays. No code but laws.
+
 ghost use Rattle.comp_frames.specs.StoresLaws.{GoesOn, KeepsRoom, HasRoom};
 
 /// Where a plan goes on, what is left of it is done as the definition does it: to the next request for room, to the end with the flat

@@ -1,3 +1,5 @@
+//! Whether the indexes that canonical functions and exports name are there (Component Model, Explainer.md, "Index Spaces").
+
 ghost use Rattle.std.specs.Prelude.{◌≡◌};
 ghost use Rattle.std.specs.List.{list_all};
 ghost use Rattle.comp_types.specs.Rules.{canon_stands, export_stands, option_stands};

@@ -1,3 +1,5 @@
+//! What is asked of a type's definition but its indexes: it is not empty, and its labels are legal and differ.
+
 ghost use Rattle.std.specs.Prelude.{◌≡◌, ◌&&◌, map, IfOk};
 ghost use Rattle.std.specs.List.{list_all};
 ghost use Rattle.comp_names.specs.Labels.{is_label};

@@ -1,3 +1,5 @@
+//! Whether the names in a list differ (Component Model, Explainer.md, "Name Uniqueness").
+
 ghost use Rattle.std.specs.Prelude.{◌≡◌, map, IfOk};
 ghost use Rattle.comp_names.specs.Same.{is_same_name};
 ghost use Rattle.comp_types.specs.CoreMatching.{same_text};

@@ -1,3 +1,5 @@
+//! Whether the indexes that core instances, instances and aliases name are there (Component Model, Explainer.md, "Index Spaces").
+
 ghost use Rattle.std.specs.Prelude.{◌≡◌, nat_lt};
 ghost use Rattle.std.specs.List.{list_all};
 ghost use Rattle.comp_types.specs.Rules.{alias_stands, core_instance_stands, core_item_stands, instance_stands, item_stands};

@@ -1,3 +1,6 @@
+//! Whether the names in a list are legal, as labels or as names of imports and exports (Component Model, Explainer.md, "Import and Export
+//! Definitions").
+
 ghost use Rattle.std.specs.Prelude.{◌≡◌, map};
 ghost use Rattle.std.specs.List.{list_all};
 ghost use Rattle.comp_names.specs.Labels.{is_label};

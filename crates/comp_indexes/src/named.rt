@@ -1,3 +1,5 @@
+//! The items that have a name, as a trait, so that lists of any of them are asked in the same way.
+
 ghost use Rattle.std.specs.Prelude.{◌≡◌, List, ℕ};
 
 use virt_base::Text;

@@ -1,3 +1,6 @@
+//! Whether the indexes that definitions of types and the declarations of instance types name are there (Component Model, Explainer.md,
+//! "Index Spaces").
+
 ghost use Rattle.std.specs.Prelude.{◌≡◌, nat_lt};
 ghost use Rattle.std.specs.List.{list_all};
 ghost use Rattle.comp_types.specs.Rules.{def_stands, desc_stands, if_there, outer_stands, some_value_stands, type_alias_stands, value_stands};

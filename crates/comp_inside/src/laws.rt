@@ -1,3 +1,5 @@
+//! Laws of a component inside another one: its index spaces, its plan and its linked form are those that it has alone, at later numbers.
+
 ghost use Rattle.comp_inside.specs.Later.{SpacesInside, PlannedInside, ValidStay};
 ghost use Rattle.comp_inside.specs.Linked.{LinkedInside, ComponentsLinkInside};
 

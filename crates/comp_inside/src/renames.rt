@@ -1,3 +1,5 @@
+//! The law of groups that differ by the numbers of their resources alone: they are observed to do the same.
+
 ghost use Rattle.comp_inside.specs.Renaming.{SameOverGroups, SameOverHosts};
 
 use host_port::Host;

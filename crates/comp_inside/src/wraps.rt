@@ -1,9 +1,12 @@
+//! Laws of what stands after or around something else: a plan after other instances, a group that surrounds another one, and a component
+//! that only hands on the exports of the one in it.
+
 ghost use Rattle.comp_inside.specs.Inside.{LinkedInside};
 ghost use Rattle.comp_inside.specs.Laws.{SurroundingDoSame, WrappedDoSame};
 
 use host_port::Host;
 
-/// What a plan makes behind other instances is what it makes alone, at other numbers of instances; its imports are what it is given.
+/// What a plan makes after other instances is what it makes alone, at other numbers of instances; its imports are what it is given.
 pub fn plans_link_inside_as_alone()
     ensures { LinkedInside }
 {}

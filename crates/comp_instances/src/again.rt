@@ -1,3 +1,5 @@
+//! A type once more in the index space of types, since an export or an import that equals it has an index of its own.
+
 ghost use Rattle.std.specs.Prelude.{◌≡◌, IfOk, OnOk, Some, slice_get};
 ghost use Rattle.comp_types.specs.Views.{item_of};
 ghost use Rattle.comp_types.specs.Added.{and_again, and_some_type};

@@ -1,3 +1,5 @@
+//! Aliases of what instances export, in a component or in an instance type (Component Model, Binary.md, "Alias Definitions").
+
 ghost use Rattle.std.specs.Prelude.{◌≡◌, List, IfOk, OnOk, nat_lt, slice_get, option_map};
 ghost use Rattle.std.specs.Option.{option_and_then};
 ghost use Rattle.wasm_ast.specs.declared.component.Alias.TheVariants.{Export as AnExport};

@@ -1,3 +1,6 @@
+//! Rule 24: whether an item is what the annotation of its name says, a constructor, method or static function of a resource
+//! (Component Model, Explainer.md, "Import and Export Definitions").
+
 #![tactic(auto, using(wit_types::proofs::PlainLemmas::plains))]
 
 ghost use Rattle.std.specs.Prelude.{◌≡◌, IfOk, List, ℕ, Some};

@@ -1,3 +1,5 @@
+//! Exports that an instance type declares (Component Model, Binary.md, "Type Definitions", `instancedecl`).
+
 ghost use Rattle.std.specs.Prelude.{◌≡◌, List, IfOk, OnOk, min, slice_get, true};
 ghost use Rattle.comp_types.specs.Views.{item_of};
 ghost use Rattle.comp_types.specs.Added.{and_type_export, depth_in, described, described_depth};

@@ -1,3 +1,6 @@
+//! What a description of an import or export describes (Component Model, Binary.md, "externdesc"). New resources get new numbers, and
+//! so an instance type is made anew where it declares some.
+
 ghost use Rattle.std.specs.Prelude.{◌≡◌, IfOk, OnOk, Some, []};
 ghost use Rattle.wasm_ast.specs.declared.component.ExternDesc.TheVariants.{Func as AFunc, Instance as AnInstance, Resource as AResource, TypeEq as AType};
 ghost use Rattle.comp_types.specs.Items.{End};
@@ -115,7 +118,7 @@ fn describe_instance(
 
 // ---- all descriptions
 
-/// A resource with the next number: `NoMemory` also where there is none behind it.
+/// A resource with the next number: `NoMemory` also where there is none after it.
 fn describe_resource(alloc: Global, scope: &Scope) -> Result<Described, NoMemory>
     ensures { IfOk result (λ d. (s : Space) → Stands s scope.now → IsDescribed s AResource d) }
 {

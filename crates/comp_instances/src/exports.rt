@@ -1,3 +1,5 @@
+//! Exports of a component, with or without a stated type (Component Model, Binary.md, "Import and Export Definitions").
+
 ghost use Rattle.std.specs.Prelude.{◌≡◌, List, IfOk, OnOk, None, Some, true};
 ghost use Rattle.comp_types.specs.Views.{item_of};
 ghost use Rattle.comp_types.specs.Added.{and_export};

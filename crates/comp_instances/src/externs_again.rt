@@ -1,3 +1,6 @@
+//! An exported item once more: an export adds its item to the index space of its sort (Component Model, Binary.md, "Import and Export
+//! Definitions").
+
 ghost use Rattle.std.specs.Prelude.{◌≡◌, IfOk, OnOk, Some, slice_get};
 ghost use Rattle.comp_types.specs.Views.{item_of};
 ghost use Rattle.comp_types.specs.Added.{and_again, and_some_type};

@@ -1,3 +1,5 @@
+//! The resources that arguments give for those of imports, name by name.
+
 ghost use Rattle.std.specs.Prelude.{◌≡◌, OnOk, Some};
 ghost use Rattle.comp_types.specs.Items.{InstanceItem, KindItem, ResourceKind, look_up};
 ghost use Rattle.comp_types.specs.Views.{entries_of, item_of};

@@ -1,3 +1,5 @@
+//! New numbers for resources, given in order, and the substitution that puts them in place of the old ones.
+
 ghost use Rattle.std.specs.Prelude.{◌≡◌, ◌+◌, ◌++◌, ◌∷◌, [], List, ℕ, IfOk, OnOk, length};
 ghost use Rattle.comp_types.specs.Added.{new_numbers};
 ghost use Rattle.comp_types.specs.GivenResources.{numbered};
@@ -7,7 +9,7 @@ use comp_types::Substitution;
 use std::alloc::Global;
 use virt_base::{Items, NoMemory};
 
-/// Pairs of resources with their partners, the new numbers among these, and the next number behind them.
+/// Pairs of resources with their partners, the new numbers among these, and the next number after them.
 #[derive(Drop)]
 pub struct Fresh {
     pub by: Substitution,
@@ -15,7 +17,7 @@ pub struct Fresh {
     pub next: u32,
 }
 
-/// Gives a resource the next number: `NoMemory` also where there is none behind it.
+/// Gives a resource the next number: `NoMemory` also where there is none after it.
 fn give_number(fresh: &mut Fresh, resource: u32) -> Result<(), NoMemory>
     ensures by { OnOk result (FindAlike fresh.new.by (fresh.old.by ++ (resource, fresh.old.next) ∷ [])) }
     ensures numbers { OnOk result (fresh.new.numbers ≡ fresh.old.numbers ++ fresh.old.next ∷ []) }

@@ -1,3 +1,5 @@
+//! Imports of a component (Component Model, Binary.md, "Import and Export Definitions").
+
 ghost use Rattle.std.specs.Prelude.{◌≡◌, List, IfOk, OnOk, true};
 ghost use Rattle.std.specs.List.{list_all};
 ghost use Rattle.comp_types.specs.Views.{item_of};

@@ -1,3 +1,5 @@
+//! Instances that are written out: the items that they name, and whether annotated names among them fit.
+
 ghost use Rattle.std.specs.Prelude.{◌≡◌, [], IfOk, OnOk, option_map};
 ghost use Rattle.comp_types.specs.Views.{item_of};
 ghost use Rattle.comp_types.specs.Added.{and_some_entry, named_items};
@@ -46,7 +48,7 @@ pub fn named_items(
     Ok(entries)
 }
 
-/// Whether the name of an item, if it is there, fits behind those entries.
+/// Whether the name of an item, if it is there, fits after those entries.
 fn some_name_fits(
     alloc: Global,
     entries: &InstanceEntries,
@@ -64,7 +66,7 @@ fn some_name_fits(
     }
 }
 
-/// Whether the name of each item fits behind those before it.
+/// Whether the name of each item fits after those before it.
 pub fn names_fit(alloc: Global, scope: &Scope, items: &[NamedItem]) -> Result<bool, NoMemory>
     ensures { IfOk result (λ fits. (s : Space) → Stands s scope.now → fits ≡ names_fit_in s [] items.now) }
 {

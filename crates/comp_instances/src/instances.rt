@@ -1,3 +1,5 @@
+//! Definitions of instances: one that is written out, or an instantiated component (Component Model, Binary.md, "Instance Definitions").
+
 ghost use Rattle.std.specs.Prelude.{◌≡◌, List, IfOk, OnOk, true};
 ghost use Rattle.wasm_ast.specs.declared.component.Instance.TheVariants.{Inline};
 ghost use Rattle.comp_types.specs.Items.{InstanceItem};

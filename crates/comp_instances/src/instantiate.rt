@@ -1,3 +1,5 @@
+//! Instantiated components: whether arguments meet the imports, and the instance that is made, with new numbers for its own resources.
+
 ghost use Rattle.std.specs.Prelude.{◌≡◌, List, IfOk, OnOk, slice_get, true};
 ghost use Rattle.std.specs.Bool.{Decides};
 ghost use Rattle.wasm_ast.specs.declared.component.Instance.TheVariants.{Instantiate};

@@ -1,3 +1,5 @@
+//! Whether the types that a description names are of its kind, and which resources they name.
+
 ghost use Rattle.std.specs.Prelude.{◌≡◌, IfOk, [], None, Some};
 ghost use Rattle.comp_types.specs.Views.{kind_of};
 ghost use Rattle.comp_types.specs.GivenResources.{distinct, named_in_func, named_in_kind};

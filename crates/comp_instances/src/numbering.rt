@@ -1,3 +1,5 @@
+//! Lists of resources by number: whether some are among others, and those in a component's exports that no import gives.
+
 ghost use Rattle.std.specs.Prelude.{◌≡◌, ◌++◌, [], ◌∷◌, List, ℕ, IfOk, OnOk};
 ghost use Rattle.std.specs.List.{list_all};
 ghost use Rattle.comp_types.specs.GivenResources.{distinct, is_among, named_in, without};

@@ -1,3 +1,5 @@
+//! Rule 22: whether an exported item is of the type that the export states.
+
 ghost use Rattle.std.specs.Prelude.{◌≡◌, IfOk, Some, is_some, option_map};
 ghost use Rattle.std.specs.Bool.{Decides};
 ghost use Rattle.wasm_ast.specs.declared.component.ExternDesc.TheVariants.{Func as AFunc, Instance as AnInstance, TypeEq as AType};

@@ -1,3 +1,5 @@
+//! The instances of a component are made by its plans, one item after another, with a list of levels in place of recursion.
+
 ghost use Rattle.std.specs.Prelude.{◌≡◌, ◌+◌, ◌<◌, [], false, None, IfOk};
 ghost use Rattle.core_store.specs.State.{empty};
 ghost use Rattle.comp_worlds.specs.Calls.{at_rest};

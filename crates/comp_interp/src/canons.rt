@@ -1,3 +1,6 @@
+//! Canonical functions and resources of an instance that is made (Component Model, CanonicalABI.md, `canon lower`, `canon resource.new`,
+//! `canon resource.rep` and `canon resource.drop`).
+
 ghost use Rattle.std.specs.Prelude.{◌≡◌, ◌+◌, List, ℕ, Option, IfOk, IfSome, length, option_map};
 ghost use Rattle.comp_types.specs.Added.{takes_one, takes_and_gives};
 ghost use Rattle.comp_link.specs.Plans.{Lowers, NewResource};

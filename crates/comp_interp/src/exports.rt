@@ -1,3 +1,5 @@
+//! The exported function of a name, and where calls of it lead.
+
 ghost use Rattle.std.specs.Prelude.{◌≡◌, List, Some, IfOk, option_map, option_copied, option_and_then};
 ghost use Rattle.comp_link.specs.Linking.{Givens as GroupGivens, target_in, exported as exported_by};
 ghost use Rattle.instance_state.specs.Targets.{target_of as target_of_group};
@@ -18,7 +20,7 @@ struct Names {
     function: Text,
 }
 
-/// What stands before the first `#` of a name, and behind it; where it has none, all stands behind.
+/// What stands before the first `#` of a name, and after it; where it has none, all stands after.
 fn cut(name: &str) -> (&str, &str)
     ensures { (result.0.now, result.1.now) ≡ cut name.now }
 {

@@ -1,3 +1,6 @@
+//! One item of a plan is made: a module is instantiated and its start function runs, a nested component begins to be made, and any other
+//! item is added to the instance.
+
 ghost use Rattle.std.specs.Prelude.{IfOk};
 ghost use Rattle.core_validate.specs.Validity.{IsValidModule};
 ghost use Rattle.core_instance.specs.Matching.{HasCounts};

@@ -1,3 +1,5 @@
+//! The law that the linked form of a valid component can be made.
+
 ghost use Rattle.comp_interp.specs.Sound.{LinkedCanBeMade};
 
 /// What linking answers for a valid component that bytes spell can be made.

@@ -1,3 +1,5 @@
+//! An instance that is being made, with its plan and how far that has come. Levels stand in a list, from the outermost component in.
+
 use crate::part::Part;
 use instance_making::Making;
 

@@ -1,3 +1,6 @@
+//! Which plan of a linked component is followed, and what stands in it: items, own resources, and the modules and components that it can
+//! name.
+
 ghost use Rattle.std.specs.Prelude.{◌≡◌, option_map, slice_get};
 ghost use Rattle.wasm_ast.specs.Boxed.{Held as HeldValue};
 ghost use Rattle.wasm_ast.specs.declared.module.Module.{Module as TheModule};

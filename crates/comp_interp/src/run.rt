@@ -1,3 +1,5 @@
+//! A component over a host from its first step to its last: its instances are made, and then its exports are called.
+
 ghost use Rattle.std.specs.Prelude.{◌≡◌, IfOk};
 ghost use Rattle.comp_interp.specs.Sound.{CanBeMade};
 ghost use Rattle.comp_interp.specs.Runs.{host_in, IsNew};
@@ -38,7 +40,7 @@ fn end_of(came: Result<Option<Value>, Stop>) -> Result<RunEnd, NoMemory>
 }
 
 impl<H: Host> Run<H> {
-    /// A component before its first step, with so many steps for the whole run.
+    /// A component before its first step, with that many steps for the whole run.
     pub fn new(alloc: Global, linked: Linked, host: H, budget: u64) -> Run<H>
         requires { CanBeMade linked }
         ensures { IsNew linked (H.kept host) budget (H.kept (host_in result)) result }

@@ -1,3 +1,5 @@
+//! A linked component that can be made, by an invariant of the type, so that each step of its plans finds what it needs.
+
 ghost use Rattle.std.specs.Prelude.{◌≡◌};
 ghost use Rattle.comp_interp.specs.Sound.{CanBeMade};
 

@@ -1,3 +1,5 @@
+//! Readers of aliases (Component Model, Binary.md, "Alias Definitions"). Those in instance types are read in `type_items`.
+
 ghost use Rattle.std.specs.Prelude.{◌≡◌, ◌∷◌, []};
 ghost use Rattle.virt_base.specs.Place.{place};
 ghost use Rattle.wasm_format.specs.Format.{Format, behind};
@@ -49,7 +51,7 @@ fn from_outside(alloc: Global, c: &mut Cursor<'_>, sort: OuterSort) -> Result<Al
     Ok(Alias::Outer { sort, count, index })
 }
 
-/// An alias of a core item, behind 00.
+/// An alias of a core item, after 00.
 #[tactic(auto, unfolding(wasm_ast::specs::ComponentItems::core_alias_format))]
 fn core_alias(alloc: Global, c: &mut Cursor<'_>) -> Result<Alias, Stop>
     ensures input { c.new.bytes ≡ c.old.bytes }
@@ -69,7 +71,7 @@ fn core_alias(alloc: Global, c: &mut Cursor<'_>) -> Result<Alias, Stop>
     }
 }
 
-/// An alias of a type, behind 03.
+/// An alias of a type, after 03.
 #[tactic(auto, unfolding(wasm_ast::specs::ComponentItems::type_alias_format))]
 fn type_alias(alloc: Global, c: &mut Cursor<'_>) -> Result<Alias, Stop>
     ensures input { c.new.bytes ≡ c.old.bytes }

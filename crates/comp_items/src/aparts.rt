@@ -1,3 +1,5 @@
+//! A reader of values that are kept on the heap. Their format is that of the value itself.
+
 use std::alloc::Global;
 use virt_base::Cursor;
 use wasm_ast::Apart;

@@ -1,3 +1,5 @@
+//! Readers of canonical functions and their options (Component Model, Binary.md, "Canonical Definitions").
+
 ghost use Rattle.std.specs.Prelude.{◌≡◌};
 ghost use Rattle.virt_base.specs.Place.{place};
 ghost use Rattle.wasm_format.specs.Format.{Format};

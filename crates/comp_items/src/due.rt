@@ -1,3 +1,6 @@
+//! What is still to come at a place in a section of types. The section is a flat list, so this says where instance types end, and where
+//! the section does.
+
 ghost use Rattle.std.specs.Prelude.{◌≡◌, ◌-◌, OnOk, if◌then◌else◌};
 ghost use Rattle.comp_grammar.specs.TypeSections.{all_due, is_none_open, is_complete, declared, opened};
 
@@ -59,7 +62,7 @@ impl Due {
         }
     }
 
-    /// An instance type of so many declarations is met.
+    /// An instance type of that many declarations is met.
     pub fn open(&mut self, declarations: u32) -> Result<(), NoMemory>
         ensures types { OnOk result (self.new.types ≡ self.old.types) }
         ensures open_types { OnOk result (self.new.open_types ≡ opened declarations self.old.open_types) }

@@ -1,3 +1,6 @@
+//! Readers of imports and exports, their names and sorts, and the types that they state (Component Model, Binary.md, "Import and Export
+//! Definitions").
+
 ghost use Rattle.std.specs.Prelude.{◌≡◌, ◌<◌, ◌-◌};
 ghost use Rattle.virt_base.specs.Place.{place};
 ghost use Rattle.wasm_format.specs.declared.stop.Stop.TheVariants.{Unsupported};

@@ -1,3 +1,6 @@
+//! Readers of sections of types as flat lists: definitions, and the declarations of instance types, at any depth (Component Model,
+//! Binary.md, "Type Definitions").
+
 ghost use Rattle.std.specs.Prelude.{◌≡◌, OnOk};
 ghost use Rattle.virt_base.specs.Place.{place};
 ghost use Rattle.wasm_format.specs.Format.{Format};

@@ -1,3 +1,6 @@
+//! Readers of value types, function types, resources and instance types without their declarations (Component Model, Binary.md, "Type
+//! Definitions").
+
 ghost use Rattle.std.specs.Prelude.{◌≡◌, ◌<◌};
 ghost use Rattle.virt_base.specs.Place.{place};
 ghost use Rattle.wasm_format.specs.Format.{Format};

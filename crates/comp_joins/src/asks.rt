@@ -1,3 +1,5 @@
+//! The law that a valid component asks of its outside only what its type says that it imports.
+
 ghost use Rattle.comp_joins.specs.Imported.{ValidAskEntries, ValidDropImported};
 
 /// What a valid component asks of its outside stands in its type: each import of its group is an entry of the component's imports, with

@@ -1,6 +1,9 @@
+//! Laws of what the plan of a valid component names: resources that were brought or defined before. So it is linked inside another
+//! component as it is alone.
+
 ghost use Rattle.comp_joins.specs.Known.{KnownInOrder, ValidLinkInside, ValidNamesKnown};
 
-/// What a plan knows where numbers stay as they are, it knows where they become others, if numbers of its own resources one behind the
+/// What a plan knows where numbers stay as they are, it knows where they become others, if numbers of its own resources one after the
 /// other stay so.
 pub fn plans_know_in_order()
     ensures { KnownInOrder }

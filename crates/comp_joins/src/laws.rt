@@ -1,3 +1,6 @@
+//! The laws of joined components and of plugged ones, with laws that they stand on: what a plan looks up in what it is given, and in how
+//! many steps groups are made.
+
 ghost use Rattle.comp_joins.specs.Alike.{LinkedAlike, LinkedAmong};
 ghost use Rattle.comp_joins.specs.Laws.{StepsMore, JoinedDoSame, PluggedDoSame};
 

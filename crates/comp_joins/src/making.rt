@@ -1,3 +1,6 @@
+//! The law of stores while a component is made: they have as many items as the plan counts, so the places that it gives are those of the
+//! stores.
+
 ghost use Rattle.comp_joins.specs.Made.{StoresAreAsPlanned};
 
 use host_port::Host;

@@ -1,8 +1,10 @@
+//! Laws of what a plan has made so far: what comes later is added at its end, and changes neither the numbers nor the owners of resources.
+
 ghost use Rattle.comp_joins.specs.Growing.{ItemsGrow, PlansGrow};
 ghost use Rattle.comp_joins.specs.Settled.{PassAlike};
 ghost use Rattle.comp_joins.specs.SettledLaws.{NumbersStayBelow, WhatStandsIsSettled};
 
-/// A plan adds stages, canonical functions and resources at the end of those that are there; resources get numbers one behind the
+/// A plan adds stages, canonical functions and resources at the end of those that are there; resources get numbers one after the
 /// other.
 pub fn plans_add_at_the_end()
     ensures items { ItemsGrow }

@@ -1,3 +1,5 @@
+//! The law that linking a valid component is sound, and what it needs of the modules that bytes spell.
+
 ghost use Rattle.comp_joins.specs.Counts.{SpelledCount};
 ghost use Rattle.comp_joins.specs.Sound.{LinkedIsSound, LinkingIsSound};
 

@@ -1,3 +1,5 @@
+//! Canonical functions of any form (Component Model, Binary.md, "Canonical Definitions"): rule 3, and then the rules of the form.
+
 ghost use Rattle.std.specs.Prelude.{List, IfOk};
 ghost use Rattle.comp_types.specs.Definitions.{ACanon};
 ghost use Rattle.comp_types.specs.Spaces.{Space};

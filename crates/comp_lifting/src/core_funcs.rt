@@ -1,3 +1,5 @@
+//! The core functions of a scope, as the options of canonical functions look them up.
+
 ghost use Rattle.std.specs.Prelude.{ℕ};
 
 use crate::CoreFuncs;

@@ -1,3 +1,6 @@
+//! The types of core functions that canonical functions add: flattened from a function type, or those of resources (Component Model,
+//! CanonicalABI.md, "Flattening").
+
 ghost use Rattle.std.specs.Prelude.{◌≡◌, ◌∷◌, [], IfOk, OnOk};
 ghost use Rattle.virt_base.specs.declared.core_type.CoreType.TheVariants.{I32};
 ghost use Rattle.wit_types.specs.Plain.{PlainFunc};

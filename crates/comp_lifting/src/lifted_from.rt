@@ -1,3 +1,6 @@
+//! Whether a core function has the type that is needed of it: of what is lifted, a post-return, a destructor or a realloc (Component
+//! Model, CanonicalABI.md, "Flattening"). Types are compared as they stand, and none is made.
+
 ghost use Rattle.std.specs.Prelude.{◌≡◌, ◌∷◌, [], if◌then◌else◌};
 ghost use Rattle.std.specs.Cmp.Lexicographic.{pointwise};
 ghost use Rattle.virt_base.specs.declared.core_type.CoreType.TheVariants.{I32};

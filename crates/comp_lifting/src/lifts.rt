@@ -1,3 +1,6 @@
+//! Lifted functions: the rules that are asked of one, and the function that it adds (Component Model, Binary.md,
+//! "Canonical Definitions").
+
 ghost use Rattle.std.specs.Prelude.{◌≡◌, List, IfOk, true};
 ghost use Rattle.wasm_ast.specs.declared.component.Canon.TheVariants.{Lift};
 ghost use Rattle.comp_types.specs.Definitions.{ACanon};

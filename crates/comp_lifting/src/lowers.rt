@@ -1,3 +1,6 @@
+//! Lowered functions: the rules that are asked of one, and the core function that it adds (Component Model, Binary.md,
+//! "Canonical Definitions").
+
 ghost use Rattle.std.specs.Prelude.{◌≡◌, List, IfOk, slice_get, true};
 ghost use Rattle.wasm_ast.specs.declared.component.Canon.TheVariants.{Lower};
 ghost use Rattle.comp_types.specs.Added.{lowered_at};

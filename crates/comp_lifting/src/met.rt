@@ -1,3 +1,5 @@
+//! Which options were met so far, one flag for each kind, so that one walk finds an option that stands twice.
+
 ghost use Rattle.std.specs.Prelude.{◌≡◌, ◌||◌, not, false};
 ghost use Rattle.wasm_ast.specs.declared.component.CanonOption.{CanonOption};
 ghost use Rattle.comp_types.specs.Rules.{is_same_option};

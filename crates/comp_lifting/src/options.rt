@@ -1,3 +1,6 @@
+//! The options of lifted and lowered functions: none stands twice, memory and realloc are there where values need them, and functions
+//! have the types that are due (Component Model, Explainer.md, "Canonical ABI").
+
 ghost use Rattle.std.specs.Prelude.{◌≡◌, ◌||◌, not, ℕ, Option, None, Some, option_map};
 ghost use Rattle.std.specs.List.{list_all, list_any};
 ghost use Rattle.wasm_ast.specs.declared.component.CanonOption.TheVariants.{Realloc};

@@ -1,3 +1,6 @@
+//! The canonical functions `resource.new`, `resource.rep` and `resource.drop`: the rules that are asked of them, and what they add
+//! (Component Model, Binary.md, "Canonical Definitions").
+
 ghost use Rattle.std.specs.Prelude.{◌≡◌, List, IfOk, true};
 ghost use Rattle.wasm_ast.specs.declared.component.Canon.TheVariants.{ResourceDrop, ResourceNew, ResourceRep};
 ghost use Rattle.comp_types.specs.Definitions.{ACanon};

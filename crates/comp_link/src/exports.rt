@@ -1,3 +1,5 @@
+//! The law that the instance of a valid component exports what the component's type exports. No code but laws.
+
 ghost use Rattle.comp_link.specs.Exports.{ExportsAreLinked, SpelledDefine};
 
 /// What a valid component's instance exports is what the component's type exports: name by name, in order, a function of the type that

@@ -1,3 +1,6 @@
+//! The items of a plan, as code holds them: what is made, in order, when a component is instantiated (Component Model, Explainer.md,
+//! "Instance Definitions").
+
 use comp_types::{ItemType, KnownFunc};
 use std::rc::Rc;
 use virt_base::{Items, Text};

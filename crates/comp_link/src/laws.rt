@@ -1,3 +1,5 @@
+//! Laws of the group of a component: its own resources are new, and it is seen alike over related hosts. No code but laws.
+
 ghost use Rattle.comp_grammar.specs.Trees.{Tree};
 ghost use Rattle.comp_worlds.specs.Hosts.{hosted};
 ghost use Rattle.comp_worlds.specs.Observed.{stack};

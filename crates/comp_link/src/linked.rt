@@ -1,3 +1,5 @@
+//! A linked component as data: modules and plans, which name one another by number.
+
 use crate::items::PlanItem;
 use comp_types::InstanceEntries;
 use virt_base::Items;

@@ -1,3 +1,5 @@
+//! What an outer alias plans: the number of a module or a component further out comes into the draft, and a type only into the scope.
+
 #![tactic(auto, using(crate::proofs::NameLemmas::behind))]
 
 ghost use Rattle.std.specs.Prelude.{◌≡◌, ◌++◌, OnOk, option_to_list};

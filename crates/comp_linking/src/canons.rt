@@ -1,3 +1,5 @@
+//! What a canonical definition plans (Component Model, Binary.md, "Canonical Definitions").
+
 ghost use Rattle.std.specs.Prelude.{◌≡◌, List, IfOk};
 ghost use Rattle.wasm_ast.specs.Boxed.{Held};
 ghost use Rattle.wasm_ast.specs.declared.component.Canon.TheVariants.{Lift, Lower};

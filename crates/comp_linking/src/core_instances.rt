@@ -1,3 +1,5 @@
+//! What the definition of a core instance plans: one of a module, or one of named items.
+
 ghost use Rattle.std.specs.Prelude.{◌≡◌, List, IfOk};
 ghost use Rattle.wasm_ast.specs.Boxed.{Held};
 ghost use Rattle.wasm_ast.specs.declared.component.CoreInstance.TheVariants.{Instantiate};

@@ -1,3 +1,6 @@
+//! The definitions of a section, planned one after another. A trait says of each sort what it plans and adds to the index spaces; types
+//! have a module of their own.
+
 ghost use Rattle.std.specs.Prelude.{OnOk, map};
 ghost use Rattle.wasm_ast.specs.declared.component.Alias.TheVariants.{CoreExport, Export};
 ghost use Rattle.comp_types.specs.Definitions.{ACanon, ACoreInstance, AnAlias, AnExport, AnImport, AnInstance};

@@ -1,3 +1,5 @@
+//! The draft of a component: what is planned of it so far, and the modules and components that it can name.
+
 #![tactic(auto, using(comp_link::proofs::Earlier::planned))]
 
 ghost use Rattle.std.specs.Prelude.{◌≡◌, [], List, OnOk, option_map, slice_get};

@@ -1,3 +1,5 @@
+//! What an import or an export plans, with the type that it states (Component Model, Binary.md, "Import and Export Definitions").
+
 ghost use Rattle.std.specs.Prelude.{◌≡◌, List, IfOk, option_map};
 ghost use Rattle.wasm_ast.specs.Boxed.{Held};
 ghost use Rattle.wasm_ast.specs.declared.module.Module.{Module};

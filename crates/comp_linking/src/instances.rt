@@ -1,3 +1,5 @@
+//! What the definition of an instance plans (Component Model, Binary.md, "Instance Definitions").
+
 ghost use Rattle.std.specs.Prelude.{◌≡◌, List, IfOk};
 ghost use Rattle.wasm_ast.specs.Boxed.{Held};
 ghost use Rattle.wasm_ast.specs.declared.component.Instance.TheVariants.{Instantiate};

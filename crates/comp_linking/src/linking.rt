@@ -1,3 +1,5 @@
+//! A component is linked: the walk over its sections makes the plans, and the modules are taken out of its tree.
+
 ghost use Rattle.std.specs.Prelude.{◌≡◌, [], IfOk};
 ghost use Rattle.comp_grammar.specs.Trees.{plain};
 ghost use Rattle.comp_link.specs.Linking.{group_of};

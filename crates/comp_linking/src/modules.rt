@@ -1,3 +1,5 @@
+//! The modules are moved out of a component's tree, in the order in which they stand, since the linked component names them by number.
+
 #![tactic(auto, using(comp_grammar::proofs::PlainLemmas::plains, crate::proofs::ModuleLemmas::taken))]
 
 ghost use Rattle.std.specs.Prelude.{◌≡◌, ◌++◌, ◌+◌, ◌<◌, IfOk, OnOk, reverse};

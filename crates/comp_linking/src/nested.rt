@@ -1,3 +1,6 @@
+//! Components and modules in a component: the walk enters a nested component and leaves it, and its plan is kept; a module gets the next
+//! number.
+
 ghost use Rattle.std.specs.Prelude.{◌∷◌, List, OnOk};
 ghost use Rattle.wasm_ast.specs.Boxed.{Held};
 ghost use Rattle.wasm_ast.specs.declared.component.Span.{Span};

@@ -1,3 +1,6 @@
+//! The state of the walk over a component's sections: scopes and drafts from the outside in, the count of modules, and the plans of
+//! components.
+
 ghost use Rattle.std.specs.Prelude.{◌≡◌, ◌∷◌, [], List, ℕ, option_map, slice_get};
 ghost use Rattle.wasm_ast.specs.Boxed.{Held};
 ghost use Rattle.wasm_ast.specs.declared.module.Module.{Module};
@@ -39,7 +42,7 @@ impl Planner {
         }
     }
 
-    /// The draft of the component so many components further out.
+    /// The draft of the component that many components further out.
     pub fn draft_at(&self, count: u32) -> Option<&Draft>
         ensures { (ms todo : List (Held Module)) (outer : List At) (a : At) → Walks ms todo outer a self.now → AreNamed ms (made ms self.now.components.items) (slice_get (a ∷ outer) count) (option_map (λ d. d.now) result) }
     {

@@ -1,3 +1,5 @@
+//! The number of the resource at an index of a scope.
+
 ghost use Rattle.std.specs.Prelude.{◌≡◌, Some};
 ghost use Rattle.comp_types.specs.Spaces.{Space, kind_at};
 ghost use Rattle.comp_types.specs.Types.{resource_in};

@@ -1,3 +1,5 @@
+//! The walk over the sections of a component and, by recursion, of those in it.
+
 ghost use Rattle.std.specs.Prelude.{OnOk};
 ghost use Rattle.wasm_ast.specs.declared.component.Span.{Span};
 ghost use Rattle.comp_grammar.specs.Trees.{Nested, plain, plain_section, plain_sections};

@@ -1,3 +1,5 @@
+//! What a section of types plans: each definition with its declarations is taken as one, and a resource is planned with its destructor.
+
 ghost use Rattle.std.specs.Prelude.{◌≡◌, ◌≤◌, List, IfOk, OnOk, length};
 ghost use Rattle.wasm_ast.specs.Boxed.{Held};
 ghost use Rattle.wasm_ast.specs.declared.module.Module.{Module};
@@ -18,7 +20,7 @@ use std::alloc::Global;
 use virt_base::NoMemory;
 use wasm_ast::TypeItem;
 
-/// How many declarations stand behind an item.
+/// How many declarations stand after an item.
 #[tactic(auto, using(crate::proofs::FirstLemmas::declarations_counted))]
 fn declared_by(item: &TypeItem) -> u32
     ensures { result ≡ declared_by item.now }

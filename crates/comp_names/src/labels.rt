@@ -1,3 +1,5 @@
+//! Which texts are labels: words of letters and digits that `-` joins (Component Model, Explainer.md, "Import and Export Definitions").
+
 ghost use Rattle.std.specs.Prelude.{◌≡◌, ◌<◌, ◌==◌, ◌||◌, length, option_map, position, IfSome};
 ghost use Rattle.std.specs.List.{list_all, slice_split};
 ghost use Rattle.comp_names.specs.Labels.{is_digit, is_label, is_lower, is_upper, is_word, words_of};
@@ -64,7 +66,7 @@ fn place_of(text: &[u8], byte: u8) -> Option<usize>
     text.iter().position(|b| *b == byte)
 }
 
-/// What stands before the first such byte, and what behind it.
+/// What stands before the first such byte, and what after it.
 pub fn cut(text: &[u8], byte: u8) -> Option<(&[u8], &[u8])>
     ensures value { option_map (λ p. (p.0.now, p.1.now)) result ≡ cut byte text.now }
     ensures parts { slice_split (λ b. b == byte) text.now ≡ parts_with byte text.now (option_map (λ p. (p.0.now, p.1.now)) result) }

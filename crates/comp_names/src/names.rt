@@ -1,3 +1,6 @@
+//! Which names components may import and export by, and what `[constructor]`, `[method]` and `[static]` say of a function (Component
+//! Model, Explainer.md, "Import and Export Definitions").
+
 ghost use Rattle.std.specs.Prelude.{◌≡◌, option_map, codes};
 ghost use Rattle.std.specs.List.{list_all};
 ghost use Rattle.comp_names.specs.Names.{annotation_of, behind, cut, is_in_namespace, is_in_package, is_in_version, is_interface, is_legal, is_version, is_versioned, of_constructor, of_member};
@@ -12,7 +15,7 @@ pub enum Annotation {
     Static,
 }
 
-/// What stands behind a prefix.
+/// What stands after a prefix.
 fn behind<'a>(prefix: &[u8], text: &'a [u8]) -> Option<&'a [u8]>
     ensures { option_map (λ p. p.now) result ≡ behind prefix.now text.now }
 {

@@ -1,3 +1,6 @@
+//! Names that were met, so that a second one like an earlier one is found. Letters of either case are alike, or only the same names are
+//! (Component Model, Explainer.md, "Name Uniqueness").
+
 ghost use Rattle.std.specs.Prelude.{◌≡◌, ◌||◌, not, false, List, ℕ, IfOk, OnOk, OnErr};
 ghost use Rattle.comp_names.specs.Same.{is_same_name};
 ghost use Rattle.comp_names.specs.Seen.{holds, holds_text};

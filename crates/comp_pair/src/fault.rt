@@ -1,3 +1,5 @@
+//! Why two components were not put together.
+
 use virt_base::NoMemory;
 use virt_output::PieceFault;
 

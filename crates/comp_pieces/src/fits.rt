@@ -1,3 +1,5 @@
+//! What may be written or not: the trait by which each sort of item answers, and the answers of texts, numbers and lists of items.
+
 ghost use Rattle.std.specs.Prelude.{◌<◌, ◌^◌, length, IsTrue};
 ghost use Rattle.std.specs.List.{AllByRecursion};
 ghost use Rattle.wasm_format.specs.Format.{name, u32_format};

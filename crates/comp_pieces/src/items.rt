@@ -1,3 +1,6 @@
+//! Which items of sections may be written (Component Model, Binary.md): instances and core instances, aliases, canonical functions, imports
+//! and exports.
+
 ghost use Rattle.std.specs.Prelude.{IsTrue};
 ghost use Rattle.wasm_format.specs.Format.{Format};
 ghost use Rattle.wasm_ast.specs.ComponentItems.{stated_desc};

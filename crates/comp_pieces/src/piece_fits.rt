@@ -1,3 +1,5 @@
+//! Whether the items of a piece may be written, whatever section it is.
+
 ghost use Rattle.std.specs.Prelude.{IsTrue, IfOk};
 ghost use Rattle.virt_output.specs.Pieces.{ItemsFit};
 

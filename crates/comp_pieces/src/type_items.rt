@@ -1,3 +1,5 @@
+//! Which sections of types may be written: definitions alone, or one instance type with what it declares.
+
 ghost use Rattle.std.specs.Prelude.{◌≡◌, ◌∷◌, length, IfOk, IfSome, IsTrue};
 ghost use Rattle.std.specs.List.{AllByRecursion};
 ghost use Rattle.wasm_format.specs.Format.{Format};
@@ -103,7 +105,7 @@ fn declarations_of(item: &TypeItem) -> Option<u32>
     }
 }
 
-/// An instance type of so many declarations, and those.
+/// An instance type of that many declarations, and those.
 #[tactic(auto, using(crate::proofs::TypeFits::instance_law))]
 fn instance_fits(
     alloc: Global,

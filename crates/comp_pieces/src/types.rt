@@ -1,3 +1,6 @@
+//! Which definitions of types may be written (Component Model, Binary.md, "Type Definitions"). Instance types, which have declarations
+//! after them, are left to `type_items`.
+
 ghost use Rattle.std.specs.Prelude.{IfOk, IsTrue};
 ghost use Rattle.wasm_format.specs.Format.{Format};
 ghost use Rattle.comp_grammar.specs.Types.{maybe_type, func_result, destructor};

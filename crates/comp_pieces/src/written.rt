@@ -1,3 +1,5 @@
+//! Sections are written where they may be, and those that the bytes spell are kept with them.
+
 ghost use Rattle.std.specs.Prelude.{◌≡◌, [], ◌∷◌, ◌++◌, OnOk, IfOk, IfSome, IsTrue};
 ghost use Rattle.comp_grammar.specs.Trees.{plain_section};
 ghost use Rattle.virt_output.specs.Pieces.{IsPieceOf};

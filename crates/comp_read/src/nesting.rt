@@ -1,3 +1,5 @@
+//! Components in components, read by recursion up to a depth (Component Model, Binary.md, "Component Definitions").
+
 ghost use Rattle.std.specs.Prelude.{◌≡◌, length, OnOk};
 ghost use Rattle.virt_base.specs.Place.{place, rest};
 ghost use Rattle.wasm_format.specs.Format.{sized};

@@ -1,3 +1,5 @@
+//! A component is read, and a fault has its place (Component Model, Binary.md).
+
 ghost use Rattle.std.specs.Prelude.{◌≡◌};
 ghost use Rattle.comp_read.specs.Answers.{Answers};
 
@@ -11,7 +13,7 @@ use wasm_format::{Stop, expect_bytes};
 /// Why no component is read.
 #[derive(Debug, Clone, Copy, PartialEq, Eq)]
 pub enum CompReadFault {
-    /// So many bytes at the front are a component, and no more; 0 where none are.
+    /// That many bytes at the front are a component, and no more; 0 where none are.
     Malformed(u64),
     /// The byte at this offset is a tag that the table of its place lacks.
     Unsupported(u64, u8),

@@ -1,3 +1,5 @@
+//! Readers of the sections in which no component stands, by their ids (Component Model, Binary.md, "Component Definitions").
+
 ghost use Rattle.std.specs.Prelude.{◌≡◌, ◌<◌};
 ghost use Rattle.virt_base.specs.Place.{place};
 ghost use Rattle.wasm_format.specs.Format.{Format, sized};
@@ -61,7 +63,7 @@ impl Spanning<Module> for BesideModule {
     }
 }
 
-/// A custom section, behind its id.
+/// A custom section, after its id.
 #[tactic(auto, unfolding(comp_grammar::specs::Components::custom))]
 fn read_custom(alloc: Global, c: &mut Cursor<'_>) -> Result<Span, Stop>
     ensures input { c.new.bytes ≡ c.old.bytes }
@@ -72,7 +74,7 @@ fn read_custom(alloc: Global, c: &mut Cursor<'_>) -> Result<Span, Stop>
     Sized(Spanned { item, make }).read(alloc, c)
 }
 
-/// A core module, behind its id.
+/// A core module, after its id.
 #[tactic(auto, unfolding(comp_grammar::specs::Components::placed_module))]
 fn read_core_module(
     selects: &SelectLists,

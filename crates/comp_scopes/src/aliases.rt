@@ -1,3 +1,5 @@
+//! Aliases of what core instances export (Component Model, Binary.md, "Alias Definitions").
+
 ghost use Rattle.std.specs.Prelude.{◌≡◌, List, IfOk, OnOk, slice_get};
 ghost use Rattle.std.specs.Option.{option_and_then};
 ghost use Rattle.wasm_ast.specs.declared.component.Alias.TheVariants.{CoreExport};

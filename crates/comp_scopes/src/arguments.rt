@@ -1,3 +1,5 @@
+//! The arguments by which a core module is instantiated, by name, and whether they meet its imports.
+
 ghost use Rattle.std.specs.Prelude.{◌≡◌, if◌then◌else◌, List, ℕ, None, Some, OnOk, IfOk};
 ghost use Rattle.std.specs.List.{list_all};
 ghost use Rattle.wasm_ast.specs.declared.component.CoreArg.{CoreArg};

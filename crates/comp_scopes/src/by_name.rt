@@ -1,3 +1,5 @@
+//! Core items by name, as a module or a core instance exports them.
+
 ghost use Rattle.std.specs.Prelude.{◌≡◌, if◌then◌else◌, List, ℕ, None, Some, OnOk, option_map};
 ghost use Rattle.comp_types.specs.CoreMatching.{same_text};
 

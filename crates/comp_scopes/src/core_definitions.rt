@@ -1,3 +1,6 @@
+//! Definitions of core items, judged in a whole scope and added to it. What they do in the core index spaces stands in `instances` and
+//! `aliases`.
+
 ghost use Rattle.std.specs.Prelude.{List, IfOk};
 ghost use Rattle.wasm_ast.specs.declared.component.Alias.TheVariants.{CoreExport};
 ghost use Rattle.comp_types.specs.Definitions.{ACoreInstance, AnAlias};

@@ -1,3 +1,5 @@
+//! The core index spaces of a component: functions, tables, memories, globals, modules and core instances.
+
 ghost use Rattle.std.specs.Prelude.{◌≡◌, Bool, List, ℕ, OnOk, length, option_map, slice_get, option_and_then};
 ghost use Rattle.core_validate.specs.declared.item.CoreExport.{CoreExport};
 ghost use Rattle.core_validate.specs.declared.item.ModuleType.{ModuleType};

@@ -1,3 +1,5 @@
+//! What index spaces keep of a type and of a component.
+
 use comp_types::{InstanceEntries, TypeItem};
 use virt_base::Items;
 

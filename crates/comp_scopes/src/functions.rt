@@ -1,3 +1,6 @@
+//! The function type at an index, and what is kept of it. For what is none stands one without parameters and results, since another rule
+//! is at fault then.
+
 ghost use Rattle.std.specs.Prelude.{◌≡◌, IfOk, Some};
 ghost use Rattle.comp_types.specs.Views.{kind_of};
 ghost use Rattle.comp_facts.specs.Facts.{IsFuncFactsOf};

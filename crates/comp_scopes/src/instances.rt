@@ -1,3 +1,6 @@
+//! Core instances in the core index spaces: the rules that are asked of one, and what it exports (Component Model, Binary.md,
+//! "Instance Definitions").
+
 ghost use Rattle.std.specs.Prelude.{◌≡◌, List, ℕ, IfOk, OnOk, slice_get, ◌∷◌, []};
 ghost use Rattle.std.specs.Option.{option_or};
 ghost use Rattle.wasm_ast.specs.declared.component.CoreInstance.TheVariants.{Instantiate};

@@ -1,3 +1,5 @@
+//! Core items with several owners, so that an alias or an export copies no function type.
+
 ghost use Rattle.std.specs.Prelude.{◌≡◌, IfOk, option_map};
 ghost use Rattle.comp_types.specs.CoreMatching.{meets};
 ghost use Rattle.comp_types.specs.Rules.{is_of_core_sort};

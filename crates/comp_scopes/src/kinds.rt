@@ -1,3 +1,5 @@
+//! Whether the type at an index is of the kind that a definition needs: a function type or an instance type.
+
 ghost use Rattle.std.specs.Prelude.{◌≡◌};
 ghost use Rattle.comp_types.specs.Views.{kind_of};
 ghost use Rattle.comp_types.specs.Rules.{if_there, is_func, is_instance};

@@ -1,3 +1,6 @@
+//! Whether a core item may stand where another one is imported (WebAssembly Core 2.0, section 3.2, "External Types" and
+//! "Import Subtyping").
+
 ghost use Rattle.std.specs.Prelude.{◌≡◌};
 ghost use Rattle.std.specs.Cmp.Lexicographic.{pointwise};
 ghost use Rattle.core_validate.specs.declared.item.CoreItem.TheVariants.{Func, Global, Memory, Table};

@@ -1,3 +1,5 @@
+//! The type of a core module as scopes keep it, with its exports by name; and of a module of the component, by its validation.
+
 ghost use Rattle.std.specs.Prelude.{IfOk};
 ghost use Rattle.comp_scopes.specs.Found.{HasExports, IsKnownModule};
 ghost use Rattle.comp_scopes.specs.CoreJudged.{IsJudged};

@@ -1,3 +1,5 @@
+//! The imports or the exports so far, with an index of their names by which one that is alike is found.
+
 ghost use Rattle.std.specs.Prelude.{◌≡◌, IfOk, OnOk};
 ghost use Rattle.comp_types.specs.Rules.{is_new_in};
 ghost use Rattle.comp_types.specs.Items.{End, Entries, and_entry};
@@ -37,7 +39,7 @@ impl NamedEntries {
         Ok(!self.seen.contains_key(key.as_str()))
     }
 
-    /// Adds an item behind the others.
+    /// Adds an item after the others.
     pub fn push(&mut self, alloc: Global, name: &Text, item: ItemType) -> Result<(), NoMemory>
         ensures { OnOk result ((es : Entries) → HasNamed es self.old → HasNamed (and_entry es name.now (item_of item)) self.new) }
     {

@@ -1,3 +1,5 @@
+//! A list of resources by number, with an index, so that asking for one takes no walk along the list.
+
 ghost use Rattle.std.specs.Prelude.{◌≡◌, ◌++◌, ◌∷◌, [], List, ℕ, OnOk};
 ghost use Rattle.comp_types.specs.GivenResources.{is_among};
 

@@ -1,3 +1,5 @@
+//! All index spaces of a component or an instance type, and what is kept besides: imports, exports, resources and depth.
+
 ghost use Rattle.std.specs.Prelude.{◌≡◌, ℕ, IfOk, OnOk, option_map, slice_get};
 ghost use Rattle.core_validate.specs.declared.item.ModuleType.{ModuleType};
 ghost use Rattle.comp_types.specs.Items.{FuncItem, InstanceItem};

@@ -1,3 +1,5 @@
+//! Two types of functions are matched, but for the names of parameters.
+
 #![tactic(auto, using(wit_types::proofs::PlainLemmas::plains, crate::proofs::ValueLemmas::values))]
 
 ghost use Rattle.std.specs.Prelude.{◌≡◌, IfOk};

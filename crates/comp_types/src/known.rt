@@ -1,3 +1,5 @@
+//! Value types and types of functions with their facts and the keys of their parts, so that no walk finds these again.
+
 ghost use Rattle.std.specs.Prelude.{◌≡◌};
 ghost use Rattle.wit_types.specs.Plain.{plain, plain_func};
 ghost use Rattle.comp_facts.specs.Keys.{keys_in, keys_of};

@@ -1,3 +1,5 @@
+//! The facts of the fields or cases of a type, with the keys of their types in order.
+
 ghost use Rattle.std.specs.Prelude.{OnOk};
 ghost use Rattle.wit_types.specs.Plain.{Parts, End};
 ghost use Rattle.comp_facts.specs.Facts.{and_part, and_bare};

@@ -1,3 +1,5 @@
+//! How many items stand in each index space, which is all that tests of indexes ask for (Component Model, Explainer.md, "Index Spaces").
+
 /// How many items each index space holds.
 #[derive(Debug, Clone, Copy, PartialEq, Eq)]
 pub struct Lengths {

@@ -1,3 +1,5 @@
+//! The places of names in a list, found in a map.
+
 ghost use Rattle.std.specs.Prelude.{◌≡◌, if◌then◌else◌, List, ℕ, None, Some, OnErr, OnOk, string_bytes};
 ghost use Rattle.std.specs.Option.{option_or};
 ghost use Rattle.comp_types.specs.Items.{same_name};

@@ -1,3 +1,5 @@
+//! Pairs of resources, by which a type gets other resources and two types are matched.
+
 ghost use Rattle.std.specs.Prelude.{◌≡◌, [], ◌∷◌, ◌++◌, ◌<◌, length, slice_get, None, Some, IfOk, OnOk, OnErr, nat_eq};
 ghost use Rattle.std.specs.List.{IsDistinct};
 ghost use Rattle.std.specs.Map.{keys_of};
@@ -63,7 +65,7 @@ impl Substitution {
         }
     }
 
-    /// One pair more, behind the others, unless the resource has a partner already.
+    /// One pair more, after the others, unless the resource has a partner already.
     pub fn push(&mut self, resource: u32, partner: u32) -> Result<(), NoMemory>
         ensures ok { OnOk result (self.new ≡ and_pair self.old resource partner) }
         ensures err { OnErr result (self.new ≡ self.old) }

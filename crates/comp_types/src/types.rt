@@ -1,3 +1,6 @@
+//! The types of what components import and export: functions, instances and types, with what is kept of each (Component Model,
+//! Explainer.md, "Type Definitions").
+
 ghost use Rattle.std.specs.Prelude.{◌≡◌, min, option_map, IfOk, OnOk, OnErr};
 
 use crate::known::{KnownFunc, KnownValue};
@@ -175,7 +178,7 @@ impl InstanceEntries {
         }
     }
 
-    /// One entry more, behind the others. Where memory runs out, or the stack would for instances in one another, nothing changes.
+    /// One entry more, after the others. Where memory runs out, or the stack would for instances in one another, nothing changes.
     pub fn push(&mut self, name: Text, ty: ItemType) -> Result<(), NoMemory>
         ensures ok { OnOk result (self.new ≡ and_entry self.old name (item_of ty)) }
         ensures err { OnErr result (self.new ≡ self.old) }

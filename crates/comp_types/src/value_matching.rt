@@ -1,3 +1,5 @@
+//! Two value types are matched: each resource of the one gets a partner in the other. No table is asked for.
+
 #![tactic(auto, using(wit_types::proofs::PlainLemmas::plains, crate::proofs::ValueLemmas::values, crate::proofs::Only::only))]
 
 ghost use Rattle.std.specs.Prelude.{◌≡◌, IfOk, [], nat_lt, true};

@@ -1,3 +1,5 @@
+//! The sections of a component in order, with those of the components in it (Component Model, Binary.md, "Component Definitions").
+
 ghost use Rattle.std.specs.Prelude.{List, IfOk};
 ghost use Rattle.wasm_ast.specs.declared.component.Span.{Span};
 ghost use Rattle.comp_grammar.specs.Trees.{Nested, plain, plain_section, plain_sections};

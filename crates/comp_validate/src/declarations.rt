@@ -1,3 +1,6 @@
+//! Items of sections of types that are no instance types: definitions, aliases, and exports of an instance type (Component Model,
+//! Binary.md, "Type Definitions").
+
 ghost use Rattle.std.specs.Prelude.{◌≡◌, List, IfOk};
 ghost use Rattle.comp_types.specs.Declarations.{ATypeAlias, ATypeDef};
 ghost use Rattle.comp_types.specs.Definitions.{AType};
@@ -19,7 +22,7 @@ use type_table::TypeTable;
 use virt_base::NoMemory;
 use wasm_ast::{KeptType, TypeAlias, TypeItem};
 
-/// How many declarations stand behind an item, if it is an instance type.
+/// How many declarations stand after an item, if it is an instance type.
 pub fn item_count(item: &TypeItem) -> Option<u32>
     ensures { result ≡ item_count item.now }
 {

@@ -1,3 +1,6 @@
+//! Items of sections as definitions. Each kind of item has the call that judges and adds it, and a count of the entries that this walks
+//! over.
+
 ghost use Rattle.std.specs.Prelude.{List, IfOk, map};
 ghost use Rattle.comp_types.specs.Definitions.{ACanon, ACoreInstance, AnAlias, AnExport, AnImport, AnInstance};
 ghost use Rattle.comp_types.specs.Spaces.{Space};

@@ -1,3 +1,5 @@
+//! Why a component is refused: a rule that fails in a section, or out of memory.
+
 use virt_base::NoMemory;
 
 /// Why a component is refused.

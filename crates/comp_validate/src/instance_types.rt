@@ -1,3 +1,6 @@
+//! An instance type when all its declarations are judged: what is kept of its scope becomes a type in the next scope, if that is within
+//! the limits.
+
 ghost use Rattle.std.specs.Prelude.{◌≡◌, ◌&&◌, ℕ, [], ◌∷◌, List, IfOk, OnOk, None, min, nat_le};
 ghost use Rattle.comp_types.specs.Added.{and_depth, instance_type};
 ghost use Rattle.comp_types.specs.Rules.{is_within_limits};

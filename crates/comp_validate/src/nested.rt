@@ -1,3 +1,5 @@
+//! A component in the component, when all its sections are judged: what is kept of its scope becomes an item of the next scope.
+
 ghost use Rattle.std.specs.Prelude.{IfOk, OnOk};
 ghost use Rattle.comp_types.specs.Added.{and_nested, nested_of};
 ghost use Rattle.comp_types.specs.Spaces.{Space};

@@ -1,3 +1,5 @@
+//! The instance types that are open while a section of types is judged, by the number of declarations that each still has.
+
 ghost use Rattle.std.specs.Prelude.{◌≡◌, [], ◌∷◌, OnOk};
 ghost use Rattle.comp_validate.specs.Stack.{IsPopped, one_less};
 

@@ -1,3 +1,5 @@
+//! Core modules and components in a component, judged and added.
+
 ghost use Rattle.std.specs.Prelude.{◌∷◌, List, IfOk, OnOk};
 ghost use Rattle.wasm_ast.specs.declared.component.Span.{Span};
 ghost use Rattle.comp_grammar.specs.Trees.{CoreModule};

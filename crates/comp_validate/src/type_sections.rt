@@ -1,3 +1,5 @@
+//! Sections of types, item by item and without recursion: an instance type opens a scope, which closes after its last declaration.
+
 ghost use Rattle.std.specs.Prelude.{◌≡◌, [], List, IfOk, None};
 ghost use Rattle.comp_types.specs.Declarations.{Declarations, Done, grouped};
 ghost use Rattle.comp_types.specs.Definitions.{types_in};

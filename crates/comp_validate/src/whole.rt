@@ -1,3 +1,5 @@
+//! `validate`: a whole component, from an empty scope to its type or its first fault.
+
 ghost use Rattle.comp_grammar.specs.Trees.{plain};
 ghost use Rattle.comp_validate.specs.Answer.{Answers};
 

@@ -1,3 +1,5 @@
+//! The law of a group that is made of two: it does what the one does over the other. No code but the law.
+
 ghost use Rattle.std.specs.Prelude.{ℕ, List};
 ghost use Rattle.host_port.specs.Hosts.{HostStep};
 ghost use Rattle.comp_worlds.specs.Groups.{Nesting, Import, Target, Group};

@@ -1,3 +1,5 @@
+//! Laws of what is seen of a group over a host: more steps only extend it, and it is alike over hosts that are related. No code but laws.
+
 ghost use Rattle.std.specs.Prelude.{ℕ, List, Bool};
 ghost use Rattle.host_port.specs.Hosts.{HostStep};
 ghost use Rattle.comp_worlds.specs.Groups.{Group, Due};

@@ -1,3 +1,5 @@
+//! Writers of aliases (Component Model, Binary.md, "Alias Definitions"). Those in instance types are written in `type_items`.
+
 ghost use Rattle.wasm_format.specs.Format.{Format};
 ghost use Rattle.wasm_ast.specs.ComponentItems.{core_alias_format, type_alias_format, alias};
 

@@ -1,3 +1,5 @@
+//! Writers of canonical functions and their options (Component Model, Binary.md, "Canonical Definitions").
+
 ghost use Rattle.wasm_format.specs.Format.{Format};
 ghost use Rattle.comp_grammar.specs.Items.{canon_option, canon};
 

@@ -1,3 +1,5 @@
+//! Writers of core instances (Component Model, Binary.md, "Instance Definitions").
+
 ghost use Rattle.wasm_format.specs.Format.{Format};
 ghost use Rattle.comp_grammar.specs.CoreInstances.{core_sort, core_arg, core_export, core_instance};
 

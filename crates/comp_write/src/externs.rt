@@ -1,3 +1,6 @@
+//! Writers of imports and exports, their names, and the types that they state (Component Model, Binary.md, "Import and Export
+//! Definitions").
+
 ghost use Rattle.std.specs.Prelude.{◌≡◌, ◌++◌, OnOk};
 ghost use Rattle.wasm_format.specs.Format.{Format};
 ghost use Rattle.wasm_ast.specs.ComponentItems.{extern_name, extern_desc, stated_desc, component_export};
@@ -9,7 +12,7 @@ use virt_base::{NoMemory, Text};
 use wasm_ast::{ComponentExport, ComponentImport, ExternDesc};
 use wasm_format::{Names, U32, Writer, put_byte};
 
-/// Names behind a byte 00.
+/// Names after a byte 00.
 #[derive(Clone, Copy)]
 pub struct ExternNameWriter;
 

@@ -1,3 +1,5 @@
+//! Writers of instances (Component Model, Binary.md, "Instance Definitions").
+
 ghost use Rattle.wasm_format.specs.Format.{Format};
 ghost use Rattle.wasm_ast.specs.ComponentItems.{sort, argument, inline_export, instance};
 

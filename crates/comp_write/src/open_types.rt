@@ -1,3 +1,6 @@
+//! Which instance types are open at a place in a section of types. An item of the flat list is written as a declaration where one is
+//! open.
+
 ghost use Rattle.std.specs.Prelude.{◌≡◌, OnOk, []};
 ghost use Rattle.comp_grammar.specs.Types.{declarations_in};
 ghost use Rattle.comp_grammar.specs.TypeSections.{is_none_open, declared, opened, declarations_of, open_after};
@@ -51,7 +54,7 @@ impl OpenTypes {
         }
     }
 
-    /// An instance type of so many declarations is met.
+    /// An instance type of that many declarations is met.
     fn open(&mut self, declarations: u32) -> Result<(), NoMemory>
         ensures { OnOk result (self.new ≡ opened declarations self.old) }
     {
@@ -66,7 +69,7 @@ impl OpenTypes {
         Ok(())
     }
 
-    /// Goes on behind an item. After `NoMemory` nothing is said of the state.
+    /// Goes on after an item. After `NoMemory` nothing is said of the state.
     pub fn pass(&mut self, item: &TypeItem) -> Result<(), NoMemory>
         ensures { OnOk result (self.new ≡ open_after self.old item.now) }
     {

@@ -1,3 +1,6 @@
+//! The sections of a component are written in their order: nested ones and custom ones as they stand in the input, the others item by
+//! item (Component Model, Binary.md, "Component Definitions").
+
 ghost use Rattle.std.specs.Prelude.{◌≡◌, ◌++◌, ◌∷◌, OnOk};
 ghost use Rattle.std.specs.List.{AllByRecursion};
 ghost use Rattle.wasm_format.specs.Format.{Format, sized, vec, anything};

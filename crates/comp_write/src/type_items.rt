@@ -1,3 +1,6 @@
+//! Writers of sections of types as flat lists: definitions, and the declarations of instance types, at any depth (Component Model,
+//! Binary.md, "Type Definitions").
+
 ghost use Rattle.std.specs.Prelude.{◌≡◌, ◌++◌, ◌<◌, ◌^◌, [], OnOk, OnErr, IfOk};
 ghost use Rattle.wasm_format.specs.Format.{Format, choose};
 ghost use Rattle.comp_grammar.specs.TypeSections.{type_alias, definition, declaration, is_none_open, own_types, type_items};

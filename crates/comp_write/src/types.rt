@@ -1,3 +1,6 @@
+//! Writers of value types, function types, resources and instance types without their declarations (Component Model, Binary.md, "Type
+//! Definitions").
+
 ghost use Rattle.wasm_format.specs.Format.{Format};
 ghost use Rattle.comp_grammar.specs.Types.{primitive, val_type, maybe_type, label_type, case_type, func_result, destructor, type_def};
 

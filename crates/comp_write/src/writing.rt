@@ -1,3 +1,5 @@
+//! A component is written: the preamble, and then its sections (Component Model, Binary.md, "Component Definitions").
+
 ghost use Rattle.std.specs.Prelude.{◌≡◌, IfOk};
 ghost use Rattle.comp_grammar.specs.Trees.{Tree, plain};
 ghost use Rattle.comp_grammar.specs.Components.{SpellsComponent};

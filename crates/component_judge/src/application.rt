@@ -1,3 +1,5 @@
+//! A component is judged as an application: beside what every component is asked, it has to be listed.
+
 ghost use Rattle.std.specs.Prelude.{◌≡◌, IfOk, Ok};
 ghost use Rattle.component_judge.specs.Applications.{JudgesApplication};
 ghost use Rattle.component_judge.specs.Components.{Judges};
@@ -15,7 +17,7 @@ pub struct Application {
     pub listed: Listed,
 }
 
-/// The component that the bytes spell, with its type, where it is listed: behind what every component is asked, its imports and then
+/// The component that the bytes spell, with its type, where it is listed: after what every component is asked, its imports and then
 /// its exports.
 pub fn judge_application(
     alloc: Global,

@@ -1,3 +1,5 @@
+//! The bytes of a component, judged: their length, their reading, how much code they hold, validity, and whether the component can be run.
+
 #![tactic(auto, using(crate::proofs::Judging::nested))]
 
 ghost use Rattle.std.specs.Prelude.{length};
@@ -100,7 +102,7 @@ pub fn sound_component(alloc: Global, purpose: Purpose, bytes: &[u8]) -> Result<
     Ok(Judged { component, ty })
 }
 
-/// The component that the bytes spell, with its type, where a host that answers by a script can run it: behind what every component is
+/// The component that the bytes spell, with its type, where a host that answers by a script can run it: after what every component is
 /// asked, its imports and then its exports. Each import has to be an instance of functions and types, and no export may hold a
 /// resource type or a handle.
 pub fn judge_component(alloc: Global, bytes: &[u8]) -> Result<Judged, Refusal>

@@ -1,3 +1,5 @@
+//! The bytes of a file are fetched, where they are within a limit.
+
 ghost use Rattle.component_judge.specs.Fetching.{Fetches, IsFaultOf, IsOverOf};
 
 use crate::Refusal;

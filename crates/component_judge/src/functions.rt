@@ -1,3 +1,5 @@
+//! The functions of a component that can be called, by the names that scripts call them by.
+
 ghost use Rattle.std.specs.Prelude.{◌≡◌, ◌++◌, ◌∷◌, [], IfOk, OnOk};
 ghost use Rattle.comp_types.specs.Views.{entries_of, item_of};
 ghost use Rattle.host_script.specs.Script.{exports_seen};

@@ -1,3 +1,5 @@
+//! The files of a component and of a script, fetched and judged, for each command that takes them.
+
 ghost use Rattle.component_judge.specs.Inputs.{FetchesApplication, FetchesComponent, FetchesInputs, FetchesListed, FetchesScript, FetchesWrapped};
 
 use crate::fetching::fetch;

@@ -1,3 +1,5 @@
+//! The limits on what is read, which depend on the command that asks for it, and the refusal of what is above one.
+
 #![tactic(auto, using(crate::proofs::Judging::over))]
 
 ghost use Rattle.std.specs.Prelude.{codes};
@@ -14,16 +16,16 @@ pub enum Purpose {
     Run,
 }
 
-/// An application that is to be wrapped has at most so many bytes. Those of its code are not limited by themselves.
+/// An application that is to be wrapped has at most that many bytes. Those of its code are not limited by themselves.
 pub const APPLICATION_BYTES: u64 = 33_554_432;
 
-/// A component that is to be run has at most so many bytes.
+/// A component that is to be run has at most that many bytes.
 pub const COMPONENT_BYTES: u64 = 201_326_592;
 
-/// Its code sections have at most so many together.
+/// Its code sections have at most that many together.
 pub const CODE_BYTES: u64 = 67_108_864;
 
-/// A script has at most so many bytes.
+/// A script has at most that many bytes.
 pub const SCRIPT_BYTES: u64 = 67_108_864;
 
 fn over_limit(alloc: Global, what: &str, value: u64) -> Refusal

@@ -1,3 +1,6 @@
+//! How many bytes of code a core module holds: its code sections are found in its bytes, by the sizes of its sections (core WebAssembly,
+//! "Sections").
+
 ghost use Rattle.std.specs.Prelude.{◌≡◌, ◌+◌, ◌≤◌, IfSome, length};
 ghost use Rattle.virt_base.specs.Place.{place};
 ghost use Rattle.component_judge.specs.Sizes.{section_at, code_size, module_code, Heads};
@@ -10,7 +13,7 @@ const CODE: u8 = 10;
 /// How many bytes stand in front of a module's sections.
 const PREAMBLE: usize = 8;
 
-/// The number of the next section, and its size; the cursor is behind it then.
+/// The number of the next section, and its size; the cursor is after it then.
 fn next_section(c: &mut Cursor<'_>) -> Option<(u8, usize)>
     ensures input { c.new.bytes ≡ c.old.bytes }
     ensures section { Heads result c.new (section_at (place c.old)) }

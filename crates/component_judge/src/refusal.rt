@@ -1,3 +1,5 @@
+//! Why a component or a script is refused.
+
 use virt_base::{AppFault, NoMemory, Text};
 use wasi_match::MatchFault;
 

@@ -1,3 +1,5 @@
+//! A script is judged for a component: its calls are of functions that can be called, with arguments of their types.
+
 ghost use Rattle.std.specs.Prelude.{◌≡◌, IfOk};
 ghost use Rattle.host_script.specs.Script.{AreTyped, exports_seen};
 ghost use Rattle.component_judge.specs.Callable.{callable};

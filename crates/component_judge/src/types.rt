@@ -1,3 +1,5 @@
+//! Whether a component of a type can be run over a host that answers by a script: its imports are asked, and then its exports.
+
 ghost use Rattle.std.specs.Prelude.{◌≡◌, option_map};
 ghost use Rattle.comp_signature.specs.Signatures.{component_signature};
 ghost use Rattle.comp_types.specs.Views.{item_of, entries_of};

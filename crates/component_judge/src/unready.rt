@@ -1,3 +1,5 @@
+//! Why a command with a component or a script does not begin: a file that can't be read, or a refusal of what it holds.
+
 use crate::Refusal;
 use virt_base::Text;
 

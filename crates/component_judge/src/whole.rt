@@ -1,3 +1,5 @@
+//! How many bytes of code a component holds, with those of the components in it.
+
 #![tactic(auto, using(comp_grammar::proofs::PlainLemmas::plains))]
 
 ghost use Rattle.std.specs.Prelude.{◌≡◌};
@@ -51,7 +53,7 @@ fn sections_code(source: &[u8], sections: &[Section]) -> u64
     code
 }
 
-/// How many bytes stand behind the sizes of all code sections together: of the modules of a component that the source spells, and of
+/// How many bytes stand after the sizes of all code sections together: of the modules of a component that the source spells, and of
 /// those of the components in it. The greatest number stands for all above it.
 pub fn code_bytes(source: &[u8], component: &Component) -> u64
     ensures { result ≡ capped (tree_code source.now (plain component.now)) }

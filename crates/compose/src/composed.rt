@@ -1,4 +1,6 @@
-/// What an output has before and behind the application's bytes, and how many functions of the host it imports.
+//! What is composed: the bytes that stand before and after those of the application.
+
+/// What an output has before and after the application's bytes, and how many functions of the host it imports.
 #[derive(Drop)]
 pub struct Composed {
     pub front: Vec<u8>,

@@ -1,3 +1,6 @@
+//! An output is put together of a policy and an application: the adapter and the sections around both are made, and what was made is
+//! checked.
+
 ghost use Rattle.std.specs.Prelude.{◌≡◌, IfOk};
 ghost use Rattle.tree_table.specs.Trees.{AreTrees};
 ghost use Rattle.comp_grammar.specs.Trees.{plain};
@@ -132,7 +135,7 @@ fn sections_around(
     })
 }
 
-/// What stands before the application, and the sections behind it.
+/// What stands before the application, and the sections after it.
 fn parts(
     alloc: Global,
     policy: &Policy,
@@ -178,7 +181,7 @@ fn made(
     Ok((assembled, world.needs.functions))
 }
 
-/// What stands around a listed application of so many bytes: the adapter that gives it what it imports under the policy, joined with
+/// What stands around a listed application of that many bytes: the adapter that gives it what it imports under the policy, joined with
 /// it. The application's bytes need not be in memory.
 ///
 /// What was made is checked: it is a valid component, which imports exactly what is needed, exports what the application exports, and

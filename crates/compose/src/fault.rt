@@ -1,3 +1,5 @@
+//! Why no output was made. The faults of its parts become one of a few causes.
+
 use adapter_bytes::EmitFault;
 use comp_pair::PairFault;
 use virt_base::NoMemory;

@@ -1,3 +1,6 @@
+//! The catalogue: the named types of all listed interfaces of WASI 0.2, each with a number. A type that interfaces use of another one has
+//! one number in all of them.
+
 use std::alloc::Global;
 use virt_base::{NoMemory, Text};
 use wasi_listed::{INTERFACES, describe};

@@ -1,3 +1,6 @@
+//! The core part of the adapter: the instances of its two core modules, the canonical functions that they are given, and the lifting of
+//! what they export.
+
 ghost use Rattle.std.specs.Prelude.{◌<◌};
 
 use crate::catalogue::Catalogue;
@@ -75,7 +78,7 @@ impl CorePart {
         Ok(())
     }
 
-    /// The state's instance, behind what it is given.
+    /// The state's instance, after what it is given.
     pub fn state_instance(&mut self, out: &mut Sections<'_>) -> Result<(), NoMemory> {
         let mut exports = Items::empty(self.alloc);
         put_named(self.alloc, &mut exports, "drop-", self.drops.as_slice())?;
@@ -206,7 +209,7 @@ impl CorePart {
         Ok(options)
     }
 
-    /// The stubs' instance, behind what it is given.
+    /// The stubs' instance, after what it is given.
     pub fn stubs_instance(&mut self, out: &mut Sections<'_>) -> Result<(), NoMemory> {
         let mut exports = Items::empty(self.alloc);
         put_named(self.alloc, &mut exports, "new-", self.makes.as_slice())?;

@@ -1,3 +1,5 @@
+//! Types and functions of interfaces, declared in a scope one after another.
+
 use crate::catalogue::{Catalogue, ListedType};
 use crate::queue::Queue;
 use crate::scope::{Form, Scope};

@@ -1,3 +1,5 @@
+//! The imports of an output: interfaces, each with its instance type before it and aliases of its types after it.
+
 use crate::catalogue::Catalogue;
 use crate::declare::{Declared, declare_functions, declare_types};
 use crate::scope::{Form, Scope};
@@ -26,7 +28,7 @@ pub struct Imports {
     pub instances: u32,
 }
 
-/// Imports interfaces in order, each with its instance type before it and aliases behind it: of the types that it is the first to
+/// Imports interfaces in order, each with its instance type before it and aliases after it: of the types that it is the first to
 /// have.
 pub fn import_world(
     alloc: Global,

@@ -1,3 +1,6 @@
+//! The sections that join two components: the instance of each, what the second takes of the first, and exports of all that the second
+//! exports.
+
 use crate::sections::Sections;
 use comp_types::{InstanceEntries, InstanceEntry};
 use std::alloc::Global;
@@ -44,7 +47,7 @@ fn arguments(alloc: Global, given: &[Given<'_>]) -> Result<Items<NamedItem>, NoM
 }
 
 /// The first component's instance, which is given these instances, and an alias of each instance that the second component takes of
-/// it. So many instances stand before.
+/// it. That many instances stand before.
 pub fn between(
     alloc: Global,
     given: &[Given<'_>],
@@ -64,7 +67,7 @@ pub fn between(
     Ok(out.into_pieces())
 }
 
-/// The second component's instance, which is given these instances, and aliases and exports of all that it exports; so many
+/// The second component's instance, which is given these instances, and aliases and exports of all that it exports; that many
 /// instances and types stand before.
 pub fn behind(
     alloc: Global,
@@ -106,7 +109,7 @@ fn aliases_of(
     Ok(list)
 }
 
-/// An export of each alias, where so many of each sort stand before them.
+/// An export of each alias, where that many of each sort stand before them.
 fn exports_of(
     alloc: Global,
     entries: &[InstanceEntry],

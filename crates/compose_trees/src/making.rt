@@ -1,3 +1,5 @@
+//! The adapter, made as a component: its imports and core part, and the instance of a shim for each interface that the application imports.
+
 use crate::catalogue::Catalogue;
 use crate::core_part::{CorePart, alias_needed};
 use crate::declare::{declare_functions, declare_types};

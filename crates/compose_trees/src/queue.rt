@@ -1,3 +1,5 @@
+//! The named types that stand in a type, taken one after another while it is written.
+
 use crate::catalogue::Catalogue;
 use wasi_table::Meaning;
 use wit_types::WitType;
@@ -26,7 +28,7 @@ impl<'a> Queue<'a> {
         Some(number)
     }
 
-    /// Takes the next named type where it is of this form: so it is this type, since two of one form that stand behind one
+    /// Takes the next named type where it is of this form: so it is this type, since two of one form that stand one after
     /// another have names both.
     pub fn take_like(&mut self, ty: &WitType) -> Option<usize> {
         let number = *self.numbers.get(self.at)?;

@@ -1,3 +1,6 @@
+//! A scope in which types and functions are declared: the type of an imported instance, the adapter, or one side of a shim. The form of the
+//! scope says what a declaration adds to it.
+
 use crate::catalogue::Catalogue;
 use crate::sections::Sections;
 use crate::standing::Standing;
@@ -13,7 +16,7 @@ use wasm_ast::{
 pub enum Form {
     /// The type of an instance that is imported.
     Instance,
-    /// The adapter, whose functions are lifted behind all.
+    /// The adapter, whose functions are lifted after all else.
     Adapter,
     /// What a shim imports.
     In,

@@ -1,3 +1,5 @@
+//! Sections in the making, to which definitions are added one after another.
+
 use std::alloc::Global;
 use virt_base::{Items, NoMemory};
 use virt_output::Piece;

@@ -1,3 +1,5 @@
+//! Shims: components in the adapter, each of which hands types and functions on under the names of an interface.
+
 use crate::catalogue::Catalogue;
 use crate::declare::{Declared, declare_functions, declare_types};
 use crate::scope::{Form, Scope};

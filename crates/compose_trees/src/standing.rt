@@ -1,3 +1,5 @@
+//! Where the types of the catalogue stand in a scope, by their indexes there.
+
 use crate::catalogue::Catalogue;
 use std::alloc::Global;
 use virt_base::NoMemory;

@@ -1,3 +1,5 @@
+//! Value types and function types of listed interfaces, as the definitions of a component over the names that stand in its scope.
+
 use crate::queue::Queue;
 use crate::scope::Scope;
 use std::alloc::Global;

@@ -1,3 +1,6 @@
+//! The world of the adapter in the words of the catalogue: its functions as they are declared, the interfaces that are imported, and types
+//! by their numbers.
+
 use crate::catalogue::Catalogue;
 use crate::declare::Declared;
 use crate::imports::Imported;

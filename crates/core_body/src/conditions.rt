@@ -1,3 +1,6 @@
+//! What an instruction has to keep besides the types of its operands: what it names is there, its alignment, its labels, and its place in
+//! a body or a constant expression (core WebAssembly, "Validation", "Instructions").
+
 ghost use Rattle.std.specs.Prelude.{◌≡◌, Some, None, Option, slice_get, if◌then◌else◌, map, ◌∷◌, ◌<◌, ◌^◌, ◌+◌};
 ghost use Rattle.core_body.specs.Conditions.{lesser, broken, least, op_conditions, block_conditions, conditions, place_conditions, labels_behind, is_constant, Condition, TypeAt, FunctionAt, TableAt, MemoryAt, GlobalAt, LocalAt, LabelAt, Variable, Constant, Aligned, DataAt, ElementAt, Declared, load_width, store_width, is_imported_constant};
 ghost use Rattle.core_body.specs.Views.{context_of};
@@ -299,7 +302,7 @@ pub fn breach(scope: &Scope<'_>, labels: usize, instr: &Instr) -> Option<u32>
     lesser(own_breach(scope, labels, instr), place_breach(scope, instr))
 }
 
-/// How many labels there are behind an instruction.
+/// How many labels there are after an instruction.
 pub fn labels_behind(labels: usize, instr: &Instr) -> usize
     requires { labels + 1 < 2 ^ 64 }
     ensures { result ≡ labels_behind labels instr.now }

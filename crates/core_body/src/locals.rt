@@ -1,3 +1,5 @@
+//! The types of a function's locals, kept in runs, since a few bytes may declare 4,294,967,295 locals of one type.
+
 ghost use Rattle.std.specs.Prelude.{◌≡◌, ℕ, IfOk, slice_get, ◌++◌, []};
 ghost use Rattle.core_body.specs.Locals.{spread};
 ghost use Rattle.core_body.specs.Runs.{IsRising, run_at};

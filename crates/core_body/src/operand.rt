@@ -1,3 +1,6 @@
+//! Operand types, among them the bottom type of unreachable code, and which may stand where another is due (core WebAssembly,
+//! "Validation").
+
 ghost use Rattle.std.specs.Prelude.{◌≡◌, Option, Some, None, MatchOption};
 ghost use Rattle.core_body.specs.Machine.{below, known_of, is_number, reference_of};
 

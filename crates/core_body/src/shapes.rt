@@ -1,3 +1,5 @@
+//! The types of the instructions that go on to the next (core WebAssembly, "Validation", "Instructions").
+
 ghost use Rattle.std.specs.Prelude.{◌≡◌, ◌∷◌, [], Some, None, Option, MatchOption, slice_get};
 ghost use Rattle.core_body.specs.Shapes.{Fixed, Shape, shape, value_of, same_ref, loaded_type, stored_type, of_type, of_numeric, copy_shape, init_shape, global_type, table_type, three};
 ghost use Rattle.core_body.specs.Signatures.{shape_at};

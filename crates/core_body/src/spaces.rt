@@ -1,3 +1,6 @@
+//! What code may name: the index spaces of its module, the locals of its function, and the operands that it has to leave (core
+//! WebAssembly, "Validation", "Contexts").
+
 ghost use Rattle.std.specs.Prelude.{◌≡◌, ◌∷◌, [], Some, None, MatchOption, slice_get};
 
 use crate::locals::Locals;

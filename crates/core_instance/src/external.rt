@@ -1,3 +1,6 @@
+//! Items of the store as modules import and export them (core WebAssembly, "Execution", "External Values"), and what a new instance is to
+//! its caller.
+
 use virt_base::{Items, Text};
 
 /// An item of the store, by its place.

@@ -1,3 +1,5 @@
+//! Instantiation of a module, without its start function (WebAssembly Core 2.0, section 4.5.4).
+
 ghost use Rattle.std.specs.Prelude.{◌≡◌, OnOk, IfOk};
 ghost use Rattle.std.specs.List.{All};
 ghost use Rattle.core_validate.specs.Validity.{IsValidModule};

@@ -1,3 +1,5 @@
+//! Whether imports match a module, which is asked before instantiation (WebAssembly Core 2.0, sections 3.2.8 and 4.5.1).
+
 ghost use Rattle.std.specs.Prelude.{◌≡◌, ◌↔◌, IsTrue, slice_get};
 ghost use Rattle.core_store.specs.Eval.{type_of as type_of_function};
 ghost use Rattle.core_instance.specs.Matching.{IsOfType, MatchesItem, ImportsMatch};

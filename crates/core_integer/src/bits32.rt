@@ -1,3 +1,5 @@
+//! Comparisons, counts of bits and arithmetic of i32 (WebAssembly Core 2.0, section 4.3.2).
+
 ghost use Rattle.std.specs.Prelude.{◌≡◌, ◌-◌, ◌≤◌, slice_index_or};
 ghost use Rattle.std.specs.Int.{w32, from_bool};
 ghost use Rattle.core_integer.specs.Operators.{undefined, idiv_s, idiv_u, irem_s, irem_u};

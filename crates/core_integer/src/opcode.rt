@@ -1,3 +1,5 @@
+//! One function for all numeric instructions on integers: the opcode chooses.
+
 ghost use Rattle.std.specs.Prelude.{◌≡◌, true, IfOk};
 ghost use Rattle.wasm_ast.specs.Numeric.{is_numeric, numeric};
 ghost use Rattle.core_integer.specs.Integer.{integer as integer_of, AreOperands, IsResult};

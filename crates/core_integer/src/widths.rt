@@ -1,3 +1,5 @@
+//! The instructions that make an integer longer or shorter, and those that extend its sign (WebAssembly Core 2.0, section 4.3.2).
+
 ghost use Rattle.std.specs.Prelude.{◌≡◌, ◌⊎◌, ◌<◌, ◌^◌};
 ghost use Rattle.std.specs.Int.{w8, w16, w32, w64};
 ghost use Rattle.core_integer.specs.Operators.{iextend_s, wrap};

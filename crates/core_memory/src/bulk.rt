@@ -1,3 +1,6 @@
+//! Many bytes are written, set or copied in the pages of a memory, page by page. Their pages are made first, so that nothing is written
+//! where memory runs out.
+
 ghost use Rattle.std.specs.Prelude.{◌≡◌, ◌+◌, ◌-◌, ◌*◌, ◌/◌, ◌≤◌, ◌<◌, ◌^◌, ◌++◌, length, take, drop, replicate, true, false, OnOk, OnErr, slice_index_or, ◌%◌};
 ghost use Rattle.core_memory.specs.Page.{zeros};
 ghost use Rattle.core_memory.specs.Pages.{bytes_in, made_in, Edits, IsPaged, Ready};
@@ -9,7 +12,7 @@ use std::alloc::Global;
 use std::mem;
 use virt_base::NoMemory;
 
-/// Makes the pages on which so many bytes lie.
+/// Makes the pages on which `len` bytes lie.
 pub fn make_pages(
     pages: &mut Vec<Page>,
     alloc: Global,

@@ -1,3 +1,5 @@
+//! Why a call that reads or writes many bytes fails: a trap, or out of memory.
+
 use std::alloc::{AllocError, AllocFailed};
 use virt_base::{NoMemory, Trap};
 

@@ -1,3 +1,5 @@
+//! A linear memory: what its instructions do (core WebAssembly, "Execution", "Memory Instructions").
+
 ghost use Rattle.std.specs.Prelude.{◌≡◌, ◌+◌, ◌*◌, ◌≤◌, ◌<◌, ◌^◌, length, IfOk, IsTrue, Ok, ◌↔◌};
 ghost use Rattle.std.specs.Bool.{OnTrue, OnFalse};
 ghost use Rattle.core_memory.specs.Number.{IsWidth, bytes_of};
@@ -84,7 +86,7 @@ impl Memory {
         Ok(read_slowly(&self.pages, at as usize, width))
     }
 
-    /// So many bytes from a place on. `Trap` comes exactly where they pass the end.
+    /// `len` bytes from a place on. `Trap` comes exactly where they pass the end.
     #[tactic(auto, using(crate::proofs::Memories::linear_bytes, crate::proofs::Memories::linear_range, crate::proofs::Memories::linear_few))]
     pub fn read(&self, alloc: Global, at: u64, len: u64) -> Result<Bytes, StoreFault>
         ensures { Reads self.now at len result }

@@ -1,7 +1,9 @@
+//! The integer that bytes in a row stand for, the lowest byte first.
+
 ghost use Rattle.std.specs.Prelude.{◌≡◌, ◌+◌, ◌≤◌, ◌<◌, ◌^◌, length, take, drop};
 ghost use Rattle.core_memory.specs.Number.{number, IsWidth};
 
-/// The integer of so many bytes at a place.
+/// The integer of `width` bytes at a place.
 #[inline]
 #[tactic(auto, using(crate::proofs::Numbers::spelled))]
 pub fn number_at(bytes: &[u8], at: usize, width: u8) -> u64

@@ -1,3 +1,5 @@
+//! One page of a memory. It has zeros and takes no memory until it is made, which the first write to it does.
+
 ghost use Rattle.std.specs.Prelude.{◌≡◌, ◌+◌, ◌-◌, ◌≤◌, ◌<◌, [], true, false, length, replicate, take, drop, slice_range, OnOk, OnErr, IfOk, IsTrue, if◌then◌else◌};
 ghost use Rattle.std.specs.List.{splice};
 ghost use Rattle.core_memory.specs.Page.{zeros};
@@ -94,7 +96,7 @@ impl Page {
         }
     }
 
-    /// Sets so many bytes of a page that is made to one value.
+    /// Sets `len` bytes of a page that is made to one value.
     pub fn fill(&mut self, at: usize, len: usize, value: u8)
         requires made { self.old.made ≡ true }
         requires within { at + len ≤ 65536 }

@@ -1,3 +1,5 @@
+//! The pages of a memory: they are added and counted, and an integer is read that need not lie on one made page.
+
 ghost use Rattle.std.specs.Prelude.{◌≡◌, ◌+◌, ◌*◌, ◌≤◌, ◌<◌, ◌^◌, ◌++◌, length, take, drop, replicate, false, OnOk, OnErr, slice_index, min, unwrap_or};
 ghost use Rattle.std.specs.List.{count_by};
 ghost use Rattle.core_memory.specs.Number.{number};
@@ -33,7 +35,7 @@ fn byte_at(pages: &[Page], at: usize) -> u8
     }
 }
 
-/// The integer of so many bytes at a place, which may lie on two pages, or on one that is not made.
+/// The integer of `width` bytes at a place, which may lie on two pages, or on one that is not made.
 pub fn read_slowly(pages: &[Page], at: usize, width: u8) -> u64
     requires paged { IsPaged pages.now }
     requires short { width ≤ 8 }

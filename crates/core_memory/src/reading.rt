@@ -1,10 +1,12 @@
+//! Bytes are read from the pages of a memory into a list, page by page.
+
 ghost use Rattle.std.specs.Prelude.{◌≡◌, ◌+◌, ◌*◌, ◌/◌, ◌%◌, ◌≤◌, ◌<◌, ◌^◌, ◌++◌, length, take, drop, OnOk, IfOk};
 ghost use Rattle.core_memory.specs.Pages.{bytes_in, IsPaged};
 
 use crate::page::{PAGE, Page};
 use std::alloc::{AllocError, Global};
 
-/// So many bytes from a place on, as a list of their own.
+/// `len` bytes from a place on, as a list of their own.
 pub fn read_all(pages: &[Page], alloc: Global, at: usize, len: usize) -> Result<Vec<u8>, AllocError>
     requires paged { IsPaged pages.now }
     requires within { at + len ≤ 65536 * length pages.now }

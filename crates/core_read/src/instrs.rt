@@ -1,3 +1,6 @@
+//! Readers of instructions, of which `ops` reads those that go on to the next; of expressions up to their end; and of constant
+//! expressions (core WebAssembly, Binary Format, "Instructions").
+
 ghost use Rattle.std.specs.Prelude.{◌≡◌, ◌<◌, OnOk};
 ghost use Rattle.virt_base.specs.Place.{place};
 ghost use Rattle.wasm_format.specs.Format.{Format};

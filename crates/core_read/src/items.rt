@@ -1,3 +1,6 @@
+//! Readers of what the sections of a core module list: imports, exports, globals, bodies, element and data segments (core WebAssembly,
+//! Binary Format, "Modules").
+
 ghost use Rattle.std.specs.Prelude.{◌≡◌, ◌<◌};
 ghost use Rattle.virt_base.specs.Place.{place};
 ghost use Rattle.wasm_format.specs.Format.{Format, sized, anything};

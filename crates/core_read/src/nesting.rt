@@ -1,3 +1,5 @@
+//! What constructs are open at a place in an expression, which says whether an `else` may come and where the expression ends.
+
 ghost use Rattle.std.specs.Prelude.{◌≡◌, ◌∷◌, [], true, false, OnOk};
 ghost use Rattle.wasm_ast.specs.Expressions.{is_closed, may_else, closed};
 

@@ -1,3 +1,6 @@
+//! Readers of the instructions that go on to the next: on operands, locals, globals, tables and memory (core WebAssembly, Binary Format,
+//! "Instructions").
+
 ghost use Rattle.std.specs.Prelude.{◌≡◌, ◌<◌, ◌∷◌, []};
 ghost use Rattle.virt_base.specs.Place.{place};
 ghost use Rattle.wasm_format.specs.Format.{Format, both, u32_format};
@@ -125,7 +128,7 @@ fn memory_op(alloc: Global, c: &mut Cursor<'_>, byte: u8) -> Result<Op, Stop>
     }
 }
 
-/// The instruction of an opcode behind FC that was taken.
+/// The instruction of an opcode after FC that was taken.
 #[tactic(auto, unfolding(wasm_ast::specs::Instructions::second_op))]
 fn second_op(alloc: Global, c: &mut Cursor<'_>, byte: u8) -> Result<Op, Stop>
     requires { 0 < c.old.at }

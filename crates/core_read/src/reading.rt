@@ -1,3 +1,5 @@
+//! A core module is read, alone or as a part of a larger input, and a fault has its place (WebAssembly Core 2.0, chapter 5).
+
 ghost use Rattle.std.specs.Prelude.{◌≡◌};
 ghost use Rattle.virt_base.specs.Place.{place};
 ghost use Rattle.wasm_format.specs.Format.{Format};
@@ -14,7 +16,7 @@ use wasm_format::{Reader, Stop, expect_bytes, read_sections, read_to_the_end};
 /// Why no module is read.
 #[derive(Debug, Clone, Copy, PartialEq, Eq)]
 pub enum ReadFault {
-    /// So many bytes at the front are a module, and no more; 0 where none are.
+    /// That many bytes at the front are a module, and no more; 0 where none are.
     Malformed(u64),
     /// The byte at this offset is a tag that the table of its place lacks.
     Unsupported(u64, u8),

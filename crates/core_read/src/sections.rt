@@ -1,3 +1,6 @@
+//! Sections of a core module, in their order and each at most once, with custom ones between them (core WebAssembly, Binary Format,
+//! "Modules").
+
 ghost use Rattle.std.specs.Prelude.{◌≡◌, ◌<◌, ◌==◌, length, OnOk};
 ghost use Rattle.virt_base.specs.Place.{place};
 ghost use Rattle.wasm_format.specs.Format.{Format, sized, vec, vec_of};
@@ -73,7 +76,7 @@ impl<'a> Reader for Segments<'a> {
     }
 }
 
-/// Reads a section's content, if its place in the order is behind that of the section before it.
+/// Reads a section's content, if its place in the order is after that of the section before it.
 fn ranked<R: Reader + Drop>(
     reader: R,
     alloc: Global,

@@ -1,3 +1,5 @@
+//! The short lists of types by which instructions select, each kept once for all the instructions that name it.
+
 ghost use Rattle.std.specs.Prelude.{◌≡◌, ◌∷◌, [], IfOk};
 
 use std::alloc::Global;

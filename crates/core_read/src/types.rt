@@ -1,3 +1,5 @@
+//! Readers of the types in a core module (core WebAssembly, Binary Format, "Types"), and of types of blocks.
+
 ghost use Rattle.std.specs.Prelude.{◌≡◌, ◌<◌, ◌-◌};
 ghost use Rattle.virt_base.specs.Place.{place};
 ghost use Rattle.wasm_format.specs.declared.stop.Stop.TheVariants.{Unsupported};

@@ -1,4 +1,4 @@
-// The locals and operands of the calls in progress, in one list of words.
+//! The stack of the machine: the locals and operands of the calls in progress, in one list of words (core WebAssembly, "Stack").
 
 ghost use Rattle.std.specs.Prelude.{◌≡◌, ◌<◌, ◌≤◌, ◌+◌, [], ◌∷◌, List, ℕ, length, slice_get, Some, OnOk, IfOk, reverse, replicate, take, drop, ◌++◌, ◌-◌};
 ghost use Rattle.core_slots.specs.Stacked.{Held, Stacked, with_operands, with_local, opened, closed};

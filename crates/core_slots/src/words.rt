@@ -1,3 +1,6 @@
+//! Words of 64 bits that stand for core values, and the values that words stand for by a type. A reference is a function's place plus
+//! one, or 0 for null.
+
 ghost use Rattle.std.specs.Prelude.{◌≡◌, ◌<◌, ◌^◌, IfOk, length};
 ghost use Rattle.core_store.specs.Words.{i32_in, word_of, word_of_ref as word_of_reference, ref_in, value_in, value_like as value_of_word, values_in};
 
@@ -39,7 +42,7 @@ fn low(word: u64) -> u32
     (word % 0x1_0000_0000) as u32
 }
 
-/// The reference of a word, in a store of so many functions.
+/// The reference of a word, in a store of that many functions.
 pub fn reference(functions: u32, word: u64) -> CoreRef
     ensures { result ≡ ref_in functions word }
 {
@@ -49,7 +52,7 @@ pub fn reference(functions: u32, word: u64) -> CoreRef
     CoreRef::Func((word - 1) as u32)
 }
 
-/// The value of a type of a word, in a store of so many functions.
+/// The value of a type of a word, in a store of that many functions.
 pub fn value(functions: u32, ty: CoreType, word: u64) -> CoreValue
     ensures { result ≡ value_in functions ty word }
 {

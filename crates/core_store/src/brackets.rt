@@ -1,4 +1,4 @@
-// The places to which blocks lead, from the last instruction to the first.
+//! The places to which blocks lead, found in one walk from the last instruction to the first.
 
 ghost use Rattle.std.specs.Prelude.{◌≡◌, ◌<◌, ◌+◌, IfOk, IfSome, Some, None, is_some, if◌then◌else◌, length, slice_get, reverse, drop};
 ghost use Rattle.core_store.specs.Tree.{parts};
@@ -8,14 +8,14 @@ ghost use Rattle.core_store.specs.Brackets.{Opens, shape_of, opened, flags};
 use virt_base::NoMemory;
 use wasm_ast::Instr;
 
-/// Where a block leads: to the start of its else part, and behind its end. An else leads behind the end of its block.
+/// Where a block leads: to the start of its else part, and after its end. An else leads after the end of its block.
 #[derive(Debug, Clone, Copy, PartialEq, Eq)]
 pub struct Jump {
     pub other: usize,
     pub behind: usize,
 }
 
-/// A block whose end was read: where its else part begins, and the place behind its end.
+/// A block whose end was read: where its else part begins, and the place after its end.
 #[derive(Clone, Copy)]
 pub struct Open {
     pub other: usize,

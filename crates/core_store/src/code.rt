@@ -1,3 +1,5 @@
+//! The code of a function, with the places to which its blocks lead. They are found once, when the code is made.
+
 ghost use Rattle.std.specs.Prelude.{◌≡◌, ◌==◌, IfOk, IfSome, is_some, length};
 ghost use Rattle.core_store.specs.Brackets.{ends_of};
 ghost use Rattle.core_store.specs.Jumps.{Matches};

@@ -1,3 +1,5 @@
+//! Reading and setting the globals of the store, by place.
+
 ghost use Rattle.std.specs.Prelude.{◌≡◌, ◌<◌, Some, length, slice_get, slice_index_or, slice_set};
 ghost use Rattle.core_store.specs.State.{IsSameType, IsStoreValue};
 

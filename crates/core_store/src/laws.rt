@@ -1,3 +1,6 @@
+//! Laws of what core functions do in a store: how an evaluation ends does not depend on steps that it does not need, and a store only
+//! grows. No code but laws.
+
 ghost use Rattle.core_store.specs.Scene.{Grew, CameBack};
 ghost use Rattle.core_store.specs.Laws.{
   TurnsAreBodies,

@@ -1,3 +1,5 @@
+//! The locals that a function of the store declares, kept in runs.
+
 ghost use Rattle.std.specs.Prelude.{◌≡◌, ◌==◌, IfOk, length};
 ghost use Rattle.core_store.specs.Locals.{each_local};
 
@@ -27,7 +29,7 @@ impl Model for Locals {
 }
 
 impl Locals {
-    /// The locals that these runs declare. More than 2^64 of them are want of memory.
+    /// The locals that these runs declare. More than 2^64 of them count as out of memory.
     pub fn new(alloc: Global, runs: &[LocalRun]) -> Result<Locals, NoMemory>
         ensures { IfOk result (λ locals. locals ≡ each_local runs.now) }
     {

@@ -1,3 +1,5 @@
+//! Items are added to the store, each at the next place, as long as 32 bits can say the place (WebAssembly Core 2.0, section 4.5.3).
+
 ghost use Rattle.std.specs.Prelude.{◌≡◌, ◌++◌, [], ◌∷◌, length};
 ghost use Rattle.core_memory.specs.Linear.{fresh};
 ghost use Rattle.core_store.specs.Table.{nulls, AreRefs};

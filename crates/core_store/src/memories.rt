@@ -1,3 +1,5 @@
+//! What instructions do to a memory or a data segment of the store, by its place (core WebAssembly, "Execution", "Memory Instructions").
+
 ghost use Rattle.std.specs.Prelude.{◌≡◌, ◌*◌, ◌<◌, ◌^◌, [], IfOk, length, slice_set};
 ghost use Rattle.core_memory.specs.Number.{IsWidth, bytes_of};
 ghost use Rattle.core_memory.specs.Replaced.{repeated};
@@ -38,7 +40,7 @@ pub fn store_at(
     store.memories[memory as usize].store(alloc, at, width, value)
 }
 
-/// So many bytes of a memory from a place on. `Trap` comes exactly where they pass the end.
+/// `len` bytes of a memory from a place on. `Trap` comes exactly where they pass the end.
 pub fn read(store: &Store, memory: u32, at: u64, len: u64) -> Result<Bytes, StoreFault>
     requires { memory < length store.now.memories }
     ensures { Reads (memory_at store.now memory) at len result }

@@ -1,3 +1,5 @@
+//! The store: the lists of its items, and how many calls are in progress (core WebAssembly, "Execution", "Store").
+
 ghost use Rattle.std.specs.Prelude.{◌≡◌, ◌+◌, ◌-◌, ◌≤◌, ◌<◌, Some, length, slice_get};
 
 use crate::table::Table;

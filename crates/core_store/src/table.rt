@@ -1,3 +1,5 @@
+//! One table: what its instructions do (core WebAssembly, "Execution", "Table Instructions").
+
 ghost use Rattle.std.specs.Prelude.{◌≡◌, ◌+◌, ◌-◌, ◌≤◌, ◌++◌, length, min, unwrap_or, IfOk, OnOk, OnErr};
 ghost use Rattle.core_memory.specs.Replaced.{replaced, repeated};
 ghost use Rattle.core_store.specs.Table.{got, nulls, Sets, Fills, Moves, Grows};
@@ -82,7 +84,7 @@ impl Table {
         Ok(())
     }
 
-    /// Sets so many references to one value.
+    /// Sets `len` references to one value.
     pub fn fill(&mut self, at: u32, value: CoreRef, len: u32) -> Result<(), Trap>
         ensures { Fills self.old self.new at value len result }
     {
@@ -146,7 +148,7 @@ fn most_refs(max: Option<u32>) -> u32
     }
 }
 
-// Adds so many references at the end.
+// Adds `count` references at the end.
 #[tactic(auto, using(crate::proofs::References::add_none, crate::proofs::References::add_more))]
 fn add_refs(refs: &mut Vec<CoreRef>, count: u32, value: CoreRef) -> Result<(), AllocError>
     ensures ok { OnOk result (refs.new.items ≡ refs.old.items ++ repeated count value) }

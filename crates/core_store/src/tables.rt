@@ -1,3 +1,6 @@
+//! What instructions do to a table or an element segment of the store, by its place (core WebAssembly, "Execution", "Table
+//! Instructions").
+
 ghost use Rattle.std.specs.Prelude.{◌≡◌, ◌<◌, [], IfOk, length, slice_set};
 ghost use Rattle.core_store.specs.Table.{got, Sets, Fills, Moves, Grows};
 ghost use Rattle.core_store.specs.State.{table_at, elements_at, InTable, IsStoreRef};

@@ -1,3 +1,6 @@
+//! Values, references, functions and the index spaces of instances, as the store holds them (core WebAssembly, "Execution", "Runtime
+//! Structure").
+
 use crate::Code;
 use crate::locals::Locals;
 use virt_base::Items;
@@ -24,7 +27,7 @@ pub enum CoreValue {
 /// A function of the store. Its type is shared with its instance, and its code with a machine that runs it.
 #[derive(Debug, Drop)]
 pub enum StoreFunc {
-    /// A function of a module, with the place of its instance, and its locals behind the parameters.
+    /// A function of a module, with the place of its instance, and its locals after the parameters.
     Inside {
         ty: Shared<CoreFunc>,
         instance: u32,

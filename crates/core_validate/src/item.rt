@@ -1,3 +1,5 @@
+//! The type of a module: what it imports and exports, and the types of these; and why a module is refused.
+
 use virt_base::{CoreType, Items, NoMemory, Text};
 use wasm_ast::{CoreFunc, Limits, Shared};
 

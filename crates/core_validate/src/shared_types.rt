@@ -1,3 +1,5 @@
+//! The function types in the type of a module. Imports or exports of one type share one copy of it.
+
 ghost use Rattle.std.specs.Prelude.{◌≡◌, IfOk, IfSome, Some, slice_get};
 
 use std::alloc::Global;

@@ -1,3 +1,5 @@
+//! The index spaces of a module together, as the checks of code take them. Their lists are made in `collect`.
+
 ghost use Rattle.std.specs.Prelude.{◌≡◌, IfOk, false, replicate};
 ghost use Rattle.core_body.specs.Views.{context_at};
 ghost use Rattle.core_validate.specs.Spaces.{context, marked, declared_functions};

@@ -1,3 +1,5 @@
+//! A module is validated: its items are asked one after another, up to the first at fault (core WebAssembly, "Validation", "Modules").
+
 ghost use Rattle.std.specs.Prelude.{◌≡◌, length, IfOk};
 ghost use Rattle.core_body.specs.Views.{context_at};
 ghost use Rattle.core_validate.specs.Answer.{Answers};

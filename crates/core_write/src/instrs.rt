@@ -1,3 +1,6 @@
+//! Writers of instructions, of which `ops` writes those that go on to the next; of expressions with their end; and of constant
+//! expressions (core WebAssembly, Binary Format, "Instructions").
+
 ghost use Rattle.std.specs.Prelude.{◌≡◌, ◌++◌, ◌∷◌, true, OnOk};
 ghost use Rattle.std.specs.List.{AllByRecursion};
 ghost use Rattle.wasm_format.specs.Format.{Format, write_items};

@@ -1,3 +1,6 @@
+//! Writers of what the sections of a core module list: imports, exports, globals, bodies, element and data segments (core WebAssembly,
+//! Binary Format, "Modules").
+
 ghost use Rattle.wasm_format.specs.Format.{Format};
 ghost use Rattle.wasm_ast.specs.Items.{import_item, import, export_item, export, global, local_run, body, kind_and_funcs, elements, segment};
 
@@ -161,7 +164,7 @@ impl Writer for BodyWriter {
     }
 }
 
-/// Functions by index, behind the kind of element that only they have.
+/// Functions by index, after the kind of element that only they have.
 #[derive(Clone, Copy)]
 struct FunctionsWriter;
 

@@ -1,3 +1,5 @@
+//! The law that what is written of a core module spells it. No code but the law.
+
 ghost use Rattle.wasm_ast.specs.declared.module.Module.{Module};
 ghost use Rattle.wasm_ast.specs.Modules.{core_module, SpellsModule};
 ghost use Rattle.core_write.specs.Written.{IsWritable};

@@ -1,3 +1,6 @@
+//! Writers of the instructions that go on to the next: on operands, locals, globals, tables and memory (core WebAssembly, Binary Format,
+//! "Instructions").
+
 ghost use Rattle.std.specs.Prelude.{◌≡◌, ◌++◌, ◌∷◌, [], OnOk};
 ghost use Rattle.wasm_format.specs.Format.{Format, both, closed_by, u32_format};
 ghost use Rattle.wasm_format.specs.Numbers.{s32_format};
@@ -97,7 +100,7 @@ fn put_index(alloc: Global, out: &mut Vec<u8>, code: u8, index: u32) -> Result<(
     U32.write(alloc, out, &index)
 }
 
-/// An opcode behind FC, and an index.
+/// An opcode after FC, and an index.
 fn put_second(alloc: Global, out: &mut Vec<u8>, code: u8, index: u32) -> Result<(), NoMemory>
     ensures { OnOk result (out.new.items ≡ out.old.items ++ 0xFC ∷ code ∷ u32_format.write index) }
 {
@@ -105,7 +108,7 @@ fn put_second(alloc: Global, out: &mut Vec<u8>, code: u8, index: u32) -> Result<
     put_index(alloc, out, code, index)
 }
 
-/// An opcode behind FC, and two indexes.
+/// An opcode after FC, and two indexes.
 #[tactic(auto, unfolding(wasm_format::specs::Format::u32_format))]
 fn put_two(
     alloc: Global,
@@ -146,7 +149,7 @@ fn put_null(alloc: Global, out: &mut Vec<u8>, ty: RefType) -> Result<(), NoMemor
     RefTypeWriter.write(alloc, out, &ty)
 }
 
-/// Writes an operation: its opcode, and what stands behind it.
+/// Writes an operation: its opcode, and what stands after it.
 #[tactic(auto, unfolding(wasm_ast::specs::Instructions::instr_of, wasm_ast::specs::Instructions::control, wasm_ast::specs::Instructions::op_of, wasm_ast::specs::Instructions::variable_op, wasm_ast::specs::Instructions::memory_op, wasm_ast::specs::Instructions::high_op, wasm_ast::specs::Instructions::second_op))]
 pub fn put_op(alloc: Global, out: &mut Vec<u8>, op: &Op) -> Result<(), NoMemory>
     requires { (instr_of (op_code op.now)).Fits (Plain op.now) }

@@ -1,3 +1,5 @@
+//! Sections of a core module are written in their order, and empty ones are left out (core WebAssembly, Binary Format, "Modules").
+
 ghost use Rattle.std.specs.Prelude.{◌≡◌, ◌++◌, OnOk};
 ghost use Rattle.wasm_format.specs.Format.{Format};
 ghost use Rattle.core_write.specs.Written.{list_section, ListFits, number_section, NumberFits, front_bytes, back_bytes, ModuleFits};

@@ -1,3 +1,5 @@
+//! Writers of the types in a core module (core WebAssembly, Binary Format, "Types"), and of types of blocks.
+
 ghost use Rattle.wasm_format.specs.Format.{Format};
 ghost use Rattle.wasm_ast.specs.Types.{core_type, ref_type, core_func, limits, table_type, mutability, global_type, block_type};
 

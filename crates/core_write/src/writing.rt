@@ -1,3 +1,5 @@
+//! A core module is written: the preamble, and then its sections (WebAssembly Core 2.0, chapter 5).
+
 ghost use Rattle.std.specs.Prelude.{◌≡◌, ◌++◌, ℕ, List, IfOk};
 ghost use Rattle.wasm_format.specs.Format.{Format, AreBytes};
 ghost use Rattle.wasm_ast.specs.Modules.{core_module, SpellsModule};

@@ -1,3 +1,6 @@
+//! The generated component, section by section: one core module, the lowered imports of two functions of WASI 0.2, and lifted exports
+//! (core WebAssembly, "Binary Format"; Component Model, Binary.md).
+
 ghost use Rattle.std.specs.Prelude.{◌≡◌, ◌++◌, IfOk, OnOk};
 ghost use Rattle.generated.specs.Bytes.{list, section};
 ghost use Rattle.generated.specs.Generated.{core_module, front, function_aliases, generated, imported, interface_import, interface_type, item_of};
@@ -142,7 +145,7 @@ fn front(alloc: Global, functions: u32) -> Result<Vec<u8>, NoMemory>
     Ok(out)
 }
 
-/// The component of so many functions: `fi` answers what `now` answers and, (i mod 3) + 1 times, what `get-random-u64` answers, all added
+/// The component of that many functions: `fi` answers what `now` answers and, (i mod 3) + 1 times, what `get-random-u64` answers, all added
 /// modulo 2^64.
 #[tactic(auto, unfolding(crate::specs::Generated::generated))]
 pub fn generated_component(alloc: Global, functions: u32) -> Result<Vec<u8>, NoMemory>

@@ -1,3 +1,5 @@
+//! What each function adds to the lists of the generated component, and its code.
+
 ghost use Rattle.std.specs.Prelude.{◌≡◌, ◌≤◌, ◌+◌, ◌++◌, IfOk, OnOk};
 ghost use Rattle.generated.specs.Bytes.{number, each, list, sized};
 ghost use Rattle.generated.specs.Generated.{body, function_name, item_of, random_added, random_calls};
@@ -83,7 +85,7 @@ fn item_of(alloc: Global, part: Part, i: u32) -> Result<Vec<u8>, NoMemory>
     Ok(out)
 }
 
-/// The items of so many functions after their count.
+/// The items of that many functions after their count.
 pub fn list_of(alloc: Global, part: Part, functions: u32) -> Result<Vec<u8>, NoMemory>
     ensures { IfOk result (λ out. out.items ≡ list (item_of part) functions) }
 {

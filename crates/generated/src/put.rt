@@ -1,3 +1,5 @@
+//! Sections, and bytes after their length in LEB128 (core WebAssembly, "Binary Format").
+
 ghost use Rattle.std.specs.Prelude.{◌≡◌, ◌++◌, OnOk};
 ghost use Rattle.generated.specs.Bytes.{number, sized, section};
 
@@ -5,7 +7,7 @@ use std::alloc::Global;
 use virt_base::{NoMemory, write_u32};
 use wasm_format::{put_byte, put_bytes};
 
-/// Adds a length. One that 32 bits cannot say is want of memory: a generated component is far shorter.
+/// Adds a length. One that 32 bits cannot say counts as out of memory: a generated component is far shorter.
 fn put_length(alloc: Global, out: &mut Vec<u8>, len: usize) -> Result<(), NoMemory>
     ensures { OnOk result (out.new.items ≡ out.old.items ++ number len) }
 {

@@ -1,3 +1,6 @@
+//! What a run of the generated component needs besides it: a script (JSON, RFC 8259) with an answer for each call of the host, and a policy
+//! (TOML 1.0).
+
 ghost use Rattle.std.specs.Prelude.{◌≡◌, ◌≤◌, ◌*◌, ◌++◌, IfOk, OnOk, string_bytes};
 ghost use Rattle.generated.specs.Generated.{policy_text};
 ghost use Rattle.generated.specs.Scripts.{answer_text, call_text, comma, host_calls, script_text, spaced};
@@ -5,7 +8,7 @@ ghost use Rattle.generated.specs.Scripts.{answer_text, call_text, comma, host_ca
 use crate::items::random_calls;
 use std::alloc::{AllocError, Global};
 
-/// How many calls of the host so many functions make, each called once.
+/// How many calls of the host that many functions make, each called once.
 fn host_calls(functions: u32) -> u64
     ensures value { result ≡ host_calls functions }
     ensures few { result ≤ functions * 3 }
@@ -28,7 +31,7 @@ fn put_comma(out: &mut String, k: u64) -> Result<(), AllocError>
     out.push_str(",")
 }
 
-/// Adds so many answers: the k-th is 1000003 k + 7.
+/// Adds that many answers: the k-th is 1000003 k + 7.
 fn put_answers(alloc: Global, out: &mut String, count: u64) -> Result<(), AllocError>
     requires { count ≤ 12884901885 }
     ensures { OnOk result (string_bytes out.new ≡ string_bytes out.old ++ spaced answer_text count) }
@@ -54,7 +57,7 @@ fn put_calls(alloc: Global, out: &mut String, functions: u64) -> Result<(), Allo
     Ok(())
 }
 
-/// The script over which a component of so many functions runs.
+/// The script over which a component of that many functions runs.
 #[tactic(auto, unfolding(crate::specs::Scripts::script_text))]
 pub fn generated_script(alloc: Global, functions: u32) -> Result<String, AllocError>
     ensures { IfOk result (λ out. string_bytes out ≡ script_text functions) }

@@ -1,3 +1,5 @@
+//! What the table of handles has at one index.
+
 /// What the table keeps at an index: a handle, or a link of the list of freed indexes.
 ///
 /// The cells are counted from 0, and the index of a cell is one more.

@@ -1,3 +1,6 @@
+//! The table of handles: they are added, lent and taken out, and freed indexes are used again, the last one first (Component Model,
+//! CanonicalABI.md, "Table State").
+
 ghost use Rattle.std.specs.Prelude.{◌≡◌, ◌<◌, ◌↔◌, Some, None, IsSome, IfOk, OnErr, IsErrOf};
 ghost use Rattle.std.specs.Option.{option_map};
 ghost use Rattle.handle_space.specs.HandleMap.{empty, own_entry, borrow_entry, answered, entry_at, entry_of, live_count, most_live, with_entry, without, IsLent};
@@ -37,7 +40,7 @@ pub enum Taken {
     Borrow(u32),
 }
 
-// So many cells there are at most.
+// The most cells that there are.
 const MOST_LIVE: usize = 268_435_455;
 
 /// The handles of a component instance by their index, which is never 0 (Component Model, CanonicalABI.md, "Table State").

@@ -1,3 +1,5 @@
+//! What comes back from a host: its answer to a call, and what is observed of a component that runs over it.
+
 use crate::call::{HostCall, Resource};
 use virt_base::Items;
 use wit_types::Value;

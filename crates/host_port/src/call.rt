@@ -1,3 +1,5 @@
+//! What a host is called with: functions and resources under the names by which a component imports them.
+
 use std::rc::Rc;
 use virt_base::Text;
 use wit_types::{Fields, Values, WitType};

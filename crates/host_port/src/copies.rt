@@ -1,3 +1,5 @@
+//! Copies of calls and resources, for a host that hands on or keeps what it is given.
+
 #![tactic(auto, using(wit_types::proofs::ValueLemmas::values))]
 
 ghost use Rattle.std.specs.Prelude.{◌≡◌, IfOk};

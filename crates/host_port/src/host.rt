@@ -1,3 +1,5 @@
+//! The trait `Host`: calls, drops of handles, and what was seen of both. A host that answers by a script and the reference host have it.
+
 ghost use Rattle.std.specs.Prelude.{◌≡◌, IfOk, OnOk, map};
 ghost use Rattle.host_port.specs.Calls.{plain_call, plain_answer, plain_observation};
 ghost use Rattle.host_port.specs.Hosts.{HostStep, Kept, IsAnswerTo, reacts, answer_of, drops};

@@ -1,3 +1,5 @@
+//! The resources of items that are given get the numbers that they have in the group, by the types of the items.
+
 ghost use Rattle.std.specs.Prelude.{◌≡◌, ◌++◌, List, Option, Some, OnOk, option_map, option_copied};
 ghost use Rattle.comp_types.specs.Items.{KindItem, ResourceKind};
 ghost use Rattle.comp_types.specs.Views.{item_of, kind_of, entries_of};

@@ -1,3 +1,5 @@
+//! The type by which a function is called, with the resources of the group in the place of those of the component.
+
 ghost use Rattle.std.specs.Prelude.{◌≡◌, IfOk};
 ghost use Rattle.comp_types.specs.Substitution.{partner_in, func_with};
 

@@ -1,3 +1,5 @@
+//! Canonical functions of an instance that is made (Component Model, CanonicalABI.md, `canon lift` and `canon lower`).
+
 ghost use Rattle.std.specs.Prelude.{◌≡◌, List, IfOk, OnOk, option_map, option_and_then, slice_get};
 ghost use Rattle.comp_worlds.specs.Groups.{LoweredFunc};
 ghost use Rattle.comp_link.specs.Plans.{Lifts};

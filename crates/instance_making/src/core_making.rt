@@ -1,3 +1,5 @@
+//! The core items of a component instance as it is made: what modules are given, and core instances and aliases of what they export.
+
 ghost use Rattle.std.specs.Prelude.{◌≡◌, ◌++◌, List, Some, IfOk, OnOk};
 ghost use Rattle.comp_link.specs.Linking.{Givens as GroupGivens, Making as GroupMaking, place_at as place_in, core_item as item_in, externs_for as externs_in, and_core_instance, link_item};
 ghost use Rattle.comp_link.specs.Plans.{CoreItemOf, OfCoreItems};

@@ -1,3 +1,5 @@
+//! What instances are given and export: items under their names, of which an instance stands by its number among those that are made.
+
 ghost use Rattle.std.specs.Prelude.{◌≡◌, List, Some, IfOk};
 ghost use Rattle.comp_link.specs.Linking.{Given as GroupGiven, Givens as GroupGivens};
 ghost use Rattle.instance_making.specs.Made.{IsGiven};

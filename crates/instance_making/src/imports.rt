@@ -1,3 +1,5 @@
+//! The imports of the outermost component, as the host meets them, and the names of their resources.
+
 ghost use Rattle.std.specs.Prelude.{◌≡◌, ◌+◌, ◌++◌, [], ◌∷◌, max, is_some, List, IfOk, OnOk, option_map};
 ghost use Rattle.comp_types.specs.Items.{KindItem};
 ghost use Rattle.comp_types.specs.Views.{item_of, kind_of, entries_of};
@@ -23,7 +25,7 @@ use virt_base::{NoMemory, Text};
 #[derive(Debug, Drop)]
 pub struct HostResources {
     pub by_number: IndexMap<u32, Resource>,
-    /// The first number behind them.
+    /// The first number after them.
     pub behind: u32,
 }
 

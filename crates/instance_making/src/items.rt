@@ -1,3 +1,6 @@
+//! The items of a component instance as it is made, but core items: named items, aliases, imports, exports, and instances of components in
+//! it.
+
 ghost use Rattle.std.specs.Prelude.{◌≡◌, ◌++◌, List, [], ◌∷◌, Some, IfOk, OnOk, option_map};
 ghost use Rattle.comp_types.specs.Views.{item_of};
 ghost use Rattle.comp_link.specs.Plans.{AFunc, AnInstanceAt, ItemOf, OfItems, Imports, Exports};

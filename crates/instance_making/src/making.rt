@@ -1,3 +1,5 @@
+//! A component instance as it is made: what stands at the indexes of each sort so far.
+
 ghost use Rattle.std.specs.Prelude.{◌≡◌, ◌++◌, [], ◌∷◌, ℕ, List, Option, Some, OnOk, length};
 ghost use Rattle.wasm_ast.specs.declared.module.CoreFunc.{CoreFunc};
 ghost use Rattle.comp_types.specs.Substitution.{partner_in};

@@ -1,3 +1,5 @@
+//! Items under names, in a map ordered by the bytes of the names.
+
 ghost use Rattle.std.specs.Prelude.{◌≡◌, if◌then◌else◌, List, ℕ, None, Some, OnOk, option_map};
 ghost use Rattle.std.specs.Option.{option_or};
 ghost use Rattle.comp_types.specs.Items.{same_name};

@@ -1,3 +1,5 @@
+//! The type of a function as calls use it: how its parameters and its result pass.
+
 ghost use Rattle.std.specs.Prelude.{◌≡◌, ◌≤◌, length, IfOk};
 ghost use Rattle.abi_layout.specs.Functions.{core_params};
 ghost use Rattle.comp_facts.specs.Measures.{func_parts};

@@ -1,3 +1,5 @@
+//! One call of a core function in progress, and the test that a function can be called.
+
 ghost use Rattle.std.specs.Prelude.{◌≡◌, IsTrue, ◌↔◌, slice_get};
 ghost use Rattle.core_store.specs.Fine.{params_of};
 ghost use Rattle.core_interp.specs.Session.{IsCallable};
@@ -22,7 +24,7 @@ fn count_params(function: &StoreFunc) -> usize
     }
 }
 
-/// Whether there is a function at the place, and it takes so many arguments.
+/// Whether there is a function at the place, and it takes `args` arguments.
 pub fn is_callable(store: &Store, at: u32, args: usize) -> bool
     ensures { IsTrue result ↔ IsCallable (slice_get store.now.functions at) args }
 {

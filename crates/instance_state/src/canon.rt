@@ -1,3 +1,5 @@
+//! Canonical functions as core code calls them: lowered functions, and those that make, drop and read resources.
+
 ghost use Rattle.std.specs.Prelude.{◌≡◌, IfOk};
 ghost use Rattle.instance_state.specs.Targets.{func_of};
 

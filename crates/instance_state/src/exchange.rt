@@ -1,3 +1,6 @@
+//! The handles of a value are exchanged: on its way a value has what they stand for, inside an instance the indexes of the instance's
+//! table.
+
 ghost use Rattle.std.specs.Prelude.{◌≡◌, [], length, OnOk};
 ghost use Rattle.std.specs.List.{All};
 ghost use Rattle.wit_types.specs.Plain.{plain};
@@ -32,9 +35,9 @@ impl Room {
     }
 }
 
-/// Takes the own handles of a value out of the table, and lends the borrowed ones: the value with that for which they stand, and behind
-/// other loans those of the indexes that are lent. Each loan can end then, as long as those before could. `holds` says whether values of the
-/// type may hold handles.
+/// Takes the own handles of a value out of the table, and lends the borrowed ones: the value with that for which they stand, and after
+/// other loans those of the indexes that are lent. Each loan can end then, as long as those before could. `holds` says whether values of
+/// the type may hold handles.
 ///
 /// # Errors
 ///

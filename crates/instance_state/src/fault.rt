@@ -1,3 +1,5 @@
+//! Why handles are not exchanged: a trap, or out of memory.
+
 use handle_space::AddFault;
 use std::alloc::AllocFailed;
 use virt_base::Trap;

@@ -1,3 +1,6 @@
+//! The handles of a component instance: a table, and how many of its handles are borrowed (Component Model, CanonicalABI.md, `lift_own`,
+//! `lift_borrow`, `lower_own`, `lower_borrow`).
+
 #![tactic(auto, using(crate::proofs::Counting::counts))]
 
 ghost use Rattle.std.specs.Prelude.{◌≡◌, ◌++◌, ◌∷◌, [], map, IfOk, OnOk, OnErr, IsErrOf, Some, None, option_map};
@@ -102,8 +105,8 @@ impl Handles {
         }
     }
 
-    /// Takes the own handles of a value out of the table, and lends the borrowed ones: behind `reps` it puts for what each handle stands,
-    /// and behind `loans` those of the indexes that are lent. Each loan can end then, as long as those before could.
+    /// Takes the own handles of a value out of the table, and lends the borrowed ones: after `reps` it puts for what each handle stands,
+    /// and after `loans` those of the indexes that are lent. Each loan can end then, as long as those before could.
     ///
     /// # Errors
     ///
@@ -186,7 +189,7 @@ impl Handles {
         }
     }
 
-    /// Adds the handles of a value, which is lowered into an instance that is called, or of a result; puts their indexes behind others.
+    /// Adds the handles of a value, which is lowered into an instance that is called, or of a result; puts their indexes after others.
     ///
     /// # Errors
     ///

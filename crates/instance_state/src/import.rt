@@ -1,3 +1,5 @@
+//! A function that a component imports. Its calls share its names and types.
+
 ghost use Rattle.std.specs.Prelude.{◌≡◌, IfOk};
 ghost use Rattle.wit_types.specs.PlainValue.{plain_values};
 ghost use Rattle.host_port.specs.Calls.{plain_call};

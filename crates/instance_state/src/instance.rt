@@ -1,3 +1,6 @@
+//! A component instance at a moment, its two flags, and what canonical functions of resources do to it (Component Model, CanonicalABI.md,
+//! `canon_resource_new`, `canon_resource_rep`, `canon_resource_drop`).
+
 ghost use Rattle.std.specs.Prelude.{◌≡◌, ◌∷◌, [], ℕ, Some};
 ghost use Rattle.core_store.specs.State.{empty as empty_store};
 ghost use Rattle.comp_worlds.specs.Locals.{is_open as opens, enter as enters, exit as exits, close as closes, reopen as reopens, makes, reads, removes, done};

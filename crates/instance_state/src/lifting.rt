@@ -1,3 +1,6 @@
+//! Values are lifted out of an instance, with their handles taken out of its table (Component Model, CanonicalABI.md, "Lifting and
+//! Lowering Values").
+
 #![tactic(auto)]
 
 ghost use Rattle.std.specs.Prelude.{◌≡◌, ℕ, Some, None, IfOk, OnOk, IsErrOf, true};
@@ -68,7 +71,7 @@ fn lift_value(
 }
 
 /// The value that an instance passes by flat values: its own handles are taken out of the instance's table, borrowed ones are lent,
-/// and the value has that for which they stand. Behind other loans are those of the indexes that are lent; each can end then, as long as
+/// and the value has that for which they stand. After other loans are those of the indexes that are lent; each can end then, as long as
 /// those before could.
 ///
 /// # Errors

@@ -1,3 +1,6 @@
+//! Values are lowered into an instance: their handles are added to its table, and storing them is planned (Component Model,
+//! CanonicalABI.md, "Lifting and Lowering Values").
+
 #![tactic(auto)]
 
 ghost use Rattle.std.specs.Prelude.{◌≡◌, ◌≤◌, length, Some, None};

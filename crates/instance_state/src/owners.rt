@@ -1,3 +1,5 @@
+//! Which component instance defines a resource, and the resource's destructor.
+
 ghost use Rattle.std.specs.Prelude.{◌≡◌, ◌+◌, ◌++◌, ◌∷◌, [], length, OnOk, IfOk, option_map};
 ghost use Rattle.comp_worlds.specs.Calls.{owned_by};
 ghost use Rattle.instance_state.specs.Owning.{owner_of, owner_in};

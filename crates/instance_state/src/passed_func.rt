@@ -1,3 +1,5 @@
+//! How the parameters of a function pass, as one record, and how its result does, as a tuple of it.
+
 #![tactic(auto)]
 
 ghost use Rattle.std.specs.Prelude.{◌≡◌, ◌<◌, IfOk};

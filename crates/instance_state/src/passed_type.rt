@@ -1,3 +1,5 @@
+//! A type by which values pass, with what each call asks of it. It is found once, when the type is made, and not at each call.
+
 #![tactic(auto, using(crate::proofs::Passing::spills_counted))]
 
 ghost use Rattle.std.specs.Prelude.{◌≡◌, ◌≤◌};

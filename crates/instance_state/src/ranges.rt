@@ -1,3 +1,5 @@
+//! Whether values of a type may hold strings or lists, for which lifting and lowering need a memory.
+
 #![tactic(auto, using(crate::proofs::Labels::ranges_of))]
 
 ghost use Rattle.std.specs.Prelude.{◌≡◌, []};

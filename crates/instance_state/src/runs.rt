@@ -1,3 +1,5 @@
+//! The store of a component instance with the calls of core functions in progress in it, of which only the innermost goes on.
+
 #![tactic(auto)]
 
 ghost use Rattle.std.specs.Prelude.{◌≡◌, ◌≤◌, ◌++◌, ◌∷◌, [], ℕ, true, false, length, IfSome, IfOk, IsTrue, ◌↔◌, ◌<◌};
@@ -24,7 +26,7 @@ use virt_base::{NoMemory, Trap};
 use wasm_ast::{CoreFunc, Module};
 
 /// A store, and the calls of its functions that are in progress, each begun while the one before it awaits results. The innermost goes on
-/// or awaits results itself. After want of memory nothing is left in it.
+/// or awaits results itself. Where memory ran out nothing is left in it.
 #[derive(Drop)]
 pub struct CoreRuns {
     store: Store,
@@ -88,7 +90,7 @@ fn stays(pause: &Pause) -> bool
     }
 }
 
-/// A call goes on to its next pause; it stays, behind those outside it, where it may go on later.
+/// A call goes on to its next pause; it stays, after those outside it, where it may go on later.
 fn run_call(
     alloc: Global,
     store: &mut Store,
@@ -134,7 +136,7 @@ impl CoreRuns {
         &self.store
     }
 
-    /// Begins a call of a function, where so many calls are in progress.
+    /// Begins a call of a function, where `nesting` calls are in progress.
     ///
     /// # Errors
     ///
@@ -186,7 +188,7 @@ impl CoreRuns {
     ///
     /// # Errors
     ///
-    /// `Trap` where none awaits results, or not so many.
+    /// `Trap` where none awaits results, or not that many.
     pub fn resume(&mut self, results: &CoreValues) -> Result<(), Trap>
         ensures { Resumes self.old results.now self.new result }
     {
@@ -254,7 +256,7 @@ impl CoreRuns {
         true
     }
 
-    /// Instantiates a module, whose start function does not run. After a trap, or want of memory, nothing is left.
+    /// Instantiates a module, whose start function does not run. After a trap, or where memory ran out, nothing is left.
     ///
     /// # Errors
     ///
@@ -291,7 +293,7 @@ impl CoreRuns {
         }
     }
 
-    /// A plan of storing goes on in a memory, with the answer to its last request. After want of memory nothing is left.
+    /// A plan of storing goes on in a memory, with the answer to its last request. Where memory ran out nothing is left.
     ///
     /// # Errors
     ///

@@ -1,3 +1,5 @@
+//! Where a call leads: to a lifted function or to an import.
+
 ghost use Rattle.std.specs.Prelude.{◌≡◌, IfOk};
 ghost use Rattle.comp_worlds.specs.Groups.{type_of};
 ghost use Rattle.instance_state.specs.Targets.{target_of};

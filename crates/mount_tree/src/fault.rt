@@ -1,3 +1,5 @@
+//! Why no trees are built, with the name or the number at fault.
+
 ghost use Rattle.mount_tree.specs.Runs.{IsFault};
 ghost use Rattle.mount_tree.specs.declared.fault.TreeFault.TheVariants.{FileFault, BadName, OverLimit};
 
@@ -11,7 +13,7 @@ pub enum TreeFault {
     FileFault(Text),
     /// An entry of a folder has this name, which is none for a tree.
     BadName(Text),
-    /// So many nodes, names or bytes are too many: `tree-nodes`, `tree-depth` or `embedded-bytes`.
+    /// That many nodes, names or bytes are too many: `tree-nodes`, `tree-depth` or `embedded-bytes`.
     OverLimit(Text, u64),
     /// Memory ran out.
     NoMemory,
@@ -28,7 +30,7 @@ impl From<NoMemory> for TreeFault {
     }
 }
 
-/// The fault of a file or folder of this name, or want of memory for the name.
+/// The fault of a file or folder of this name, or out of memory.
 pub fn file_fault(alloc: Global, name: &Text) -> TreeFault
     ensures { IsFault (FileFault name.now) result }
 {

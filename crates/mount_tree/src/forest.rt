@@ -1,3 +1,5 @@
+//! The trees that were made, and how many nodes and bytes they have together. Their nodes are not in order yet.
+
 use tree_table::Nodes;
 use virt_base::{Items, Text};
 

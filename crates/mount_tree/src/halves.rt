@@ -1,9 +1,11 @@
+//! The law of finding a folder's child by halves, one probe after another, as emitted code does.
+
 ghost use Rattle.std.specs.Prelude.{◌≡◌, ℕ, ◌-◌, ◌<◌, ◌^◌, List, Option};
 ghost use Rattle.tree_table.specs.declared.entries.Node.{Node};
 ghost use Rattle.tree_table.specs.Folders.{AreChildren};
 ghost use Rattle.mount_tree.specs.Halves.{IsSorted, IsChild, LeadsTo, child_of};
 
-/// The law that halves find the child of a name: so many probes suffice as the number of children has binary digits (`finds`); what
+/// The law that halves find the child of a name: as many probes suffice as the number of children has binary digits (`finds`); what
 /// finds the child in any way finds the same (`one`); and where the children are all that is in a folder, the child is what the tree has
 /// at the path with that name (`leads`). It does nothing when it runs.
 pub fn halves_find_the_child()

@@ -1,3 +1,5 @@
+//! A tree in the making. The limits on names, nodes and bytes are kept here; those on nodes and bytes count all trees.
+
 ghost use Rattle.std.specs.Prelude.{◌≡◌, ◌≤◌, ◌<◌, ◌+◌, ◌∷◌, IfOk, [], codes, length, true};
 ghost use Rattle.mount_tree.specs.Runs.{IsFault, Says};
 ghost use Rattle.mount_tree.specs.declared.fault.TreeFault.TheVariants.{OverLimit};
@@ -17,14 +19,14 @@ use std::marker::Model;
 use tree_table::Node;
 use virt_base::{Bytes, NoMemory, Text};
 
-/// A path has at most so many names, all trees together so many nodes, and their files so many bytes.
+/// The most names of a path, the most nodes of all trees together, and the most bytes of their files.
 const MOST_NAMES: usize = 64;
 
 const MOST_NODES: usize = 65_536;
 
 pub const MOST_BYTES: u64 = 67_108_864;
 
-/// A tree in the making, behind those that were made.
+/// A tree in the making, after those that were made.
 #[derive(Drop)]
 pub struct Making {
     before: Forest,
@@ -46,7 +48,7 @@ impl Model for Making {
     ghost invariant = { λ m. (m.before.nodes + length m.paths ≤ 65536) × (m.bytes ≤ 67108864) × (made_bytes m.before.trees + total_in file_length m.paths ≤ m.bytes) × AreLegal m.paths × IsWood m.before };
 }
 
-/// The fault of so many nodes.
+/// The fault of that many nodes.
 fn too_many(alloc: Global, nodes: usize) -> TreeFault
     ensures { IsFault (OverLimit (codes "tree-nodes") nodes) result }
 {
@@ -54,7 +56,7 @@ fn too_many(alloc: Global, nodes: usize) -> TreeFault
 }
 
 impl Making {
-    /// A root behind the trees that were made.
+    /// A root after the trees that were made.
     pub fn root(alloc: Global, forest: Forest) -> Result<Making, TreeFault>
         requires { IsWood forest }
         ensures { Says (few_nodes (forest.nodes + 1) (record { before = forest; bytes = forest.bytes; there = root_entry ∷ [] })) result }
@@ -178,7 +180,7 @@ impl Making {
         })
     }
 
-    /// The trees with this one behind them, under its name.
+    /// The trees with this one after them, under its name.
     pub fn into_forest(self, name: Text) -> Result<Forest, NoMemory>
         ensures value { IfOk result (λ forest. forest ≡ with_tree self name) }
         ensures wood { IfOk result IsWood }
@@ -209,7 +211,7 @@ pub struct Reached<'a> {
     pub spot: Spot<'a>,
 }
 
-/// The bytes of one more file, behind so many bytes of others.
+/// The bytes of one more file, after that many bytes of others.
 pub fn fitting(alloc: Global, used: u64, bytes: Bytes) -> Result<Bytes, TreeFault>
     requires { used ≤ 67108864 }
     ensures says { Says (fitting used bytes) result }

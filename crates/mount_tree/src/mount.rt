@@ -1,3 +1,5 @@
+//! The contents of a mounted folder, added to a tree: each entry, and at once what is in it.
+
 ghost use Rattle.std.specs.Prelude.{◌≡◌, ◌+◌, ◌*◌, ◌≤◌, IfOk};
 ghost use Rattle.mount_tree.specs.Runs.{Gives, each};
 ghost use Rattle.mount_tree.specs.Building.{below, inside, mount_due};
@@ -94,7 +96,7 @@ fn add_entry<F: Files>(
     }
 }
 
-/// Adds what is in a folder outside, so many levels deep: each entry in order, and what is in a folder directly behind it.
+/// Adds what is in a folder outside, that many levels deep: each entry in order, and what is in a folder directly after it.
 pub fn add_contents<F: Files>(
     alloc: Global,
     files: &mut F,

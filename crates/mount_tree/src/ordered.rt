@@ -1,3 +1,5 @@
+//! The trees that were made, put in order: each becomes a list of entries in the order of paths.
+
 ghost use Rattle.std.specs.Prelude.{◌≡◌, IfOk};
 ghost use Rattle.mount_tree.specs.Ordered.{AreOrdered, IsOrdered};
 

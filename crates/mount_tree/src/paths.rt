@@ -1,3 +1,5 @@
+//! The nodes of a tree in the making, with a map from names to numbers for each folder.
+
 ghost use Rattle.std.specs.Prelude.{◌≡◌, ◌<◌, ◌+◌, ℕ, List, IfOk, OnOk, IfSome, [], ◌∷◌, ◌++◌, Some, length, nat_eq, string_bytes, ◌&&◌, if◌then◌else◌};
 ghost use Rattle.std.specs.Str.{bytes_eq};
 ghost use Rattle.path_names.specs.Paths.{names_of};
@@ -56,7 +58,7 @@ fn child_in(inside: &[BTreeMap<String, usize>], folder: usize, name: &str) -> Op
     }
 }
 
-/// Puts a number under a name in a folder, and a map without names behind the others.
+/// Puts a number under a name in a folder, and a map without names after the others.
 fn put_child(
     inside: &mut Vec<BTreeMap<String, usize>>,
     alloc: Global,

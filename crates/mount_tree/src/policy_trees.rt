@@ -1,3 +1,5 @@
+//! The trees of a policy, made one after another: each of what is mounted, or of what the policy writes out.
+
 ghost use Rattle.std.specs.Prelude.{◌+◌, ◌≤◌, All, IfOk};
 ghost use Rattle.tree_table.specs.Trees.{KeepLimits, target_length, total};
 ghost use Rattle.mount_tree.specs.Runs.{Gives};
@@ -21,7 +23,7 @@ use std::alloc::Global;
 use tree_table::Trees;
 use virt_base::{Items, Text};
 
-/// A mounted folder is looked at so many levels deep: at the limit on names nothing stands deeper.
+/// A mounted folder is looked at this many levels deep: at the limit on names nothing stands deeper.
 const LEVELS: usize = 65;
 
 fn add_content<F: Files>(
@@ -82,7 +84,7 @@ fn make_trees<F: Files>(alloc: Global, files: &mut F, policy: &Policy) -> Result
 }
 
 /// Builds the trees of a policy in its order. A tree's root comes first, and then what is mounted, each entry in byte
-/// order and what is in a folder directly behind it, or what the policy writes out: files, folders and links. An entry's
+/// order and what is in a folder directly after it, or what the policy writes out: files, folders and links. An entry's
 /// name is tested first, then how many names its path has, how many nodes there are, and the bytes of the file, which is
 /// read then. The targets of all links are together no longer than those that the policy writes out, so trees keep their limits
 /// where the policy's strings have at most 16,777,216 bytes, as those of each policy's text have.

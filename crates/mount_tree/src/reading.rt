@@ -1,3 +1,5 @@
+//! What is read outside for trees: files, whose bytes together have a limit, and folders, with faults as those of trees.
+
 ghost use Rattle.std.specs.Prelude.{◌≡◌, ◌≤◌, ◌+◌, IfOk, length};
 ghost use Rattle.outside.specs.Files.{AreInOrder};
 ghost use Rattle.mount_tree.specs.Runs.{Gives};
@@ -10,7 +12,7 @@ use policy_data::Content;
 use std::alloc::Global;
 use virt_base::{Bytes, Items, Text, copy_bytes};
 
-/// The bytes of a file outside, behind so many bytes of other files.
+/// The bytes of a file outside, after that many bytes of other files.
 #[tactic(auto, using(crate::proofs::ReadLemmas::read_ok, crate::proofs::ReadLemmas::read_missing, crate::proofs::ReadLemmas::read_failed, crate::proofs::ReadLemmas::read_long, crate::proofs::ReadLemmas::read_memory))]
 pub fn read_file<F: Files>(
     alloc: Global,
@@ -49,7 +51,7 @@ pub fn list_folder<F: Files>(
     }
 }
 
-/// What a file of a policy holds, behind so many bytes of other files.
+/// What a file of a policy holds, after that many bytes of other files.
 pub fn content_bytes<F: Files>(
     alloc: Global,
     files: &mut F,

@@ -1,3 +1,5 @@
+//! Files, folders and links, added to a tree one at a time, and all of them that a policy writes out.
+
 ghost use Rattle.std.specs.Prelude.{◌≡◌, ◌+◌, ◌≤◌, All, IfOk, true};
 ghost use Rattle.path_names.specs.Paths.{is_path, is_target};
 ghost use Rattle.mount_tree.specs.Legal.{ArePaths};

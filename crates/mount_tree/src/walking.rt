@@ -1,3 +1,5 @@
+//! Laws of a walk along a path, step by step, as emitted code takes it: it leads to what the path leads to, in a bounded number of steps.
+
 ghost use Rattle.std.specs.Prelude.{◌≡◌, ℕ, ◌-◌, ◌<◌, ◌≤◌, ◌^◌, Bool, List};
 ghost use Rattle.tree_table.specs.Paths.{Answer, resolve};
 ghost use Rattle.tree_table.specs.Tables.{Forest, IsSound, count_of, map_of, path_of, tree_of};
@@ -8,7 +10,7 @@ use tree_table::{Table, walk};
 use virt_base::Steps;
 
 /// The law that a step of a walk over sound nodes leads to the answer to which the walk leads, and leaves fewer steps (`turn`); that a
-/// walk which begins leads to what its path leads to by the path map (`begin`); and that so many steps as a path has parts, forty
+/// walk which begins leads to what its path leads to by the path map (`begin`); and that as many steps as a path has parts, forty
 /// targets and one end the walk with that answer (`end`). It does nothing when it runs.
 pub fn steps_lead_on()
     ensures turn { (f : Forest) → (digits start : ℕ) → (follow : Bool) → IsSound f → start < count_of f → count_of f < 2 ^ digits → (w : Walk) → (answer : Answer) → Leads f digits start follow w answer → Leads f digits start follow (step f digits start follow w) answer × (left f digits start follow (step f digits start follow w) ≤ left f digits start follow w - 1) }

@@ -1,3 +1,5 @@
+//! The family, the numbers and the port of a value of the type `ip-socket-address` (WASI 0.2, `wasi:sockets/network`).
+
 #![tactic(auto, using(wit_types::proofs::ValueLemmas::values, crate::proofs::FieldLemmas::field_there, crate::proofs::FieldLemmas::field_missing, crate::proofs::FieldLemmas::byte_there, crate::proofs::FieldLemmas::byte_missing, crate::proofs::FieldLemmas::no_record))]
 
 ghost use Rattle.std.specs.Prelude.{◌≡◌, Bool};

@@ -1,4 +1,5 @@
-// Whether two addresses begin alike, bit by bit from the greatest.
+//! Whether two addresses begin alike, bit by bit from the greatest. One is a policy's, the other stands in values.
+
 #![tactic(auto, using(wit_types::proofs::ValueLemmas::values))]
 
 ghost use Rattle.std.specs.Prelude.{◌≡◌, ◌≤◌, ◌<◌};
@@ -27,7 +28,7 @@ pub fn number_in(value: &Value) -> u128
     }
 }
 
-/// Whether the bits of two numbers of this width begin alike, for so many bits.
+/// Whether the bits of two numbers of this width begin alike, for that many bits.
 fn same_bits(a: u128, b: u128, width: u32, left: u32) -> bool
     requires { width ≤ 16 }
     ensures { result ≡ same_front left (bits width a) (bits width b) }
@@ -41,7 +42,7 @@ fn same_bits(a: u128, b: u128, width: u32, left: u32) -> bool
 }
 
 #[tactic(auto, using(crate::proofs::NumberLemmas::none_left, crate::proofs::NumberLemmas::some_left, crate::proofs::NumberLemmas::both_left))]
-/// Whether the bits of two lists of numbers of this width begin alike, for so many bits.
+/// Whether the bits of two lists of numbers of this width begin alike, for that many bits.
 fn same_numbers(ours: &[u16], theirs: &[Value], width: u32, left: u32) -> bool
     requires some { 0 < width }
     requires most { width ≤ 16 }
@@ -80,7 +81,7 @@ fn same_bytes(ours: &[u16], theirs: &[u8], width: u32, left: u32) -> bool
         && same_bytes(&ours[1..], &theirs[1..], width, left.saturating_sub(width))
 }
 
-/// Whether the bits of the numbers begin alike, for so many bits.
+/// Whether the bits of the numbers begin alike, for that many bits.
 #[tactic(auto, using(wit_types::proofs::ValueLemmas::values, crate::proofs::ByteLemmas::all_bytes))]
 pub fn are_alike(ours: &[u16], theirs: Option<&Values>, width: u32, left: u32) -> bool
     requires some { 0 < width }

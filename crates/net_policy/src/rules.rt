@@ -1,3 +1,5 @@
+//! Whether rules allow an address: one of them has a network that holds it and a range that holds its port.
+
 ghost use Rattle.std.specs.Prelude.{◌≡◌, ◌↔◌, IsTrue};
 ghost use Rattle.std.specs.List.{list_any};
 ghost use Rattle.policy_data.specs.Addresses.{IsAllowed};

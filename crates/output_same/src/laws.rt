@@ -1,3 +1,6 @@
+//! The law that an output does what its application does, where that imports nothing, and the laws that it stands on: of places in bytes,
+//! and of hosts as strategies.
+
 ghost use Rattle.output_same.specs.Strategies.{IsItsStrategy, SameOverHost};
 ghost use Rattle.output_same.specs.Laws.{OutputsWrap, PlacesMakeNoDifference, OutputsDoTheSame};
 

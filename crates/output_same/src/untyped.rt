@@ -1,3 +1,5 @@
+//! Laws of hosts that show calls without their types: to compare what two processes do, it is enough to look at these.
+
 ghost use Rattle.output_same.specs.Shown.{ByHosts, ShowsUntyped};
 
 use host_port::Host;

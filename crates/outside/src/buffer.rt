@@ -1,3 +1,5 @@
+//! Bytes with a room for which memory is taken beforehand, so that no later append runs out of memory.
+
 ghost use Rattle.std.specs.Prelude.{◌≡◌, ◌+◌, [], length, max, nat_le, OnOk, OnErr};
 ghost use Rattle.outside.specs.Buffer.{fill};
 
@@ -47,7 +49,7 @@ impl Buffer {
         self.bytes.as_slice()
     }
 
-    /// Makes room for so many bytes in all.
+    /// Makes room for `total` bytes in all.
     pub fn reserve(&mut self, total: usize) -> Result<(), NoMemory>
         ensures ok { OnOk result (self.new ≡ record self.old { room = max self.old.room total }) }
         ensures err { OnErr result (self.new ≡ self.old) }

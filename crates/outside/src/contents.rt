@@ -1,3 +1,5 @@
+//! What files in memory hold at the start: files with their bytes, and folders with their entries.
+
 ghost use Rattle.std.specs.Prelude.{◌≡◌};
 ghost use Rattle.outside.specs.MemFiles.{all_in_order};
 

@@ -1,3 +1,5 @@
+//! Entries of a folder: whether they are in order, and copies of them.
+
 ghost use Rattle.std.specs.Prelude.{◌≡◌, IfOk};
 ghost use Rattle.outside.specs.Files.{in_order};
 

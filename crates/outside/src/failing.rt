@@ -1,3 +1,5 @@
+//! Which calls of files or of a sink in memory are to fail, by their numbers, and how many failed.
+
 ghost use Rattle.std.specs.Prelude.{◌≡◌, false};
 ghost use Rattle.outside.specs.Fault.{one_more};
 ghost use Rattle.outside.specs.Failing.{from_start, is_listed, after};

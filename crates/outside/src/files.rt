@@ -1,3 +1,5 @@
+//! The outside as files and folders by name: the trait, and why its calls fail.
+
 ghost use Rattle.outside.specs.Files.{FilesState, Reads, Lists, Creates, Appends};
 
 use std::alloc::Global;
@@ -10,7 +12,7 @@ pub enum FileFail {
     Missing,
     /// It is there, and the call failed.
     Failed,
-    /// The file has so many bytes, which is more than the limit.
+    /// The file has that many bytes, which is more than the limit.
     TooLong(u64),
     NoMemory,
 }
@@ -40,7 +42,7 @@ pub type Entries = Items<Entry>;
 pub trait Files {
     ghost state: { Self → FilesState };
 
-    /// The bytes of a file of at most so many.
+    /// The bytes of a file of at most `limit`.
     fn read(&mut self, alloc: Global, name: &Text, limit: u64) -> Result<Vec<u8>, FileFail>
         ensures { Reads name.now limit (state self.old) (state self.new) result };
 

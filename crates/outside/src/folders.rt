@@ -1,3 +1,5 @@
+//! The folders of files in memory: a table by name. They stay as they were given at the start.
+
 ghost use Rattle.std.specs.Prelude.{◌≡◌, ℕ, List, true, IfOk};
 ghost use Rattle.std.specs.BTreeMap.{get_by_text};
 ghost use Rattle.outside.specs.Files.{AreInOrder};

@@ -1,3 +1,5 @@
+//! Files and folders in memory as the outside, whose listed calls fail. A file takes no more bytes than it has room for.
+
 ghost use Rattle.std.specs.Prelude.{◌≡◌, true, IfOk, OnOk, OnErr, option_map};
 ghost use Rattle.outside.specs.Failing.{from_start};
 ghost use Rattle.outside.specs.Files.{AreInOrder, Reads, Lists, Creates, Appends};
@@ -38,7 +40,7 @@ impl MemFiles {
         })
     }
 
-    /// Makes room for so many bytes in all under a name; one that is absent stays absent and is noted.
+    /// Makes room for that many bytes in all under a name; one that is absent stays absent and is noted.
     /// Where memory runs out nothing changes.
     pub fn reserve(&mut self, alloc: Global, name: &Text, bytes: usize) -> Result<(), NoMemory>
         ensures ok { OnOk result (mem_state self.new ≡ record (mem_state self.old) { held = with_room (mem_state self.old).held name.now bytes }) }

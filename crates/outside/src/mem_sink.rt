@@ -1,3 +1,5 @@
+//! A sink in memory, whose listed calls fail, and which takes no more bytes than it has room for.
+
 ghost use Rattle.std.specs.Prelude.{◌≡◌, [], max, OnOk, OnErr};
 ghost use Rattle.outside.specs.Failing.{from_start};
 ghost use Rattle.outside.specs.MemSink.{sink_state, MemPuts};
@@ -36,7 +38,7 @@ impl MemSink {
         }
     }
 
-    /// Makes room for so many bytes in all. Where memory runs out nothing changes.
+    /// Makes room for that many bytes in all. Where memory runs out nothing changes.
     pub fn reserve(&mut self, _alloc: Global, bytes: usize) -> Result<(), NoMemory>
         ensures ok { OnOk result (self.new ≡ record self.old { held = record self.old.held { room = max self.old.held.room bytes } }) }
         ensures err { OnErr result (self.new ≡ self.old) }

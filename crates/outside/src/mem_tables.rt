@@ -1,3 +1,5 @@
+//! The files of files in memory: a table by name, in which a name that is only noted stands too.
+
 ghost use Rattle.std.specs.Prelude.{◌≡◌, ℕ, List, [], Option, Some, IfOk, OnOk, OnErr, ◌||◌, is_err, true, option_map, length, string_bytes, if◌then◌else◌};
 ghost use Rattle.std.specs.Str.{bytes_eq};
 ghost use Rattle.std.specs.BTreeMap.{get_by_text};
@@ -136,7 +138,7 @@ pub fn put<V: Drop>(table: &mut BTreeMap<String, V>, name: String, value: V) -> 
     Ok(())
 }
 
-/// Makes room for so many bytes under a name, and notes it.
+/// Makes room for that many bytes under a name, and notes it.
 pub fn reserve_file(
     files: &mut BTreeMap<String, MemFile>,
     alloc: Global,

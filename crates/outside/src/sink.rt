@@ -1,3 +1,5 @@
+//! The outside as a place that takes bytes: the trait, and how its one call fails.
+
 ghost use Rattle.outside.specs.Sink.{SinkState, Puts};
 
 /// Not all bytes were written.

@@ -1,4 +1,5 @@
-// Blocks in an order: they change places, and bytes are read and replaced across them.
+//! Blocks in an order: they change places, and bytes are read and replaced across them.
+
 ghost use Rattle.std.specs.Prelude.{◌≡◌, ◌+◌, ◌*◌, ◌/◌, ◌%◌, ◌≤◌, ◌<◌, length, replicate, take, drop, slice_index_or};
 ghost use Rattle.std.specs.List.{splice};
 ghost use Rattle.overlay_tree.specs.Blocks.{exchanged, in_order, IsSpace};
@@ -64,7 +65,7 @@ fn clear_part(order: &[u32], bytes: &mut Vec<u8>, at: usize, len: usize)
     clear(bytes, from, len);
 }
 
-/// Sets so many bytes from a place on to zero.
+/// Sets that many bytes from a place on to zero.
 pub fn clear_all(order: &[u32], bytes: &mut Vec<u8>, at: usize, len: usize)
     requires space { IsSpace order.now bytes.old.items }
     requires within { at + len ≤ length order.now * 4096 }

@@ -1,11 +1,12 @@
-// Bytes of which parts are replaced in place.
+//! Bytes of which parts are replaced in place.
+
 ghost use Rattle.std.specs.Prelude.{◌≡◌, ◌+◌, ◌≤◌, length, replicate, IfOk};
 ghost use Rattle.std.specs.List.{splice};
 
 use std::alloc::Global;
 use virt_base::NoMemory;
 
-/// So many zeros.
+/// That many zeros.
 pub fn zero_bytes(alloc: Global, len: usize) -> Result<Vec<u8>, NoMemory>
     ensures { IfOk result (λ v. v.items ≡ replicate len 0) }
 {
@@ -21,7 +22,7 @@ pub fn write(bytes: &mut Vec<u8>, at: usize, new: &[u8])
     bytes[at..at + new.len()].copy_from_slice(new);
 }
 
-/// Sets so many bytes from a place on to zero.
+/// Sets that many bytes from a place on to zero.
 pub fn clear(bytes: &mut Vec<u8>, at: usize, len: usize)
     requires { at + len ≤ length bytes.old.items }
     ensures { bytes.new.items ≡ splice bytes.old.items at (at + len) (replicate len 0) }

@@ -1,4 +1,6 @@
-// The bytes of files, whose blocks stand one after another.
+//! The bytes of files, whose blocks stand one after another: what each change of a file does to slots and blocks. The quota is tested
+//! first, by `has_room`.
+
 ghost use Rattle.std.specs.Prelude.{◌≡◌, ◌+◌, ◌*◌, ◌≤◌, ◌<◌, ◌^◌, ◌++◌, ◌-◌, min, List, ℕ, None, IsSome, length, drop, take, replicate, slice_set, slice_index_or};
 ghost use Rattle.std.specs.List.{splice};
 ghost use Rattle.tree_table.specs.Scratches.{blocks_of, content_at, has_room, created, find_file, read_at, removed, renamed, resized, with_content, without_other};
@@ -30,7 +32,7 @@ fn start_of(slots: &[Slot], number: usize) -> usize
 }
 
 #[tactic(auto, using(crate::proofs::PieceLemmas::blocks_one, crate::proofs::ResizeLemmas::room_left))]
-/// Whether the other files' blocks and those of so many bytes are within so many blocks.
+/// Whether the other files' blocks and those of `len` bytes are within `blocks` blocks.
 pub fn has_room(slots: &[Slot], blocks: u32, number: usize, len: u64) -> bool
     requires number { number < length slots.now }
     requires within { blocks_in slots.now ≤ blocks }
@@ -41,7 +43,7 @@ pub fn has_room(slots: &[Slot], blocks: u32, number: usize, len: u64) -> bool
     len <= left as u64
 }
 
-/// A file takes so many blocks from its first one on, in place of those that it held: the other files' blocks after it, up to those that
+/// A file takes `wanted` blocks from its first one on, in place of those that it held: the other files' blocks after it, up to those that
 /// no file has, come to stand after the new ones.
 fn move_rest(space: &mut Space, first: usize, used: usize, held: usize, wanted: usize)
     requires held { first + held ≤ used }
@@ -153,7 +155,7 @@ pub fn replace_bytes(slots: &[Slot], space: &mut Space, number: usize, at: usize
     space.write(start + at, new);
 }
 
-/// Sets so many bytes of a file that is long enough to zero.
+/// Sets that many bytes of a file that is long enough to zero.
 pub fn clear_bytes(slots: &[Slot], space: &mut Space, number: usize, at: usize, len: usize)
     requires number { number < length slots.now }
     requires live { IsSome (slice_index_or slots.now number None) }

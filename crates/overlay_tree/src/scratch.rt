@@ -1,3 +1,5 @@
+//! The writable folder as callers see it: files by number and name, under a quota.
+
 ghost use Rattle.std.specs.Prelude.{◌≡◌, ◌+◌, ◌*◌, ◌≤◌, ◌<◌, ◌^◌, ◌++◌, All, List, ℕ, Some, None, IsSome, IfOk, IfSome, OnOk, OnErr, length, drop, option_map, replicate, true, []};
 ghost use Rattle.std.specs.List.{splice};
 ghost use Rattle.tree_table.specs.Scratches.{ScratchMap, blocks_of, empty_scratch, file_at, name_at, content_at, find_file, free_number, read_at, with_content, has_room, created, removed, renamed, resized, overwritten, sized, written};
@@ -18,7 +20,7 @@ use virt_base::NoMemory;
 #[derive(Debug, Clone, Copy, PartialEq, Eq)]
 pub struct InsufficientSpace;
 
-/// Files by number and name in so many blocks of memory, all of which is taken at the beginning. The bytes of a file stand
+/// Files by number and name in a number of blocks of memory, all of which is taken at the beginning. The bytes of a file stand
 /// in one piece.
 ///
 /// Contracts see the files as a map with a quota.
@@ -41,7 +43,7 @@ impl Model for Scratch {
 }
 
 impl Scratch {
-    /// No files, of which there may be so many in so many blocks. This is the only call that takes memory.
+    /// No files, of which there may be `files` in `blocks` blocks. This is the only call that takes memory.
     pub fn new(alloc: Global, blocks: u32, files: u32) -> Result<Scratch, NoMemory>
         ensures { IfOk result (λ scratch. scratch ≡ empty_scratch blocks files) }
     {
@@ -107,7 +109,7 @@ impl Scratch {
         }
     }
 
-    /// Whether the other files' blocks and those of so many bytes are within the quota.
+    /// Whether the other files' blocks and those of `len` bytes are within the quota.
     fn has_room(&self, number: u32, len: u64) -> bool
         requires { IsSome (file_at self.now number) }
         ensures value { result ≡ has_room self.now number len }
@@ -203,7 +205,7 @@ impl Scratch {
         Ok(())
     }
 
-    /// Sets so many bytes of a file that is long enough to zero.
+    /// Sets that many bytes of a file that is long enough to zero.
     fn clear(&mut self, number: u32, at: usize, len: usize)
         requires live { IsSome (file_at self.old number) }
         requires long { at + len ≤ length (content_at self.old number) }
@@ -212,7 +214,7 @@ impl Scratch {
         clear_bytes(&self.slots, &mut self.space, number as usize, at, len);
     }
 
-    /// Writes so many zeros from a place on into a file, as `write` does of bytes.
+    /// Writes that many zeros from a place on into a file, as `write` does of bytes.
     ///
     /// # Errors
     ///

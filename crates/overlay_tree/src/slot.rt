@@ -1,3 +1,5 @@
+//! One number of a file: the name and the length of its file, with room for the longest name, so that files come and go without memory.
+
 ghost use Rattle.std.specs.Prelude.{◌≡◌, ◌≤◌, ◌<◌, ◌*◌, ◌^◌, None, Some, IfOk, IfSome, is_none, length, option_map};
 ghost use Rattle.tree_table.specs.Scratches.{blocks_of};
 ghost use Rattle.overlay_tree.specs.Pieces.{Entry, entry_blocks, is_named, len_of, with_len};
@@ -118,7 +120,7 @@ impl Slot {
 }
 
 #[tactic(auto, using(crate::proofs::PieceLemmas::within_blocks))]
-/// How many blocks so many bytes take.
+/// How many blocks that many bytes take.
 pub fn blocks_of(len: usize) -> usize
     requires { len < 2 ^ 48 }
     ensures value { result ≡ blocks_of len }

@@ -1,4 +1,5 @@
-// The numbers of files.
+//! The numbers of files: which is free, which has a name, and how many blocks the files take together.
+
 ghost use Rattle.std.specs.Prelude.{◌≡◌, ◌<◌, ◌^◌, None, IfOk, IfSome, length, position, is_none, replicate};
 ghost use Rattle.overlay_tree.specs.Pieces.{blocks_in, is_named};
 
@@ -6,7 +7,7 @@ use crate::slot::Slot;
 use std::alloc::Global;
 use virt_base::NoMemory;
 
-/// So many numbers without files.
+/// That many numbers without files.
 pub fn free_slots(alloc: Global, count: u32) -> Result<Vec<Slot>, NoMemory>
     ensures { IfOk result (λ slots. slots.items ≡ replicate count None) }
 {

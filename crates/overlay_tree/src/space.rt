@@ -1,4 +1,5 @@
-// Blocks of memory, which change places by their numbers.
+//! Blocks of memory, which change places by their numbers.
+
 ghost use Rattle.std.specs.Prelude.{◌≡◌, ◌+◌, ◌*◌, ◌≤◌, ◌<◌, ◌^◌, ℕ, All, length, replicate, take, drop, IfOk};
 ghost use Rattle.std.specs.List.{splice};
 ghost use Rattle.overlay_tree.specs.Blocks.{exchanged, times};
@@ -10,7 +11,7 @@ use std::alloc::Global;
 use std::marker::Model;
 use virt_base::NoMemory;
 
-/// The numbers from 0 up to so many.
+/// The numbers from 0 up to `count`.
 fn numbers(alloc: Global, count: u32) -> Result<Vec<u32>, NoMemory>
     ensures count { IfOk result (λ order. length order.items ≡ count) }
     ensures inside { IfOk result (λ order. All (λ k. k < count) order.items) }
@@ -51,7 +52,7 @@ impl Model for Space {
 }
 
 impl Space {
-    /// So many blocks of zeros. This is the only call that takes memory.
+    /// That many blocks of zeros. This is the only call that takes memory.
     pub fn new(alloc: Global, blocks: u32) -> Result<Space, NoMemory>
         ensures { IfOk result (λ space. space ≡ replicate (blocks * 4096) 0) }
     {
@@ -86,7 +87,7 @@ impl Space {
         write_all(&self.order, &mut self.bytes, at, new);
     }
 
-    /// Sets so many bytes from a place on to zero.
+    /// Sets that many bytes from a place on to zero.
     pub fn clear(&mut self, at: usize, len: usize)
         requires { at + len ≤ length self.old }
         ensures { self.new ≡ splice self.old at (at + len) (replicate len 0) }

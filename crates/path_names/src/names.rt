@@ -1,3 +1,5 @@
+//! Which parts of a path are legal names, and which texts are paths.
+
 ghost use Rattle.std.specs.Prelude.{◌≡◌};
 ghost use Rattle.path_names.specs.Paths.{is_name, is_path};
 

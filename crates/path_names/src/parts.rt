@@ -1,3 +1,5 @@
+//! Texts that are cut at a byte, or searched for one: paths, and other texts of a policy.
+
 ghost use Rattle.std.specs.Prelude.{◌≡◌, ◌==◌, ◌<◌, IfSome, length, option_map, position};
 ghost use Rattle.path_names.specs.Parts.{cut, holds_byte, parts_of, parts_with};
 
@@ -15,7 +17,7 @@ fn place_of(text: &[u8], byte: u8) -> Option<usize>
     text.iter().position(|b| *b == byte)
 }
 
-/// What stands before the first such byte, and what behind it.
+/// What stands before the first such byte, and what after it.
 pub fn cut(text: &[u8], byte: u8) -> Option<(&[u8], &[u8])>
     ensures value { option_map (λ p. (p.0.now, p.1.now)) result ≡ cut byte text.now }
     ensures parts { parts_of byte text.now ≡ parts_with byte text.now (option_map (λ p. (p.0.now, p.1.now)) result) }

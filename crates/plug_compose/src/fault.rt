@@ -1,3 +1,5 @@
+//! Why two components were not plugged. The faults of what the whole is made of become one of a few causes.
+
 use comp_pair::PairFault;
 use std::alloc::AllocError;
 use virt_base::NoMemory;

@@ -1,3 +1,5 @@
+//! A set of numbers below a count, with a mark for each.
+
 use std::alloc::Global;
 use virt_base::NoMemory;
 

@@ -1,3 +1,5 @@
+//! What plugging takes and makes: two components with their types and bytes, and the one that holds both.
+
 use comp_signature::ComponentType;
 use wasi_match::Listed;
 use wasm_ast::Component;

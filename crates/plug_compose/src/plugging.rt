@@ -1,3 +1,5 @@
+//! Two components become one: the first is put in front of the second with the sections around them, and what was made is checked.
+
 ghost use Rattle.std.specs.Prelude.{◌≡◌, ◌++◌, ◌<◌, ◌^◌, IfOk, length};
 ghost use Rattle.comp_grammar.specs.Trees.{plain};
 ghost use Rattle.comp_write.specs.Copying.{SpellsBare};

@@ -1,3 +1,5 @@
+//! The resources that an instance type declares, as a set, so that each is tested without a walk along the list.
+
 ghost use Rattle.std.specs.Prelude.{◌≡◌, IfOk};
 ghost use Rattle.comp_types.specs.Matching.{is_own};
 

@@ -1,3 +1,5 @@
+//! Why the second component can't be plugged: what is at fault first, or that the first component meets none of its imports.
+
 use virt_base::{NoMemory, Text};
 use wasi_match::Cause;
 

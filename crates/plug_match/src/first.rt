@@ -1,3 +1,6 @@
+//! What the first component asks of the host: its imports, matched with the listed interfaces one after another. Its exports may hold
+//! handles.
+
 ghost use Rattle.std.specs.Prelude.{◌≡◌, ◌<◌, IfOk, nat_eq, Some};
 ghost use Rattle.std.specs.List.{list_any};
 ghost use Rattle.comp_types.specs.Views.{item_of, entries_of};

@@ -1,3 +1,6 @@
+//! The numbers of resources in the whole: those that come from the host have the numbers of their kinds, and the first component's own
+//! follow.
+
 ghost use Rattle.std.specs.Prelude.{◌≡◌, IfOk, OnOk, drop};
 ghost use Rattle.comp_types.specs.Matching.{GoesOn};
 ghost use Rattle.plug_match.specs.Numbers.{number_of, handed_on, with_pairs};
@@ -5,7 +8,7 @@ ghost use Rattle.plug_match.specs.Numbers.{number_of, handed_on, with_pairs};
 use comp_types::Substitution;
 use virt_base::NoMemory;
 
-/// The number in the whole of the first component's resource 0, if that is its own: it stands behind the kinds.
+/// The number in the whole of the first component's resource 0, if that is its own: it stands after the kinds.
 pub const FIRST_OWN: u32 = 14;
 
 /// The number in the whole of a resource of the first. No component has so many that the numbers end.
@@ -39,7 +42,7 @@ pub fn hand_on(
     Ok(true)
 }
 
-/// Adds those of the pairs that stand behind the first ones.
+/// Adds those of the pairs that stand after the first ones.
 pub fn add_behind(own: &mut Substitution, by: &Substitution, first: usize) -> Result<(), NoMemory>
     ensures { OnOk result (own.new ≡ with_pairs own.old (drop first by.now)) }
 {

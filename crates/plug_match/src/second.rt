@@ -1,3 +1,6 @@
+//! The imports of the second component, matched one after another: each is met by the first or asked of the host, and its exports are asked
+//! last.
+
 ghost use Rattle.std.specs.Prelude.{◌≡◌, IfOk};
 ghost use Rattle.std.specs.List.{list_any};
 ghost use Rattle.comp_types.specs.Views.{item_of, entries_of};

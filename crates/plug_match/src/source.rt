@@ -1,3 +1,6 @@
+//! Where an import of the second component comes from, the first component or the host, and what is known of the imports while they are
+//! matched.
+
 use comp_types::Substitution;
 use virt_base::Items;
 use wasi_match::ListedUse;

@@ -1,3 +1,5 @@
+//! What the fields of a policy are made of: variables, clocks, folders, trees, the scratch folder, and rules on addresses.
+
 use virt_base::{Bytes, Items, Text};
 
 /// Texts in order.
@@ -44,7 +46,7 @@ pub enum WallClock {
     Fixed(WallTime),
 }
 
-/// The monotonic clock that the application sees: that of the host, none, or one that stands still at so many nanoseconds.
+/// The monotonic clock that the application sees: that of the host, none, or one that stands still at that many nanoseconds.
 #[derive(Debug, Clone, Copy, PartialEq, Eq)]
 pub enum MonotonicClock {
     Allow,

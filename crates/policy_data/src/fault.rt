@@ -1,3 +1,5 @@
+//! Why the text of a policy is refused. A fault of a key or a value keeps its path, which the program puts out.
+
 use virt_base::{NoMemory, Text};
 
 /// Why a policy is refused. A fault of a key or a value keeps its path.

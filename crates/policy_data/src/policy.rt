@@ -1,3 +1,5 @@
+//! What a policy says as a whole, with the limits of each field. What fields are made of stands in `data` and `words`.
+
 use crate::data::{
     Arguments, MonotonicClock, NetRules, Passes, Scratch, Texts, TreeSources, Variables, WallClock,
     WorkingDirectory,

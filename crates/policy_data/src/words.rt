@@ -1,3 +1,5 @@
+//! The choices that a policy spells by one word, and which word stands for which.
+
 ghost use Rattle.std.specs.Prelude.{◌≡◌, List, ℕ, Option};
 ghost use Rattle.policy_data.specs.Words.{access_named, deny_named, host_files_named, monotonic_named, sockets_named, stream_named, wall_named};
 

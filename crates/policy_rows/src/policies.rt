@@ -1,3 +1,5 @@
+//! Tests of policies: blocks of `rows`, and texts that rows cannot hold.
+
 use crate::holding::{hold, same};
 use crate::rows;
 use crate::shown::shown;

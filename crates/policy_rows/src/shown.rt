@@ -1,3 +1,5 @@
+//! How rows show a value: as it is printed for debugging, without what each row would repeat.
+
 use std::alloc::Global;
 use std::fmt::Debug;
 use std::test::Fail;

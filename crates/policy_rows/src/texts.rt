@@ -1,3 +1,5 @@
+//! Rows: the texts inside a policy, read one by one.
+
 use crate::holding::{hold, parts};
 use crate::shown::shown;
 use path_names::{holds_byte, is_path};

@@ -1,3 +1,5 @@
+//! Rows: the trees of a policy over files in memory, with calls that fail, and the limits on nodes and bytes.
+
 use crate::holding::{hold, number_in, parts};
 use crate::outside_files::{contents_of, outside_of};
 use crate::shown::{printed, shown};
@@ -46,7 +48,7 @@ fn add_entry(line: &mut String, entry: &Entry) -> Result<(), Fail> {
     }
 }
 
-/// The name of each tree, and its paths in order: `/` behind a folder, `=` before what a file holds, `>` before a target.
+/// The name of each tree, and its paths in order: `/` after a folder, `=` before what a file holds, `>` before a target.
 fn in_words(alloc: Global, trees: &Trees) -> Result<String, Fail> {
     let mut line = String::new(alloc);
     for tree in trees.as_slice() {
@@ -126,7 +128,7 @@ fn trees_are_what_the_rows_say(rt: HostRuntime) -> Result<(), Fail> {
     hold(rt.alloc(), "tree", ROWS)
 }
 
-/// A folder of so many empty files.
+/// A folder of that many empty files.
 fn crowd(alloc: Global, count: u64) -> Result<Contents, Fail> {
     let mut contents = contents_of(alloc, "", "")?;
     let mut entries = Items::empty(alloc);
@@ -154,7 +156,7 @@ pub fn crowded(alloc: Global, asked: &str) -> Result<String, Fail> {
     outcome(alloc, text, &mut files, false)
 }
 
-/// Each row: how many files, and a policy that mounts their folder behind a tree of a root alone.
+/// Each row: how many files, and a policy that mounts their folder after a tree of a root alone.
 const NODES: &str = r#"65534;fs.tree = [{ name = "/r" }, { name = "/c", mount = "c" }] => trees
 65535;fs.tree = [{ name = "/r" }, { name = "/c", mount = "c" }] => OverLimit("tree-nodes", 65537)"#;
 
@@ -163,7 +165,7 @@ fn nodes_of_trees(rt: HostRuntime) -> Result<(), Fail> {
     hold(rt.alloc(), "nodes", NODES)
 }
 
-/// A file of so many bytes.
+/// A file of that many bytes.
 fn heavy(alloc: Global, bytes: usize) -> Result<Contents, Fail> {
     let mut contents = contents_of(alloc, "", "")?;
     contents.files.push(Named {
@@ -179,7 +181,7 @@ pub fn weighed(alloc: Global, asked: &str) -> Result<String, Fail> {
     outcome(alloc, text, &mut files, false)
 }
 
-/// Each row: how many bytes, and a policy with a file of three bytes and one of so many from outside.
+/// Each row: how many bytes, and a policy with a file of three bytes and one of that many from outside.
 const BYTES: &str =
     r#"67108861;fs.tree = [{ name = "/t", files = { a = { text = "abc" }, b = { file = "big" } } }] => trees
 67108862;fs.tree = [{ name = "/t", files = { a = { text = "abc" }, b = { file = "big" } } }] => OverLimit("embedded-bytes", 67108865)"#;

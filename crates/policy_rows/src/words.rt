@@ -1,3 +1,5 @@
+//! Rows: words of a command line, and the command that they name.
+
 use crate::holding::hold;
 use crate::shown::shown;
 use std::alloc::Global;

@@ -1,3 +1,5 @@
+//! Bytes spelled by pairs of hexadecimal digits, in lower or upper case.
+
 ghost use Rattle.std.specs.Prelude.{◌≡◌, ◌<◌, IfOk, IfSome};
 ghost use Rattle.policy_text.specs.Hex.{hex_bytes, hex_digit};
 

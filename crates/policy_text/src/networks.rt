@@ -1,3 +1,5 @@
+//! Networks as a policy spells them: an address of IPv4 or IPv6 in full, a slash, and how many of its first bits count.
+
 ghost use Rattle.std.specs.Prelude.{◌≡◌, ◌<◌, true, false, IfOk, IfSome, option_and_then, if◌then◌else◌};
 ghost use Rattle.path_names.specs.Parts.{parts_of};
 ghost use Rattle.policy_text.specs.Networks.{address_of, all_numbers, decimal_digit, decimal_of, group_digit, group_of, network_at, network_by, network_of, number_of, upto};

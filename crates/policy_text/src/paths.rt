@@ -1,3 +1,6 @@
+//! The paths of one tree, and whether one more clashes with them. They stand in an ordered map, so that it is compared with its neighbours
+//! alone.
+
 ghost use Rattle.std.specs.Prelude.{◌≡◌, ◌||◌, ◌&&◌, not, map, [], IfOk, OnErr, IsTrue, Bool, true, false};
 ghost use Rattle.std.specs.List.{list_any};
 ghost use Rattle.path_names.specs.Paths.{Placed, covers, clashes, is_clear};
@@ -10,7 +13,7 @@ use std::ops::Bound;
 use virt_base::NoMemory;
 
 /// The paths of a tree so far, no two of which clash. Kept in an order in which what lies in a path stands right
-/// behind it, so that one look before and one behind a path find what it clashes with.
+/// after it, so that one look before and one after a path find what it clashes with.
 #[derive(Drop)]
 pub struct Paths {
     leaves: BTreeMap<Vec<u8>, bool>,

@@ -1,3 +1,5 @@
+//! The table `clocks` of a policy: its wall clock and its monotonic clock.
+
 ghost use Rattle.policy_toml.specs.Clocks.{clocks_keys, clocks_of, monotonic_in, time_keys, time_of, wall_in};
 
 use crate::keys::bad_value;

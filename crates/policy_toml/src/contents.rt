@@ -1,3 +1,5 @@
+//! What a file that a policy writes out holds: a table with exactly one of the keys `text`, `hex` and `file`.
+
 ghost use Rattle.toml.specs.View.{view};
 ghost use Rattle.policy_toml.specs.Reading.{Gives};
 ghost use Rattle.policy_toml.specs.Contents.{content_keys, content_of, hex_in};

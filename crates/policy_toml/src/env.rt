@@ -1,3 +1,5 @@
+//! The table `env` of a policy: which variables of the host are passed, which are set, the arguments and the working directory.
+
 ghost use Rattle.std.specs.Prelude.{[]};
 ghost use Rattle.toml.specs.View.{table_view, view};
 ghost use Rattle.policy_toml.specs.Reading.{Gives, each_member};

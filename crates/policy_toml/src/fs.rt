@@ -1,3 +1,6 @@
+//! The table `fs` of a policy: which of the host's folders are passed, its trees, and its scratch folder. Their names must differ, so each
+//! reader knows the names before.
+
 ghost use Rattle.std.specs.Prelude.{◌≡◌, ◌++◌, [], codes, option_map};
 ghost use Rattle.std.specs.List.{list_any};
 ghost use Rattle.std.specs.Str.{bytes_eq};

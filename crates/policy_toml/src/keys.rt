@@ -1,3 +1,5 @@
+//! Keys of tables (TOML 1.0) and their paths: the value at a key, the refusal of unknown keys, and faults at a path.
+
 ghost use Rattle.std.specs.Prelude.{◌≡◌, map, option_map, Err};
 ghost use Rattle.std.specs.List.{list_any};
 ghost use Rattle.std.specs.Str.{bytes_eq};

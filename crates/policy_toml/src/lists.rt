@@ -1,3 +1,5 @@
+//! Readers of arrays (TOML 1.0) with a greatest number of items, where an item may depend on those before it.
+
 ghost use Rattle.std.specs.Prelude.{◌≡◌, List as Listed, ℕ, Result, []};
 ghost use Rattle.toml.specs.Data.{Data};
 ghost use Rattle.toml.specs.View.{array_view, table_view, view};
@@ -51,7 +53,7 @@ impl<R: Reader> ItemReader for Each<R> {
     }
 }
 
-/// An array of at most so many items.
+/// An array of at most `greatest` items.
 #[derive(Drop)]
 pub struct List<I> {
     pub greatest: usize,

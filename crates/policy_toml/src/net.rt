@@ -1,3 +1,5 @@
+//! The table `net` of a policy: the networks and ports to which sockets may connect and bind, and whether names are resolved.
+
 ghost use Rattle.std.specs.Prelude.{◌≡◌, IfOk};
 ghost use Rattle.toml.specs.View.{table_view};
 ghost use Rattle.policy_toml.specs.Reading.{Gives};

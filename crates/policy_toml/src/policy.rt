@@ -1,3 +1,5 @@
+//! The reader of a whole policy: its text as a TOML document (TOML 1.0), and the tables of that in the order of the policy's fields.
+
 ghost use Rattle.std.specs.Prelude.{◌≡◌, ◌≤◌, length, IfOk};
 ghost use Rattle.toml.specs.View.{table_view};
 ghost use Rattle.policy_data.specs.Limits.{KeepsLimits};

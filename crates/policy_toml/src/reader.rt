@@ -1,3 +1,6 @@
+//! The traits by which values and tables of a TOML document (TOML 1.0) are read, and what is common to their readers: keys that may be
+//! absent, keys that have to be there, and tables with known keys alone.
+
 ghost use Rattle.std.specs.Prelude.{◌≡◌, List, ℕ, Result, map};
 ghost use Rattle.toml.specs.Data.{Data, Members};
 ghost use Rattle.toml.specs.View.{table_view, view};

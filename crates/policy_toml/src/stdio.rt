@@ -1,3 +1,5 @@
+//! The table `stdio` of a policy: a word for each of the three standard streams.
+
 ghost use Rattle.policy_toml.specs.Stdio.{stdio_keys, stdio_of};
 
 use crate::reader::{TableReader, optional};

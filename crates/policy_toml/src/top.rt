@@ -1,3 +1,6 @@
+//! The keys at the top of a policy whose values are numbers or words: `version`, `deny`, `transfer-limit`, `slots`, `random`, `exit` and
+//! `sockets`.
+
 ghost use Rattle.toml.specs.View.{table_view};
 ghost use Rattle.policy_toml.specs.Reading.{Gives};
 ghost use Rattle.policy_toml.specs.Top.{access_of, limits_of, version_in};

@@ -1,3 +1,6 @@
+//! What is in a tree of a policy: a folder outside that is mounted, or the files, folders and links that the policy writes out, no two of
+//! which clash.
+
 ghost use Rattle.std.specs.Prelude.{◌≡◌, ◌++◌, ◌||◌, [], codes, map, IfOk, Bool, true};
 ghost use Rattle.std.specs.List.{list_any};
 ghost use Rattle.toml.specs.Data.{get_member};

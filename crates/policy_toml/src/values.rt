@@ -1,3 +1,5 @@
+//! Readers of values without parts (TOML 1.0): whole numbers in a range, words that stand for a choice, booleans and strings.
+
 ghost use Rattle.std.specs.Prelude.{◌≡◌};
 ghost use Rattle.toml.specs.View.{view};
 ghost use Rattle.policy_toml.specs.Reading.{Gives};

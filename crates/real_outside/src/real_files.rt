@@ -1,3 +1,5 @@
+//! The machine's files and folders as `Files`: reads within a limit, listings in the order of names, writes, and a count of the faults.
+
 ghost use Rattle.std.specs.Prelude.{ℕ, IfErr};
 ghost use Rattle.outside.specs.Files.{IsWithin, IsListing};
 
@@ -10,7 +12,7 @@ use std::io::{ErrorKind, Read, Write};
 use std::{fs, io, rt};
 use virt_base::{Items, Text};
 
-/// So many bytes are read in one call.
+/// This many bytes are read in one call.
 const PIECE: usize = 16_384;
 
 /// Why the machine's last call failed that did; nothing where none has, or where the fault is not of the machine.

@@ -1,3 +1,5 @@
+//! Standard output, or any other writer, as a `Sink`, with its faults counted.
+
 ghost use Rattle.std.specs.Prelude.{◌≡◌, ◌≤◌};
 ghost use Rattle.outside.specs.Fault.{Rose};
 

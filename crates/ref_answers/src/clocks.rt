@@ -1,4 +1,5 @@
-// wasi:clocks/wall-clock and wasi:clocks/monotonic-clock, where the policy fixes the clock.
+//! `wasi:clocks/wall-clock` and `wasi:clocks/monotonic-clock` (WASI 0.2), where the policy fixes the clock.
+
 ghost use Rattle.std.specs.Prelude.{◌≡◌, IfOk};
 ghost use Rattle.wit_types.specs.PlainValue.{plain_value, PlainValues};
 ghost use Rattle.reference_step.specs.Clocks.{datetime, wall_time, instant};

@@ -1,4 +1,5 @@
-// All listed interfaces.
+//! All listed interfaces in one list, described once.
+
 ghost use Rattle.std.specs.Prelude.{◌≡◌, ◌<◌, IfOk};
 ghost use Rattle.wasi_table.specs.Plain.{plain_interface};
 ghost use Rattle.reference_step.specs.Listed.{interface_at};

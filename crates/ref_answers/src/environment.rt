@@ -1,4 +1,5 @@
-// wasi:cli/environment, where the host is not asked.
+//! `wasi:cli/environment` (WASI 0.2), where the host is not asked.
+
 #![tactic(auto, using(wit_types::proofs::ValueLemmas::values))]
 
 ghost use Rattle.std.specs.Prelude.{◌≡◌, IfOk, map};

@@ -1,4 +1,5 @@
-// The names of interfaces: before `@` the interface's, and behind it the version.
+//! The names of interfaces: before `@` the interface's, and after it the version.
+
 #![tactic(auto)]
 
 ghost use Rattle.std.specs.Prelude.{◌≡◌, ◌<◌, IfSome, length, position};
@@ -7,7 +8,7 @@ ghost use Rattle.reference_step.specs.Listed.{cut};
 
 use wasi_table::Interface;
 
-/// What stands before the first `@` of a name, and behind it.
+/// What stands before the first `@` of a name, and after it.
 pub fn cut(name: &str) -> (&str, &str)
     ensures { (result.0.now, result.1.now) ≡ cut name.now }
 {

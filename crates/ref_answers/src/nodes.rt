@@ -1,4 +1,5 @@
-// Values of wasi:filesystem/types, and flags.
+//! Values of `wasi:filesystem/types` (WASI 0.2), as rows over trees and over the scratch folder answer them, and flags.
+
 #![tactic(auto, using(wit_types::proofs::ValueLemmas::values))]
 
 ghost use Rattle.std.specs.Prelude.{◌≡◌, ◌<◌, IfOk};
@@ -48,7 +49,7 @@ pub fn entry_value(alloc: Global, ty: u32, name: Text) -> Result<Value, NoMemory
     pair(alloc, label(ty), Value::Str(name))
 }
 
-/// The bytes from an offset on, so many at most, and whether they reach the end.
+/// The bytes from an offset on, at most that many, and whether they reach the end.
 pub fn bytes_from(alloc: Global, content: &[u8], len: u64, offset: u64) -> Result<Value, NoMemory>
     ensures { IfOk result (λ v. plain_value v ≡ bytes_from content.now len offset) }
 {

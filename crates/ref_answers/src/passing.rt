@@ -1,4 +1,5 @@
-// wasi:cli/environment, where the policy passes variables of the host.
+//! `wasi:cli/environment` (WASI 0.2), where the policy passes variables of the host: which are kept of those that it answers.
+
 #![tactic(auto, using(wit_types::proofs::ValueLemmas::values, crate::proofs::PassLemmas::passing))]
 
 ghost use Rattle.std.specs.Prelude.{◌≡◌, ◌++◌, pos, IfOk, OnOk, map, filter};
@@ -128,7 +129,7 @@ fn keep_listed(policy: &Policy, answer: Value, passed: &mut Vec<Value>) -> Resul
     }
 }
 
-/// Of the variables that the host answers those that are passed, in order, and behind them those that the policy sets.
+/// Of the variables that the host answers those that are passed, in order, and after them those that the policy sets.
 pub fn passed_variables(
     alloc: Global,
     policy: &Policy,

@@ -1,4 +1,5 @@
-// wasi:io/poll, where a pollable is not the host's.
+//! `wasi:io/poll` (WASI 0.2), where a pollable is not the host's: it is always ready.
+
 #![tactic(auto, using(wit_types::proofs::ValueLemmas::values, crate::proofs::PollLemmas::one_more, crate::proofs::PollLemmas::polled_none))]
 
 ghost use Rattle.std.specs.Prelude.{◌≡◌, ◌++◌, IfOk, OnOk, map};

@@ -1,4 +1,5 @@
-// The kinds of resources by their names, and the interfaces that define them.
+//! The kinds of resources by their names, and the interfaces that define them.
+
 ghost use Rattle.std.specs.Prelude.{◌≡◌, ◌<◌, ◌++◌, ◌∷◌, IfOk, IfSome, slice_index_or};
 ghost use Rattle.std.specs.List.{list_any};
 ghost use Rattle.std.specs.Str.{bytes_eq};

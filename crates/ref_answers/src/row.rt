@@ -1,3 +1,5 @@
+//! What a function does that is answered without the host: it traps, or it answers a value and changes a handle.
+
 #![tactic(auto, using(wit_types::proofs::ValueLemmas::values))]
 
 ghost use Rattle.std.specs.Prelude.{◌≡◌, IfOk};

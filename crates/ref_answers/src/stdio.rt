@@ -1,4 +1,6 @@
-// wasi:cli/stdin, stdout and stderr, where the policy ignores the stream, and the terminals of streams that are not the host's.
+//! `wasi:cli/stdin`, `stdout` and `stderr` (WASI 0.2), where the policy ignores the stream, and the terminals of streams that are not the
+//! host's.
+
 ghost use Rattle.std.specs.Prelude.{◌≡◌, ◌∷◌, []};
 ghost use Rattle.wit_types.specs.PlainValue.{PlainValues};
 ghost use Rattle.reference_step.specs.State.{View};

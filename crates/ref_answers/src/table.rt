@@ -1,3 +1,5 @@
+//! The listed interfaces with their versions, in which functions, kinds and resources are found by name.
+
 ghost use Rattle.std.specs.Prelude.{◌≡◌, ◌<◌, IfOk, IfSome, length, option_map};
 ghost use Rattle.std.specs.List.{find};
 ghost use Rattle.std.specs.Option.{option_copied};

@@ -1,4 +1,5 @@
-// Values as the rows write them.
+//! Values of the interface language (WIT) as rows write them: numbers, labels, texts, options, results, lists and records.
+
 #![tactic(auto, using(wit_types::proofs::ValueLemmas::values, crate::proofs::ValueLemmas::byte_numbers, crate::proofs::ValueLemmas::values_listed))]
 
 ghost use Rattle.std.specs.Prelude.{◌≡◌, [], ◌∷◌, IfOk, map};

@@ -1,4 +1,5 @@
-// Types that are equal but for the numbers of handles.
+//! Types that are equal but for the numbers of handles, by which the type of a call's result is compared with the listed one.
+
 #![tactic(auto, using(wit_types::proofs::PlainLemmas::plains, crate::proofs::AlikeLemmas::case_before, crate::proofs::AlikeLemmas::bare_alike, crate::proofs::AlikeLemmas::result_alike, crate::proofs::Only::only))]
 
 ghost use Rattle.std.specs.Prelude.{◌≡◌, [], false, IfSome, IfNone};

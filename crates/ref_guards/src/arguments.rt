@@ -1,4 +1,5 @@
-// Whether arguments are of the types of parameters.
+//! Whether there is an argument for each parameter, of its type.
+
 #![tactic(auto, using(wit_types::proofs::ValueLemmas::values))]
 
 ghost use Rattle.std.specs.Prelude.{◌≡◌, pos};

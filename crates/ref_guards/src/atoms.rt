@@ -1,4 +1,6 @@
-// The texts, lists and handles of values.
+//! The texts, lists and handles that stand in a value, noted in the value's order. Weight and live handles are found from these, without
+//! another walk through the value.
+
 #![tactic(auto, using(wit_types::proofs::ValueLemmas::values, abi_layout::proofs::LayoutLemmas::counts, crate::proofs::AtomLemmas::atom_rules))]
 
 ghost use Rattle.std.specs.Prelude.{◌≡◌, ◌≤◌, ◌++◌, ◌∷◌, ℕ, List, OnOk, IfSome, IfNone, []};
@@ -17,9 +19,9 @@ use wit_types::{Case, Field, Fields, Value, Values, WitType};
 /// A text, a list or a handle in a value.
 #[derive(Debug, Clone, Copy, PartialEq, Eq)]
 pub enum Atom {
-    /// A text of so many bytes.
+    /// A text of that many bytes.
     Text(usize),
-    /// A list of so many elements of a size.
+    /// A list of that many elements of a size.
     Elements(usize, u32),
     /// A handle of a kind, by its number.
     Handle(u32, u32),

@@ -1,3 +1,5 @@
+//! The handles of an answer become live: each gets a number, which takes its place in the value.
+
 ghost use Rattle.std.specs.Prelude.{◌≡◌, ◌≤◌, ◌+◌, ◌++◌, ℕ, true, length, IfOk, OnOk};
 ghost use Rattle.wit_types.specs.Plain.{plain_result};
 ghost use Rattle.host_port.specs.Calls.{plain_option};

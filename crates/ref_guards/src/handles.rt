@@ -1,4 +1,5 @@
-// The handles of a call: whether each is live and of its kind, and whether each is the host's.
+//! The handles of a call: whether each is live and of its kind, and whether each is the host's.
+
 #![tactic(auto, using(ref_answers::proofs::SeenLaws::seen_handle_at))]
 
 ghost use Rattle.std.specs.Prelude.{◌≡◌};

@@ -1,4 +1,5 @@
-// Room: as many places of a kind must be free as a result has own handles of it outside lists.
+//! Room for the handles of a result: as many places of a kind must be free as the result has own handles of it outside lists.
+
 #![tactic(auto, using(wit_types::proofs::PlainLemmas::plains, crate::proofs::RoomLemmas::room_rules))]
 
 ghost use Rattle.std.specs.Prelude.{◌≡◌, ◌<◌, ◌+◌, ◌^◌, ℕ, [], map, Option};
@@ -97,7 +98,7 @@ pub fn owned_kinds(ty: &Option<WitType>) -> [u32; 14]
     owned
 }
 
-/// Whether there is room for a result with so many own handles of each kind.
+/// Whether there is room for a result with that many own handles of each kind.
 pub fn has_places(live: &LiveHandles, owned: &[u32; 14]) -> bool
     requires { live.now.slots < 2 ^ 16 }
     ensures { (p : Policy) (f : Forest) (ty : Option Plain) → p.slots ≡ live.now.slots → owned.now ≡ map (owned_at_most ty) kinds → result ≡ has_places p (live_in f live.now.handles) ty }

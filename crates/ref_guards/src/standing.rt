@@ -1,3 +1,5 @@
+//! What the handles of an answer stand for, before they have numbers: handles of the host, or what was made.
+
 ghost use Rattle.std.specs.Prelude.{◌≡◌};
 ghost use Rattle.ref_guards.specs.Entering.{stands_for};
 

@@ -1,4 +1,5 @@
-// An answer with other numbers in the places of its handles.
+//! An answer with other numbers in the places of its handles.
+
 ghost use Rattle.std.specs.Prelude.{◌≡◌, ◌≤◌, length};
 ghost use Rattle.wit_types.specs.Plain.{plain, plain_result};
 ghost use Rattle.wit_types.specs.PlainValue.{plain_value};

@@ -1,4 +1,5 @@
-// Weight: the bytes of texts and lists in memory, each rounded up to 8.
+//! Weight: the bytes of texts and lists in memory, each rounded up to 8, and what they leave of a limit.
+
 ghost use Rattle.std.specs.Prelude.{◌≡◌, ◌≤◌, ◌<◌, ◌^◌, ◌-◌, ◌*◌, SomeIff};
 ghost use Rattle.wit_types.specs.Layout.{align_to};
 ghost use Rattle.reference_step.specs.Atoms.{atom_weight, weight};
@@ -23,7 +24,7 @@ fn atom_weight(atom: Atom) -> u128
     }
 }
 
-/// What is left of so many bytes when some are taken; none exactly where there are fewer.
+/// What is left of that many bytes when some are taken; none exactly where there are fewer.
 fn left_without(left: u64, taken: u128) -> Option<u64>
     ensures { SomeIff result (taken ≤ left) (left - taken) }
 {
@@ -34,7 +35,7 @@ fn left_without(left: u64, taken: u128) -> Option<u64>
     }
 }
 
-/// What is left of so many bytes behind the weight of atoms; none exactly where they weigh more.
+/// What is left of that many bytes after the weight of atoms; none exactly where they weigh more.
 pub fn left_behind(noted: &[Atom], limit: u64) -> Option<u64>
     ensures { SomeIff result (weight (shown_all noted.now) ≤ limit) (limit - weight (shown_all noted.now)) }
 {
@@ -45,7 +46,7 @@ pub fn left_behind(noted: &[Atom], limit: u64) -> Option<u64>
     Some(left)
 }
 
-/// The same behind so many elements of a size in a list.
+/// The same after that many elements of a size in a list.
 pub fn left_behind_elements(count: usize, size: u32, limit: u64) -> Option<u64>
     ensures { SomeIff result (align_to (count * size) 8 ≤ limit) (limit - align_to (count * size) 8) }
 {

@@ -1,4 +1,5 @@
-// Arguments with other numbers in the places of their handles.
+//! Arguments with other numbers in the places of their handles.
+
 #![tactic(auto, using(wit_types::proofs::ValueLemmas::values))]
 
 ghost use Rattle.std.specs.Prelude.{◌≡◌, ◌≤◌, ◌<◌, length, slice_get, slice_set, Some, false};

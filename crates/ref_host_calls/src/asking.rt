@@ -1,3 +1,5 @@
+//! The host is asked, with its own numbers for the handles, and the answer is made of what it gives.
+
 ghost use Rattle.std.specs.Prelude.{◌≡◌, ◌≤◌, ◌+◌, ℕ, Option, true, IfOk, OnOk};
 ghost use Rattle.wit_types.specs.PlainValue.{PlainValue};
 ghost use Rattle.tree_table.specs.Tables.{Forest};

@@ -1,3 +1,5 @@
+//! A handle is dropped: it is live no more, and where it stands for one of the host, the host drops its own.
+
 ghost use Rattle.std.specs.Prelude.{◌≡◌, ◌<◌, IsSome, IfSome, IfNone, OnOk, slice_index_or, None, false};
 ghost use Rattle.tree_table.specs.Tables.{Forest};
 ghost use Rattle.reference_step.specs.State.{Reference};

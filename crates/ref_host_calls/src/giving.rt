@@ -1,4 +1,6 @@
-// What is made of the host's answer, where that is a value.
+//! What is made of the host's answer, where that is a value: own handles enter, and variables are filtered. A call that weighs too much
+//! traps.
+
 ghost use Rattle.std.specs.Prelude.{◌≡◌, ◌≤◌, ◌+◌, ◌*◌, ℕ, List, Option, true, false, nat_le, IfOk, OnOk};
 ghost use Rattle.wit_types.specs.PlainValue.{PlainValue, plain_value};
 ghost use Rattle.wit_types.specs.Layout.{align_to};
@@ -33,7 +35,7 @@ fn are_light(noted: &[Atom], left: u64) -> bool
     left_behind(noted, left).is_some()
 }
 
-/// Whether these, and so many elements of a size in a list, weigh no more than so much.
+/// Whether these, and that many elements of a size in a list, weigh no more than so much.
 pub fn is_light_list(noted: &[Atom], count: usize, size: u32, left: u64) -> bool
     ensures { result ≡ nat_le (weight (shown_all noted.now) + align_to (count * size) 8) left }
 {
@@ -77,7 +79,7 @@ pub fn give<H: Host>(
     Ok(Answer::Value(given))
 }
 
-/// Of the host's variables those that are passed, and behind them those that the policy sets, unless the call weighs too much.
+/// Of the host's variables those that are passed, and after them those that the policy sets, unless the call weighs too much.
 pub fn give_variables<H: Host>(
     alloc: Global,
     request: Request<'_>,

@@ -1,4 +1,5 @@
-// The host's numbers of the handles that arguments give.
+//! The host's numbers of the handles that arguments give.
+
 #![tactic(auto, using(ref_answers::proofs::SeenLaws::seen_handle_at))]
 
 ghost use Rattle.std.specs.Prelude.{◌≡◌, ◌++◌, IfOk, OnOk};

@@ -1,4 +1,5 @@
-// Offers in turn.
+//! Offers in turn: each folder gets a handle, or a handle of the host is dropped.
+
 ghost use Rattle.std.specs.Prelude.{◌≡◌, ◌++◌, ◌∷◌, ◌+◌, ℕ, [], length, List, true, false, map, nat_le, IfOk, OnOk, if◌then◌else◌};
 ghost use Rattle.wit_types.specs.PlainValue.{plain_value};
 ghost use Rattle.tree_table.specs.Tables.{Forest};
@@ -48,7 +49,7 @@ pub fn given_count<H: Host>(offers: &[Offer<'_>]) -> usize
     count
 }
 
-/// A folder gets a handle, if there is room for one, and stands behind those before it.
+/// A folder gets a handle, if there is room for one, and stands after those before it.
 fn give_folder<H: Host>(
     alloc: Global,
     live: &mut LiveHandles,

@@ -1,3 +1,5 @@
+//! The offers of `get-directories`: what a folder is, and what says which folders are given.
+
 ghost use Rattle.std.specs.Prelude.{◌≡◌};
 ghost use Rattle.ref_host_calls.specs.Places.{stands_for};
 

@@ -1,4 +1,5 @@
-// The roots of the trees, and the scratch folder.
+//! The folders that `get-directories` gives beside the host's: the roots of the trees, and the scratch folder.
+
 #![tactic(auto, using(crate::proofs::OfferLemmas::offer_rules))]
 
 ghost use Rattle.std.specs.Prelude.{◌≡◌, ℕ, ◌<◌, ◌++◌, OnOk, length};
@@ -44,7 +45,7 @@ fn note_scratch<'a, H: Host>(
     }
 }
 
-/// The folders behind the host's.
+/// The folders after the host's.
 pub fn note_own<'a, H: Host>(
     folders: Folders<'a>,
     offers: &mut Vec<Offer<'a>>,

@@ -1,3 +1,6 @@
+//! A call of a listed function under a policy, with what was found of it: the listed function, the texts, lists and handles of its
+//! arguments, and the weight that is left.
+
 use host_port::HostCall;
 use policy_data::Policy;
 use ref_answers::Found;

@@ -1,4 +1,6 @@
-// The host's folders.
+//! The folders that the host gives at `get-directories`, and what the policy makes of each: it is given under a name, or its handle is
+//! dropped.
+
 #![tactic(auto, using(wit_types::proofs::ValueLemmas::values, crate::proofs::OfferLemmas::offer_rules))]
 
 ghost use Rattle.std.specs.Prelude.{◌≡◌, ◌++◌, [], map, IfSome, IfNone, OnOk, if◌then◌else◌};

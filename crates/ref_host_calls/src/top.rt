@@ -1,3 +1,5 @@
+//! wasi:filesystem/preopens, `get-directories`, where the host is asked and where it is not.
+
 ghost use Rattle.std.specs.Prelude.{◌≡◌, ◌++◌, [], length, List, IfOk, OnOk};
 ghost use Rattle.tree_table.specs.Tables.{Forest, Holds};
 ghost use Rattle.tree_table.specs.Trees.{AreTrees};

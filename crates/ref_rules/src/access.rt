@@ -1,3 +1,5 @@
+//! Whether a function asks the host, is denied, or is answered without it: for each listed interface, by which words of a policy.
+
 ghost use Rattle.std.specs.Prelude.{◌≡◌, ◌<◌, length, not, ◌||◌};
 ghost use Rattle.reference_step.specs.Access.{access, by_stream, by_word, by_sockets, by_wall, by_monotonic, by_arguments, by_folder, by_environment, hosted_if, is_hosted, is_host_stream, is_empty, is_some_text, asks_folders, all_files};
 ghost use Rattle.ref_rules.specs.Seen.{access_of};

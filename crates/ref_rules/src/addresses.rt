@@ -1,3 +1,6 @@
+//! Which calls the rules on addresses refuse: those of functions of `wasi:sockets` (WASI 0.2) whose arguments hold an address, and those
+//! that resolve names.
+
 #![tactic(auto, using(wit_types::proofs::ValueLemmas::values, crate::proofs::AddressLemmas::no_datagrams))]
 
 ghost use Rattle.std.specs.Prelude.{◌≡◌};

@@ -1,3 +1,5 @@
+//! What a live handle stands for: a handle of the host, a node, a stream, a pollable, or something of the scratch folder.
+
 ghost use Rattle.std.specs.Prelude.{◌≡◌};
 ghost use Rattle.ref_rules.specs.Contents.{open_file};
 

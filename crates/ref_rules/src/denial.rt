@@ -1,3 +1,5 @@
+//! Whether a call is denied, by the policy or by the rules on addresses, and whose error codes a denial answers.
+
 #![tactic(auto, using(wit_types::proofs::PlainLemmas::plains))]
 
 ghost use Rattle.std.specs.Prelude.{◌≡◌, Some};

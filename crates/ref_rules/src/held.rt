@@ -1,4 +1,5 @@
-// How many live handles hold each scratch file open.
+//! How many live handles hold each scratch file open.
+
 ghost use Rattle.std.specs.Prelude.{◌≡◌, ◌+◌, ◌-◌, ◌<◌, ◌≤◌, ◌^◌, ℕ, Some, true, IfOk, length, replicate, get_or, slice_set};
 ghost use Rattle.ref_rules.specs.Contents.{open_file};
 ghost use Rattle.ref_rules.specs.Lives.{is_inside};
@@ -8,7 +9,7 @@ use crate::content::Content;
 use std::alloc::Global;
 use virt_base::NoMemory;
 
-/// So many zeros.
+/// That many zeros.
 pub fn zeros(alloc: Global, count: usize) -> Result<Vec<u32>, NoMemory>
     ensures { IfOk result (λ v. v.items ≡ replicate count 0) }
 {

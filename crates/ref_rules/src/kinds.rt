@@ -1,4 +1,5 @@
-// The numbers of the live handles of each kind, each at its place there.
+//! The numbers of the live handles of each kind, each at its place in the slot table of the kind.
+
 ghost use Rattle.std.specs.Prelude.{◌≡◌, ◌<◌, Some, None, [], IsSome, IfOk, length, replicate, get_or, slice_get, slice_set};
 ghost use Rattle.slot_tables.specs.Entries.{entry_at, live_count};
 
@@ -11,7 +12,7 @@ use virt_base::{NoMemory, Steps};
 /// How many kinds of resources are listed.
 pub const KINDS: u32 = 14;
 
-/// So many free places of each kind.
+/// That many free places of each kind.
 pub fn free_places(alloc: Global, slots: u32) -> Result<Vec<Slots<u32>>, NoMemory>
     ensures { IfOk result (λ kinds. kinds.items ≡ replicate KINDS (replicate slots None)) }
 {

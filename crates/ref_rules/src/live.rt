@@ -1,3 +1,5 @@
+//! The live handles of the reference host: by number, by kind, and by the scratch files that they hold open.
+
 ghost use Rattle.std.specs.Prelude.{◌≡◌, ◌+◌, ◌<◌, ◌^◌, [], Some, None, IsSome, IfOk, true, length, slice_index_or, slice_set, option_map};
 ghost use Rattle.reference_step.specs.Handles.{first_free, with_entry};
 ghost use Rattle.ref_rules.specs.Lives.{LiveTable, count_of_kind, is_open, is_inside, standing_for};
@@ -11,7 +13,7 @@ use std::alloc::Global;
 use std::marker::Model;
 use virt_base::NoMemory;
 
-/// The live handles, at most so many of each kind.
+/// The live handles, at most `slots` of each kind.
 ///
 /// Contracts see them, each at the place of its number.
 #[derive(Debug, Drop)]

@@ -1,4 +1,5 @@
-// Entries by number, of which a new one gets the least free number.
+//! Entries by number, of which a new one gets the least free number. Freed numbers stand in a heap.
+
 ghost use Rattle.std.specs.Prelude.{◌≡◌, ◌+◌, ◌-◌, ◌<◌, ◌≤◌, ◌^◌, [], Some, None, IsSome, IfSome, IfOk, length, slice_get, slice_index_or, slice_set};
 ghost use Rattle.slot_tables.specs.Entries.{live_count};
 ghost use Rattle.reference_step.specs.Handles.{first_free, with_entry};
@@ -9,7 +10,7 @@ use std::collections::BinaryHeap;
 use std::marker::Model;
 use virt_base::NoMemory;
 
-/// At most so many entries. A number that was freed is kept as its distance to that bound, so that the greatest that is kept
+/// At most `most` entries. A number that was freed is kept as its distance to that bound, so that the greatest that is kept
 /// is the least free number.
 #[derive(Debug, Drop)]
 pub struct Numbered {

@@ -1,3 +1,5 @@
+//! Parts of arguments, by their places.
+
 #![tactic(auto, using(wit_types::proofs::ValueLemmas::values, crate::proofs::PartLemmas::nth_there, crate::proofs::PartLemmas::nth_missing, crate::proofs::PartLemmas::byte_there, crate::proofs::PartLemmas::byte_missing))]
 
 // Parts of arguments, by their places.

@@ -1,4 +1,5 @@
-// wasi:filesystem/types, resource directory-entry-stream, where the stream is over the scratch folder.
+//! wasi:filesystem/types, resource directory-entry-stream, where the stream is over the scratch folder.
+
 #![tactic(auto, using(wit_types::proofs::ValueLemmas::values, crate::proofs::EntryLemmas::next))]
 
 ghost use Rattle.std.specs.Prelude.{◌≡◌, ◌+◌, ◌<◌, [], IfOk, IfSome, length, unwrap_or};
@@ -20,7 +21,7 @@ use virt_base::{NoMemory, Text};
 /// The place in the enum `descriptor-type`.
 const REGULAR_FILE: u32 = 6;
 
-/// The least number of a file from one on, of so many numbers.
+/// The least number of a file from one on, of that many numbers.
 fn next_number(folder: &Folder, from: u32, files: u32) -> Option<u32>
     requires { length folder.now.files ≡ files }
     ensures value { result ≡ next_file folder.now from }
@@ -34,7 +35,7 @@ fn next_number(folder: &Folder, from: u32, files: u32) -> Option<u32>
     None
 }
 
-/// What is told of a file, of which the name is known; the listing goes on behind it.
+/// What is told of a file, of which the name is known; the listing goes on after it.
 fn file_row(alloc: Global, number: u32, name: Option<Text>) -> Result<Row, NoMemory>
     requires { number < 4294967295 }
     ensures { IfOk result (λ row. (f : Forest) → shown f row ≡ moves (ScratchEntries (number + 1)) (made.ok (made.some (entry_value (record { ty = code.regular_file; name = unwrap_or name [] }))))) }

@@ -1,4 +1,5 @@
-// wasi:filesystem/types, resource descriptor, where the descriptor is a file of the scratch folder: rows that read or change it.
+//! wasi:filesystem/types, resource descriptor, where the descriptor is a file of the scratch folder: rows that read or change it.
+
 #![tactic(auto, using(wit_types::proofs::ValueLemmas::values, crate::proofs::RowLemmas::by_found))]
 
 ghost use Rattle.std.specs.Prelude.{◌≡◌, Bool, IfOk, IsSome};

@@ -1,4 +1,5 @@
-// Where a text leads from the scratch folder.
+//! Where a text leads from the scratch folder.
+
 #![tactic(auto, using(crate::proofs::FindLemmas::leads))]
 
 ghost use Rattle.std.specs.Prelude.{◌≡◌, ◌∷◌, []};
@@ -49,7 +50,7 @@ fn last_part(folder: &Folder, part: &str) -> Found
     }
 }
 
-/// Where a name leads behind which a part stands.
+/// Where a name leads after which a part stands.
 fn inner_part(folder: &Folder, name: &str) -> Found
     ensures { shown_found result ≡ inner (find_file folder.now name.now) }
 {

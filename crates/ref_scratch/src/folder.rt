@@ -1,3 +1,5 @@
+//! The scratch folder with names that are text: files by number, with a quota of blocks, over `overlay_tree`, whose names are bytes.
+
 ghost use Rattle.std.specs.Prelude.{◌≡◌, ◌+◌, ◌<◌, ◌^◌, ℕ, All, Some, None, [], IsSome, IsUtf8, IfOk, IfSome, OnOk, OnErr, is_some, length, replicate, unwrap_or};
 ghost use Rattle.tree_table.specs.Scratches.{empty_scratch, file_at, name_at, content_at, find_file, free_number, read_at, created, removed, renamed, sized, written, with_content};
 ghost use Rattle.tree_table.specs.Trees.{IsShort};
@@ -39,7 +41,7 @@ fn text_of(alloc: Global, name: &[u8]) -> Result<Text, NoMemory>
 }
 
 impl Folder {
-    /// No files, of which there may be so many in so many blocks. This is the only call that takes memory for files.
+    /// No files, of which there may be that many in that many blocks. This is the only call that takes memory for files.
     pub fn new(alloc: Global, blocks: u32, files: u32) -> Result<Folder, NoMemory>
         ensures { IfOk result (λ folder. folder ≡ empty_scratch blocks files) }
     {
@@ -92,7 +94,7 @@ impl Folder {
         self.scratch.contents_are_bytes();
     }
 
-    /// The bytes of a file from a place on, so many at most.
+    /// The bytes of a file from a place on, that many at most.
     pub fn read(
         &self,
         alloc: Global,
@@ -183,7 +185,7 @@ impl Folder {
         self.scratch.write(number, at, bytes)
     }
 
-    /// Writes so many zeros into a file.
+    /// Writes that many zeros into a file.
     pub fn write_zeroes(&mut self, number: u32, at: u64, len: u64) -> Result<(), InsufficientSpace>
         requires { IsSome (file_at self.old number) }
         ensures ok { OnOk result (written self.old number at (replicate len 0) ≡ Some self.new) }

@@ -1,5 +1,6 @@
-// wasi:filesystem/types, resource descriptor, where the descriptor is the scratch folder or a file of it: rows that neither read
-// nor change the folder.
+//! wasi:filesystem/types, resource descriptor, where the descriptor is the scratch folder or a file of it: rows that neither read nor
+//! change the folder.
+
 #![tactic(auto, using(wit_types::proofs::ValueLemmas::values))]
 
 ghost use Rattle.std.specs.Prelude.{◌≡◌, ℕ, Bool, IfOk};

@@ -1,4 +1,5 @@
-// The name that a text may give to a new file.
+//! The name that a text may give to a new file, or the error code where it gives none.
+
 #![tactic(auto, using(crate::proofs::NameLemmas::naming))]
 
 ghost use Rattle.std.specs.Prelude.{◌≡◌, ◌∷◌, []};

@@ -1,4 +1,5 @@
-// wasi:filesystem/types, `open-at` from the scratch folder.
+//! wasi:filesystem/types, `open-at` from the scratch folder.
+
 #![tactic(auto, using(wit_types::proofs::ValueLemmas::values, crate::proofs::RowLemmas::by_found))]
 
 ghost use Rattle.std.specs.Prelude.{◌≡◌, None, IfOk, IsSome};

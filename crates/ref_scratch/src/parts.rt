@@ -1,4 +1,5 @@
-// The parts of a text, and what each asks for.
+//! The parts of a text, and what each asks for: to stay, to go up, or a name.
+
 #![tactic(auto)]
 
 ghost use Rattle.std.specs.Prelude.{◌≡◌, ◌∷◌, ◌<◌, [], IfNone, IfSome, length};
@@ -30,7 +31,7 @@ pub fn part_kind(part: &str) -> PartKind
     kind_of(part.as_bytes())
 }
 
-/// What stands before the first slash of a text, and what behind it.
+/// What stands before the first slash of a text, and what after it.
 pub fn cut(text: &str) -> Option<(&str, &str)>
     ensures last { IfNone result (parts_of text.now ≡ text.now ∷ []) }
     ensures more { IfSome result (λ p. parts_of text.now ≡ p.0.now ∷ parts_of p.1.now) }

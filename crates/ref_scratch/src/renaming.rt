@@ -1,4 +1,5 @@
-// wasi:filesystem/types, `rename-at` in the scratch folder.
+//! wasi:filesystem/types, `rename-at` in the scratch folder.
+
 #![tactic(auto, using(wit_types::proofs::ValueLemmas::values, crate::proofs::RowLemmas::by_found))]
 
 ghost use Rattle.std.specs.Prelude.{◌≡◌, ◌<◌, IfOk, IsSome, length};

@@ -1,4 +1,5 @@
-// wasi:filesystem/types, resource descriptor, where the descriptor is the scratch folder: rows that name one of its files.
+//! wasi:filesystem/types, resource descriptor, where the descriptor is the scratch folder: rows that name one of its files.
+
 #![tactic(auto, using(wit_types::proofs::ValueLemmas::values, crate::proofs::RowLemmas::by_found))]
 
 ghost use Rattle.std.specs.Prelude.{◌≡◌, ◌<◌, IfOk, IsSome, length, if◌then◌else◌};

@@ -1,4 +1,6 @@
-// What is known of the scratch folder and of its files.
+//! wasi:filesystem/types, `stat` and `metadata-hash` of the scratch folder and of its files. Rows that find a file by its path answer by
+//! these too.
+
 #![tactic(auto, using(wit_types::proofs::ValueLemmas::values))]
 
 ghost use Rattle.std.specs.Prelude.{◌≡◌, IfOk, IsSome, length};
@@ -34,7 +36,7 @@ pub fn stat_file_row(alloc: Global, folder: &Folder, number: u32) -> Result<Row,
     Ok(returns(ok(alloc, stat)?))
 }
 
-/// `metadata-hash` of the folder, which counts as one tree more than so many.
+/// `metadata-hash` of the folder, which counts as one tree more than that many.
 pub fn hash_root_row(alloc: Global, trees: u32) -> Result<Row, NoMemory>
     ensures { IfOk result (λ row. (f : Forest) (v : View) → length v.trees ≡ trees → shown f row ≡ descriptor.hash_root v) }
 {

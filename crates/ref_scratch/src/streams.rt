@@ -1,4 +1,5 @@
-// wasi:io/streams, where the stream is from or to a file of the scratch folder.
+//! wasi:io/streams, where the stream is from or to a file of the scratch folder.
+
 #![tactic(auto, using(wit_types::proofs::ValueLemmas::values, crate::proofs::RowLemmas::by_found))]
 
 ghost use Rattle.std.specs.Prelude.{◌≡◌, ◌+◌, ◌<◌, ◌^◌, IfOk, IfSome, IsSome, length, unwrap_or, option_map};
@@ -17,7 +18,7 @@ use ref_rules::Content;
 use std::alloc::Global;
 use virt_base::NoMemory;
 
-/// `read` and `blocking-read`: the next bytes, so many at most; at the end the stream is closed.
+/// `read` and `blocking-read`: the next bytes, that many at most; at the end the stream is closed.
 pub fn read_stream_row(
     alloc: Global,
     folder: &Folder,
@@ -69,7 +70,7 @@ fn place_in(folder: &Folder, file: u32, place: Option<u64>) -> u64
     }
 }
 
-/// The place of a stream behind so many bytes.
+/// The place of a stream after that many bytes.
 fn moved(place: Option<u64>, len: u64) -> Option<u64>
     requires { IfSome place (λ p. p + len < 2 ^ 64) }
     ensures { result ≡ option_map (λ p. p + len) place }

@@ -1,4 +1,5 @@
-// Arguments by their places, from 0.
+//! Arguments by their places, from 0.
+
 #![tactic(auto, using(wit_types::proofs::ValueLemmas::values))]
 
 ghost use Rattle.std.specs.Prelude.{◌≡◌, ◌<◌, ◌^◌};

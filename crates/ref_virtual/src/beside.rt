@@ -1,4 +1,5 @@
-// What stands beside a descriptor of the scratch folder.
+//! The other one of two descriptors, where the first is of the scratch folder: the folder, a file of it, or neither.
+
 ghost use Rattle.std.specs.Prelude.{◌≡◌};
 ghost use Rattle.ref_virtual.specs.Besides.{beside_of, is_root, is_file};
 

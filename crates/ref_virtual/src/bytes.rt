@@ -1,4 +1,5 @@
-// Bytes in an argument.
+//! The bytes of an argument, which is a list of numbers or a run of bytes.
+
 #![tactic(auto, using(wit_types::proofs::ValueLemmas::values, crate::proofs::ByteLemmas::each_number, crate::proofs::ByteLemmas::byte_number))]
 
 ghost use Rattle.std.specs.Prelude.{◌≡◌, ◌<◌, All, IfOk, map};

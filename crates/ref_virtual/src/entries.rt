@@ -1,4 +1,5 @@
-// wasi:filesystem/types, resource directory-entry-stream, where the stream is over a folder of a tree.
+//! wasi:filesystem/types, resource directory-entry-stream, where the stream is over a folder of a tree.
+
 #![tactic(auto, using(wit_types::proofs::ValueLemmas::values))]
 
 ghost use Rattle.std.specs.Prelude.{◌≡◌, ◌≤◌, ◌<◌, IfOk, drop, true};

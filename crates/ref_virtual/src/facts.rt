@@ -1,4 +1,5 @@
-// What a node of a tree is: its type, its size and its bytes.
+//! What a node of a tree is: its type, its size and its bytes, and what `stat` and `metadata-hash` answer of it.
+
 #![tactic(auto, using(crate::proofs::FilesNodeLemmas::node_rules))]
 
 ghost use Rattle.std.specs.Prelude.{◌≡◌, ◌+◌, ◌<◌, Some, IfOk};

@@ -1,4 +1,5 @@
-// wasi:filesystem/types, where the descriptor is a file of the scratch folder.
+//! wasi:filesystem/types, where the descriptor is a file of the scratch folder: the row of each method.
+
 #![tactic(auto, using(wit_types::proofs::ValueLemmas::values))]
 
 ghost use Rattle.std.specs.Prelude.{◌≡◌, Bool, IfOk, IsSome, length, ℕ, true};
@@ -145,7 +146,7 @@ fn pair_row(
     }
 }
 
-/// What a method answers of a file of the scratch folder, which counts as one tree more than so many.
+/// What a method answers of a file of the scratch folder, which counts as one tree more than that many.
 pub fn file_row(
     alloc: Global,
     folder: &mut Folder,

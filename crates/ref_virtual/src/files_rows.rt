@@ -1,4 +1,5 @@
-// wasi:filesystem/types, resource descriptor, where the descriptor is a node of a tree: each row under its WIT name.
+//! wasi:filesystem/types, resource descriptor, where the descriptor is a node of a tree: the row of each method that reads.
+
 #![tactic(auto, using(wit_types::proofs::ValueLemmas::values, crate::proofs::FilesNodeLemmas::node_rules, crate::proofs::SeenLemmas::seen_node, crate::proofs::SeenLemmas::seen_children, crate::proofs::SeenLemmas::seen_hash, crate::proofs::SeenLemmas::seen_lead))]
 
 ghost use Rattle.std.specs.Prelude.{◌≡◌, ◌<◌, Some, IfOk, true};

@@ -1,4 +1,5 @@
-// wasi:filesystem/types: what a method answers goes by what its first handle stands for.
+//! wasi:filesystem/types: what a method answers goes by what its first handle stands for.
+
 ghost use Rattle.std.specs.Prelude.{◌≡◌, ◌≤◌, true, IfOk, length};
 ghost use Rattle.wit_types.specs.PlainValue.{PlainValues, plain_values};
 ghost use Rattle.tree_table.specs.Scratches.{file_at};
@@ -29,7 +30,7 @@ use tree_table::Table;
 use virt_base::NoMemory;
 use wit_types::Values;
 
-/// What a method answers of a listing of the scratch folder from a number on, where so many files may be.
+/// What a method answers of a listing of the scratch folder from a number on, where that many files may be.
 fn scratch_listing_row(
     alloc: Global,
     folder: &Folder,

@@ -1,4 +1,6 @@
-// The interfaces whose functions are answered without the host.
+//! The interfaces of WASI 0.2 whose functions are answered without the host, by their numbers, and the rows of those whose functions take
+//! no handles.
+
 ghost use Rattle.std.specs.Prelude.{◌≡◌, IfOk, [], slice_index_or};
 ghost use Rattle.wit_types.specs.PlainValue.{PlainValues};
 ghost use Rattle.tree_table.specs.Tables.{Forest};

@@ -1,4 +1,5 @@
-// Where a text leads from a node of a tree.
+//! Where a text leads from a node of a tree.
+
 ghost use Rattle.std.specs.Prelude.{◌≡◌, ◌<◌, IfOk, IfErr};
 ghost use Rattle.tree_table.specs.Paths.{At, Fails, resolve};
 ghost use Rattle.tree_table.specs.Tables.{count_of, map_of, tree_of, path_of};

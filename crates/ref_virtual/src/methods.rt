@@ -1,4 +1,5 @@
-// The methods of wasi:filesystem/types by their WIT names.
+//! The methods of wasi:filesystem/types by their WIT names.
+
 ghost use Rattle.std.specs.Prelude.{◌≡◌};
 ghost use Rattle.wit_types.specs.PlainValue.{PlainValues};
 ghost use Rattle.reference_step.specs.State.{View};

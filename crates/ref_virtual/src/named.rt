@@ -1,4 +1,5 @@
-// Methods by their WIT names.
+//! Methods by their WIT names, among those of one interface.
+
 ghost use Rattle.std.specs.Prelude.{◌≡◌, map};
 ghost use Rattle.std.specs.List.{find};
 ghost use Rattle.std.specs.Option.{option_copied};

@@ -1,4 +1,5 @@
-// wasi:filesystem/types, where the descriptor is a node of a tree.
+//! wasi:filesystem/types, where the descriptor is a node of a tree: the row of each method.
+
 #![tactic(auto, using(wit_types::proofs::ValueLemmas::values))]
 
 ghost use Rattle.std.specs.Prelude.{◌≡◌, ◌≤◌, ◌<◌, IfOk, IfSome, true};

@@ -1,4 +1,5 @@
-// wasi:filesystem/types, `open-at` from a node of a tree.
+//! wasi:filesystem/types, `open-at` from a node of a tree.
+
 #![tactic(auto, using(wit_types::proofs::ValueLemmas::values, crate::proofs::FilesNodeLemmas::node_rules, crate::proofs::SeenLemmas::seen_node, crate::proofs::SeenLemmas::seen_children, crate::proofs::SeenLemmas::seen_hash, crate::proofs::SeenLemmas::seen_lead))]
 
 ghost use Rattle.std.specs.Prelude.{◌≡◌, ◌<◌, ◌||◌, ℕ, Some, IfOk, true};

@@ -1,4 +1,5 @@
-// wasi:filesystem/types, where the handle is no descriptor of a tree or of the scratch folder.
+//! wasi:filesystem/types, where the handle is no descriptor of a tree or of the scratch folder.
+
 #![tactic(auto, using(wit_types::proofs::ValueLemmas::values))]
 
 ghost use Rattle.std.specs.Prelude.{◌≡◌, ◌≤◌, ◌<◌, IfOk, true, length};
@@ -38,7 +39,7 @@ const DIRECTORY: u32 = 3;
 /// The flags of a descriptor that may be read.
 const READ: u32 = 1;
 
-/// What reads: it answers as an empty folder beside so many trees would.
+/// What reads: it answers as an empty folder beside that many trees would.
 fn look_row(alloc: Global, trees: u32, look: Look) -> Result<Row, NoMemory>
     ensures { IfOk result (λ row. (f : Forest) (v : View) (args : PlainValues) → length v.trees ≡ trees → shown f row ≡ look_row look v reference.Always args) }
 {
@@ -70,7 +71,7 @@ fn pair_row(alloc: Global, pair: Pair) -> Result<Row, NoMemory>
     }
 }
 
-/// What a method answers of a handle that is none of its kind, beside so many trees.
+/// What a method answers of a handle that is none of its kind, beside that many trees.
 pub fn other_row(alloc: Global, trees: u32, method: Method) -> Result<Row, NoMemory>
     ensures { IfOk result (λ row. (f : Forest) (v : View) (c : reference.Content) (args : PlainValues) → length v.trees ≡ trees → is_other method c ≡ true → shown f row ≡ method_row method v c args) }
 {

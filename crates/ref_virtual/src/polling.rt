@@ -1,4 +1,5 @@
-// wasi:io/poll, where a pollable is not the host's.
+//! wasi:io/poll, where a pollable is not the host's.
+
 #![tactic(auto, using(wit_types::proofs::ValueLemmas::values, crate::proofs::PollLemmas::each_count, crate::proofs::PollLemmas::byte_count))]
 
 ghost use Rattle.std.specs.Prelude.{◌≡◌, IfOk, length, map, true, ℕ};

@@ -1,4 +1,5 @@
-// wasi:io/streams, resource input-stream, where the stream is from a file of a tree.
+//! wasi:io/streams, resource input-stream, where the stream is from a file of a tree.
+
 #![tactic(auto, using(wit_types::proofs::ValueLemmas::values, crate::proofs::FilesNodeLemmas::node_rules, crate::proofs::SeenLemmas::seen_node, crate::proofs::SeenLemmas::seen_children, crate::proofs::SeenLemmas::seen_hash, crate::proofs::SeenLemmas::seen_lead))]
 
 ghost use Rattle.std.specs.Prelude.{◌≡◌, ◌<◌, IfOk, true};
@@ -17,7 +18,7 @@ use std::alloc::Global;
 use tree_table::Table;
 use virt_base::NoMemory;
 
-/// `read` and `blocking-read`: the next bytes, so many at most; at the end the stream is closed.
+/// `read` and `blocking-read`: the next bytes, that many at most; at the end the stream is closed.
 pub fn read_stream_row(
     alloc: Global,
     table: &Table,

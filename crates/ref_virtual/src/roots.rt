@@ -1,4 +1,5 @@
-// wasi:filesystem/types, where the descriptor is the scratch folder.
+//! wasi:filesystem/types, where the descriptor is the scratch folder: the row of each method.
+
 #![tactic(auto, using(wit_types::proofs::ValueLemmas::values))]
 
 ghost use Rattle.std.specs.Prelude.{◌≡◌, IfOk, length, ℕ, true};
@@ -155,7 +156,7 @@ fn pair_row(
     }
 }
 
-/// What a method answers of the scratch folder, which counts as one tree more than so many.
+/// What a method answers of the scratch folder, which counts as one tree more than that many.
 pub fn root_row(
     alloc: Global,
     folder: &mut Folder,

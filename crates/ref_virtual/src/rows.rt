@@ -1,3 +1,5 @@
+//! The row of any function that is answered without the host, by the number of its interface and its WIT name.
+
 ghost use Rattle.std.specs.Prelude.{◌≡◌, ◌≤◌, IfOk, length, true};
 ghost use Rattle.wit_types.specs.PlainValue.{plain_values};
 ghost use Rattle.tree_table.specs.Tables.{count_of, tree_count};
@@ -26,7 +28,7 @@ use wit_types::Values;
 
 /// What a function does that is answered without the host, by the number of its interface and its WIT name.
 ///
-/// There are so many trees, and so many files may be in the scratch folder, which is changed in place.
+/// There are that many trees, and that many files may be in the scratch folder, which is changed in place.
 pub fn row_of(
     alloc: Global,
     policy: &Policy,

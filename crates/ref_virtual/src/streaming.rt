@@ -1,4 +1,6 @@
-// wasi:io/streams, where the stream is neither the host's nor of the scratch folder.
+//! wasi:io/streams, where the stream is neither the host's nor of the scratch folder: from a file of a tree, without bytes, or one that
+//! drops them.
+
 #![tactic(auto, using(wit_types::proofs::ValueLemmas::values))]
 
 ghost use Rattle.std.specs.Prelude.{◌≡◌, ◌<◌, IfOk, true};
@@ -25,7 +27,7 @@ use tree_table::Table;
 use virt_base::NoMemory;
 use wit_types::Values;
 
-/// So many bytes may be written at once.
+/// That many bytes may be written at once.
 const ROOM: u64 = 65536;
 
 /// What a method answers of a stream from a file of a tree.

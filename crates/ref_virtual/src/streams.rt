@@ -1,4 +1,5 @@
-// wasi:io/streams: what a method answers goes by what its first handle stands for.
+//! wasi:io/streams: what a method answers goes by what its first handle stands for.
+
 ghost use Rattle.std.specs.Prelude.{◌≡◌, true, IfOk, IsSome, ℕ};
 ghost use Rattle.wit_types.specs.PlainValue.{plain_values};
 ghost use Rattle.tree_table.specs.Scratches.{file_at};

@@ -1,4 +1,5 @@
-// Texts of a table, whose bytes are UTF-8.
+//! Texts of a table, whose bytes are UTF-8.
+
 ghost use Rattle.std.specs.Prelude.{◌≡◌, IfOk, IsUtf8};
 
 use std::alloc::Global;

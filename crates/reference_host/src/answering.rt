@@ -1,4 +1,5 @@
-// The answer of a call that passed the tests: by the host, or by a row.
+//! The answer of a call that passed the tests: by the host, or by a row.
+
 ghost use Rattle.std.specs.Prelude.{◌≡◌, [], false, length, IfOk, OnOk};
 ghost use Rattle.host_port.specs.Calls.{plain_answer};
 ghost use Rattle.tree_table.specs.Trees.{AreTrees};

@@ -1,4 +1,5 @@
-// A call from its names to its answer.
+//! A call from its names to its answer: what must hold of it, and then the rules in their order: weight, room, what is denied.
+
 ghost use Rattle.std.specs.Prelude.{◌≡◌, [], Some, true, IfOk, OnOk};
 ghost use Rattle.wit_types.specs.HasType.{are_of};
 ghost use Rattle.host_port.specs.Calls.{Gives, plain_answer, plain_call};

@@ -1,3 +1,5 @@
+//! The drop of a handle by the reference host.
+
 ghost use Rattle.std.specs.Prelude.{OnOk};
 ghost use Rattle.reference_step.specs.Steps.{drops};
 ghost use Rattle.ref_host_calls.specs.Losses.{IsLoss};

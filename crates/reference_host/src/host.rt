@@ -1,3 +1,5 @@
+//! The reference host as a `Host` over another one.
+
 ghost use Rattle.std.specs.Prelude.{◌≡◌, IfOk};
 ghost use Rattle.policy_data.specs.Limits.{KeepsLimits};
 ghost use Rattle.tree_table.specs.Trees.{AreTrees};
@@ -18,7 +20,7 @@ use wasi_match::Listed;
 
 /// A host that answers under a policy, over a host that is asked.
 ///
-/// Behind want of memory it is lost: it answers no call more.
+/// Once it is out of memory it is lost: it answers no call more.
 #[derive(Debug, Drop)]
 pub struct Referenced<H> {
     state: State,

@@ -1,4 +1,5 @@
-// What a row does.
+//! What a row does: handles stand for something else, what is made enters, and its answer is given.
+
 ghost use Rattle.std.specs.Prelude.{◌≡◌, [], None, true, IfOk, IfSome, OnOk, option_map, slice_index_or, slice_set};
 ghost use Rattle.host_port.specs.Calls.{plain_answer};
 ghost use Rattle.wit_types.specs.PlainValue.{plain_values};

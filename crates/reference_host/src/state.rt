@@ -1,3 +1,5 @@
+//! The state of the reference host beside that of the host which is asked, and its beginning.
+
 ghost use Rattle.std.specs.Prelude.{◌≡◌, IfOk, length};
 ghost use Rattle.policy_data.specs.Limits.{KeepsLimits};
 ghost use Rattle.tree_table.specs.Trees.{AreTrees};

@@ -1,3 +1,6 @@
+//! The two parts of the state: what stays as it is, and what calls change. They stand apart, since a call borrows the one and changes the
+//! other.
+
 ghost use Rattle.std.specs.Prelude.{◌≡◌, ◌<◌, ◌^◌, [], IfOk, length};
 ghost use Rattle.tree_table.specs.Scratches.{empty_scratch};
 ghost use Rattle.tree_table.specs.Trees.{AreTrees};

@@ -1,4 +1,5 @@
-// What rows read of a state is within its words.
+//! What rows read of a state is within its words.
+
 ghost use Rattle.reference_step.specs.State.{view_of};
 ghost use Rattle.reference_host.specs.Sound.{IsSound};
 ghost use Rattle.reference_host.specs.States.{IsState, reference_of};

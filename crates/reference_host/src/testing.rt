@@ -1,4 +1,5 @@
-// What is asked of a call before it is answered.
+//! What is asked of a call before it is answered: its types, which function it is, and whether the host is asked.
+
 ghost use Rattle.std.specs.Prelude.{◌≡◌, ◌&&◌, codes, not};
 ghost use Rattle.std.specs.Str.{bytes_eq};
 ghost use Rattle.wit_types.specs.HasType.{are_of};

@@ -1,4 +1,5 @@
-// The versions under which interfaces are listed.
+//! The versions under which interfaces are listed: those by which the component imports them.
+
 ghost use Rattle.std.specs.Prelude.{◌≡◌, ◌==◌, IfOk};
 ghost use Rattle.std.specs.List.{find};
 ghost use Rattle.std.specs.Option.{option_copied};

@@ -1,4 +1,5 @@
-// Numbers of a policy, within their words: the numbers do not tell that themselves.
+//! The numbers of a policy are within their words, which the numbers do not tell themselves.
+
 ghost use Rattle.std.specs.Prelude.{◌<◌, ◌^◌};
 ghost use Rattle.reference_step.specs.Clocks.{instant};
 ghost use Rattle.reference_host.specs.Sound.{IsSoundClock};

@@ -1,3 +1,5 @@
+//! The laws of which calls the reference host answers alone, and which may reach the host that is asked.
+
 ghost use Rattle.reference_laws.specs.Closed.{NothingReachesTheHost};
 ghost use Rattle.reference_laws.specs.Reaching.{DeniedChangeNothing, OwnOrLetThrough};
 

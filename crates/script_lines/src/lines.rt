@@ -1,3 +1,5 @@
+//! The line of an observation: one compact array of JSON (RFC 8259), ended by an LF.
+
 ghost use Rattle.std.specs.Prelude.{◌≡◌, [], ◌∷◌, ◌++◌, None, IfOk, OnOk};
 ghost use Rattle.json.specs.Token.{Token, string as text_token, end_array};
 ghost use Rattle.host_port.specs.Calls.{Called, Dropped, Returned, plain_call, plain_observation, plain_option};
@@ -83,7 +85,7 @@ fn write_return(
     }
 }
 
-/// The words of a line, and the bracket behind them.
+/// The words of a line, and the bracket after them.
 fn write_words(
     alloc: Global,
     observation: &Observation,
@@ -104,7 +106,7 @@ fn write_words(
     }
 }
 
-/// The line of what is seen, with room behind it.
+/// The line of what is seen, with room after it.
 fn fresh_line(
     alloc: Global,
     observation: &Observation,
@@ -120,7 +122,7 @@ fn fresh_line(
     Ok(bytes)
 }
 
-/// Adds the line of what is seen to a text: one compact JSON array (RFC 8259) with an LF behind it. A call is
+/// Adds the line of what is seen to a text: one compact JSON array (RFC 8259) with an LF after it. A call is
 /// `["call",INTERFACE,FUNCTION,[V, ..]]`, a drop `["drop",INTERFACE,RESOURCE,ID]`, a return `["return",V]` or `["return"]`; an end is
 /// `["trap"]`, `["script-ended"]`, `["bad-answer"]`, `["spent"]` or `["too-deep"]`. A returned value has the type that is given. Keys
 /// of objects stand in byte order, and in place of what is not of its type stands null.
@@ -132,7 +134,7 @@ pub fn append_line(
 ) -> Result<Vec<u8>, NoMemory>
     ensures { IfOk result (λ longer. longer.items ≡ text.items ++ line_text (type_of returned.entry) (plain_observation observation.now)) }
 {
-    // A writer fills room ahead by what stands in front of it, so it does not write behind a long text.
+    // A writer fills room ahead by what stands in front of it, so it does not write after a long text.
     let line = fresh_line(alloc, observation, returned)?;
     let mut longer = text;
     longer.extend_from_slice(line.as_slice())?;

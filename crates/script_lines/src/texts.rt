@@ -1,3 +1,5 @@
+//! Values without parts as JSON: truth values, integers, characters, texts, handles and flags.
+
 #![tactic(auto, using(wit_types::proofs::ValueLemmas::values, crate::proofs::Views::views))]
 
 ghost use Rattle.std.specs.Prelude.{◌≡◌, IfOk, OnOk};

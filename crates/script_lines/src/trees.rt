@@ -1,3 +1,5 @@
+//! A tree of JSON is written out (RFC 8259), but for floats, which no shown value holds.
+
 #![tactic(auto)]
 
 ghost use Rattle.std.specs.Prelude.{◌≡◌, None, OnOk};

@@ -1,3 +1,5 @@
+//! What values are read by: how many there are in a list, a byte of a run as an integer, the number of a case.
+
 #![tactic(auto, using(wit_types::proofs::PlainLemmas::plains, wit_types::proofs::ValueLemmas::values, crate::proofs::Views::views, crate::proofs::Places::counts))]
 
 ghost use Rattle.std.specs.Prelude.{◌≡◌, ◌<◌, pos, length};

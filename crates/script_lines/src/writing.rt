@@ -1,3 +1,5 @@
+//! Values and arguments written to a line by their types, a list value by value, so that no tree of JSON holds a long one.
+
 #![tactic(auto, using(wit_types::proofs::PlainLemmas::plains, wit_types::proofs::ValueLemmas::values, crate::proofs::Views::views, crate::proofs::Places::counts))]
 
 ghost use Rattle.std.specs.Prelude.{◌<◌, length, OnOk};
@@ -79,7 +81,7 @@ fn write_nth(
     }
 }
 
-/// The values of a list, and the bracket behind them.
+/// The values of a list, and the bracket after them.
 #[cycle(write_value)]
 fn write_each(
     alloc: Global,
@@ -163,7 +165,7 @@ fn write_each_arg(
     Ok(())
 }
 
-/// Writes arguments in order, one for each parameter, and the bracket behind them.
+/// Writes arguments in order, one for each parameter, and the bracket after them.
 pub fn write_args(
     alloc: Global,
     params: &Fields,

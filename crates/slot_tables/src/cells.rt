@@ -1,4 +1,6 @@
-// Places that are read and written one at a time, and the two calls that are written over them.
+//! Places that are read and written one at a time, and the two calls that are written over them. Each read and each write is one counted
+//! step.
+
 ghost use Rattle.std.specs.Prelude.{◌≡◌, ◌+◌, ◌<◌, ◌≤◌, ◌↔◌, ◌^◌, List, Some, None, map, length, IsSome, IsErr, IfOk, IfErr, OnErr, slice_get, slice_set};
 ghost use Rattle.slot_tables.specs.Places.{entry_of, IsSound};
 ghost use Rattle.slot_tables.specs.Entries.{entry_at, live_count};

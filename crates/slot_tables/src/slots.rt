@@ -1,3 +1,5 @@
+//! Places in memory, with a list of the free ones. Contracts see a list of entries.
+
 ghost use Rattle.std.specs.Prelude.{◌≡◌, ◌+◌, ◌≤◌, ◌<◌, ◌↔◌, Some, None, length, replicate, IsSome, IsErr, IfOk, IfErr, OnErr, slice_get, slice_set};
 ghost use Rattle.slot_tables.specs.Entries.{entry_at, live_count};
 
@@ -62,7 +64,7 @@ impl<E> Model for Slots<E> {
 }
 
 impl<E> Slots<E> {
-    /// So many free places. This is the only call that takes memory.
+    /// That many free places. This is the only call that takes memory.
     pub fn new(alloc: Global, capacity: u32) -> Result<Self, NoMemory>
         ensures { IfOk result (λ slots. slots ≡ replicate capacity None) }
     {

@@ -1,3 +1,5 @@
+//! The entries of the adapter's slot tables, as values. `specs/` define how they lie in bytes.
+
 /// What a used place of a slot table holds: what a handle of its kind stands for.
 #[derive(Clone, Copy, PartialEq, Eq, Debug)]
 pub enum Entry {

@@ -1,3 +1,5 @@
+//! What trees are given as: paths with what they lead to, and trees under their names.
+
 use crate::ordered::Entries;
 use virt_base::{Bytes, Items, Text};
 

@@ -1,3 +1,5 @@
+//! The folder of each node and the range of its children, found in one pass over the nodes in order.
+
 ghost use Rattle.std.specs.Prelude.{◌≡◌, ◌↔◌, IsTrue, IsSome, IfOk};
 ghost use Rattle.tree_table.specs.Trees.{AreTrees};
 ghost use Rattle.tree_table.specs.Orders.{IsOrder};

@@ -1,3 +1,5 @@
+//! The nodes of one tree while it is made, and the tree in order that they become.
+
 ghost use Rattle.std.specs.Prelude.{◌≡◌, ◌<◌, ◌≤◌, [], ◌∷◌, ◌++◌, length, IfOk, OnOk, OnErr, IfSome, IfNone, IsUtf8};
 ghost use Rattle.std.specs.List.Sorted.{IsPermutation, IsSortedBy};
 ghost use Rattle.std.specs.Ordering.{is_lt};
@@ -25,7 +27,7 @@ pub struct Kept {
     node: Node,
 }
 
-/// The nodes of a tree in the making: the root, which has the number 0, and then each behind its folder. A node keeps its
+/// The nodes of a tree in the making: the root, which has the number 0, and then each after its folder. A node keeps its
 /// own name alone, so that all take memory in proportion to their names and contents.
 #[derive(Debug, Drop)]
 pub struct Nodes {

@@ -1,3 +1,5 @@
+//! The numbers of nodes: roots first, and then level by level, so that the children of a folder are a range of numbers.
+
 ghost use Rattle.std.specs.Prelude.{◌≡◌, ◌++◌, IfOk, OnOk, drop};
 
 use crate::entries::NamedTree;

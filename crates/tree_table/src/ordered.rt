@@ -1,3 +1,5 @@
+//! A tree as its paths in order, each with what it leads to. It has no names but those of its nodes, so a path is not kept in full.
+
 ghost use Rattle.std.specs.Prelude.{◌≡◌, ◌<◌, ◌↔◌, ℕ, map, length, IfOk, IsTrue, IsUtf8, Contains, slice_index_or};
 ghost use Rattle.tree_table.specs.Trees.{IsTree};
 ghost use Rattle.tree_table.specs.Tables.{content_of};

@@ -1,3 +1,5 @@
+//! The parts of a path's text, one after another, and what each asks for.
+
 ghost use Rattle.std.specs.Prelude.{◌≡◌, ◌∷◌, [], IfSome, IfNone, position, nat_eq};
 ghost use Rattle.tree_table.specs.Paths.{Stay, Up, Named, parts_of, part_of, is_rooted};
 

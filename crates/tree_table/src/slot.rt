@@ -1,3 +1,5 @@
+//! What the table has for one node: numbers, and ranges of the table's bytes.
+
 ghost use Rattle.std.specs.Prelude.{◌≡◌, ◌≤◌, ◌++◌, length, OnOk, IfOk, slice_range};
 
 use virt_base::NoMemory;

@@ -1,3 +1,5 @@
+//! The table of the nodes of all trees: it is built, it answers what a node is and holds, and walks read it.
+
 ghost use Rattle.std.specs.Prelude.{◌≡◌, ◌≢◌, ℕ, ◌+◌, ◌-◌, ◌<◌, ◌≤◌, ◌^◌, [], ◌++◌, All, List, Some, None, OnOk, IfOk, IfSome, IfNone, IsUtf8, length, nat_lt, if◌then◌else◌};
 ghost use Rattle.tree_table.specs.declared.entries.Node.{Node};
 ghost use Rattle.tree_table.specs.Tables.{count_of, tree_count, tree_of, place_of, path_of, node_of, map_of, longest_of, last_name, content_of, HasChildren, Holds};
@@ -26,7 +28,7 @@ pub struct Table {
     bytes: Vec<u8>,
 }
 
-/// What is kept of the node of a number, whose name and content are put behind the bytes.
+/// What is kept of the node of a number, whose name and content are put after the bytes.
 fn slot_for(
     bytes: &mut Vec<u8>,
     trees: &[NamedTree],

@@ -1,3 +1,6 @@
+//! The walk along a path from a node, with links followed, and the error codes of `wasi:filesystem/types` (WASI 0.2) where it leads
+//! nowhere.
+
 ghost use Rattle.std.specs.Prelude.{◌≡◌, ◌≢◌, ℕ, ◌+◌, ◌-◌, ◌*◌, ◌^◌, ◌<◌, ◌≤◌, [], ◌∷◌, ◌++◌, List, false, IfSome, IfNone, IfOk, IfErr, length, nat_eq};
 ghost use Rattle.std.specs.Ordering.{nat_cmp};
 ghost use Rattle.std.specs.Cmp.Lexicographic.{slice_cmp};

@@ -1,3 +1,5 @@
+//! The type of a function with other resources, over a table of its own.
+
 #![tactic(auto, using(wit_types::proofs::PlainLemmas::plains))]
 
 ghost use Rattle.std.specs.Prelude.{◌≡◌, IfOk, OnOk};

@@ -1,3 +1,5 @@
+//! The resources that an instance type declares, asked for one by one: whether a resource is among them.
+
 ghost use Rattle.std.specs.Prelude.{◌≡◌, IfOk};
 ghost use Rattle.comp_types.specs.Matching.{is_own};
 

@@ -1,3 +1,5 @@
+//! Types of items are matched, entry by entry, and arguments with the imports of a component.
+
 ghost use Rattle.std.specs.Prelude.{◌≡◌, IfOk};
 ghost use Rattle.comp_types.specs.Items.{InstanceKind};
 ghost use Rattle.comp_types.specs.Views.{item_of, kind_of, entries_of};

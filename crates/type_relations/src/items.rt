@@ -1,3 +1,5 @@
+//! The resources that a type of an item names, each once, in order: a walk through its entries, without what it declares itself.
+
 ghost use Rattle.std.specs.Prelude.{◌≡◌, not, OnOk, IfOk};
 ghost use Rattle.comp_types.specs.Views.{entries_of, item_of, kind_of};
 ghost use Rattle.comp_types.specs.GivenResources.{distinct, named_in, named_in_item, named_in_kind, without};

@@ -1,3 +1,6 @@
+//! The three relations by which types are judged: equal, may be given for another one, and arguments that fit the imports of a component
+//! (Component Model, Explainer.md, "Subtyping").
+
 ghost use Rattle.std.specs.Prelude.{◌≡◌, IfOk};
 ghost use Rattle.std.specs.Bool.{Decides};
 ghost use Rattle.comp_types.specs.Equality.{IsEqualType};

@@ -1,3 +1,5 @@
+//! Types of items with other resources. What speaks of no resource stays shared.
+
 ghost use Rattle.std.specs.Prelude.{◌≡◌, map, IfOk};
 ghost use Rattle.comp_types.specs.Items.{InstanceKind};
 ghost use Rattle.comp_types.specs.Views.{item_of, kind_of, entries_of};

@@ -1,3 +1,5 @@
+//! Lists of resources in which each stands once, by the order in which they came.
+
 ghost use Rattle.std.specs.Prelude.{◌≡◌, [], ◌∷◌, not, OnOk, IfOk};
 ghost use Rattle.comp_types.specs.GivenResources.{is_among, without};
 ghost use Rattle.comp_types.specs.Rules.{is_filled};
@@ -32,7 +34,7 @@ impl Resources {
         }
     }
 
-    /// Adds one behind the others, unless it is there.
+    /// Adds one after the others, unless it is there.
     pub fn push(&mut self, resource: u32) -> Result<(), NoMemory>
         ensures { OnOk result (self.new ≡ and_once self.old resource) }
     {

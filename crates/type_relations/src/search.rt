@@ -1,3 +1,5 @@
+//! The state of a search for resources: those that were found, and which places of the table were searched.
+
 ghost use Rattle.std.specs.Prelude.{◌≡◌, [], OnOk};
 ghost use Rattle.comp_types.specs.GivenResources.{is_among};
 ghost use Rattle.type_relations.specs.Once.{and_once};

@@ -1,3 +1,6 @@
+//! Pairs of resources that were found inside two instance types, as they are outside: declared resources meet one to one, the others are
+//! handed out.
+
 ghost use Rattle.std.specs.Prelude.{◌≡◌, [], is_some, IfOk};
 ghost use Rattle.comp_types.specs.Matching.{GoesOn, is_own, paired_one, paired, handed_one, handed_out, unpacked};
 

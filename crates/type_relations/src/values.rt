@@ -1,3 +1,5 @@
+//! The resources of a value type, found by a walk through the whole type. Types that stand in a table are searched in `nodes`.
+
 #![tactic(auto, using(wit_types::proofs::PlainLemmas::plains, crate::proofs::ValueLemmas::values))]
 
 ghost use Rattle.std.specs.Prelude.{◌≡◌, OnOk};

@@ -1,3 +1,5 @@
+//! The table: value types, each once and after its parts, with the places of these.
+
 ghost use Rattle.std.specs.Prelude.{◌≡◌, ◌<◌, [], ◌∷◌, ◌++◌, length, option_map, slice_get, slice_index, Contains, Some, IfOk, IfSome, OnOk, OnErr};
 ghost use Rattle.std.specs.Bool.{OnTrue};
 ghost use Rattle.wit_types.specs.Plain.{Plain, plain};
@@ -24,7 +26,7 @@ pub struct Node {
     pub links: Items<Option<usize>>,
 }
 
-/// Value types in the order in which they came, each behind its parts.
+/// Value types in the order in which they came, each after its parts.
 #[derive(Debug, Drop)]
 pub struct TypeTable {
     nodes: Vec<Node>,
@@ -196,7 +198,7 @@ impl TypeTable {
         }
     }
 
-    /// Adds a type behind the others, and remembers its place.
+    /// Adds a type after the others, and remembers its place.
     fn push(&mut self, known: Rc<KnownValue>, links: Items<Option<usize>>) -> Result<(), NoMemory>
         requires below { AreBelow (length self.old) links }
         requires new { (ty : Plain) → key_of known.value ≡ key_of ty → Contains (trees self.old) ty → ⊥ }

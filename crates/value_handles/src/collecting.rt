@@ -1,3 +1,5 @@
+//! The handles of a value are found by a walk through the value and its type, in the order in which they are lifted.
+
 #![tactic(auto, using(crate::proofs::Views::views))]
 
 ghost use Rattle.std.specs.Prelude.{◌≡◌, ◌++◌, OnOk, [], ℕ};

@@ -1,3 +1,5 @@
+//! Values are taken out of the places where they stand, and put back, so that a value is changed without a copy.
+
 #![tactic(auto)]
 
 ghost use Rattle.std.specs.Prelude.{◌≡◌, ◌<◌, false, length, Some, slice_get, slice_set};

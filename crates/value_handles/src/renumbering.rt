@@ -1,3 +1,5 @@
+//! The handles of a value get other numbers, in place, by a walk in the order in which `collecting` finds them.
+
 #![tactic(auto, using(crate::proofs::NumbersViews::changes))]
 
 ghost use Rattle.std.specs.Prelude.{◌≡◌, ◌+◌, ◌≤◌, [], length, drop};
@@ -329,7 +331,7 @@ fn renumber_handle(value: Value, numbers: &[u32], at: &mut usize) -> Value
     }
 }
 
-/// Puts numbers in the places of those of a value's handles, in order, from the one at a position on, and moves the position behind
+/// Puts numbers in the places of those of a value's handles, in order, from the one at a position on, and moves the position after
 /// them. Nothing is copied, and it takes no memory.
 #[cycle(renumber)]
 pub fn renumber(value: Value, ty: &WitType, numbers: &[u32], at: &mut usize) -> Value

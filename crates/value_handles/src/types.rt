@@ -1,3 +1,5 @@
+//! Whether values of a type may hold handles (Component Model, Explainer.md, "Handle types"). Lists of items without them are not walked.
+
 #![tactic(auto, using(crate::proofs::Views::views))]
 
 ghost use Rattle.std.specs.Prelude.{◌≡◌, []};

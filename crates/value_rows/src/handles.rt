@@ -1,3 +1,6 @@
+//! Rows: calls of a component instance's handle table, each with what it answers, or that it traps (Component Model, CanonicalABI.md,
+//! "Table State").
+
 use crate::rows::{is_printed, number_in, parts, printed, same};
 use handle_space::{HandleTable, Taken};
 use std::alloc::Global;

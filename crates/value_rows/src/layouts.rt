@@ -1,4 +1,5 @@
-// Sizes, alignments and flat types worked by hand by the rules of the Component Model's CanonicalABI.md.
+//! Rows: sizes, alignments and flat types, worked by hand by the rules of the Component Model's CanonicalABI.md, "Alignment",
+//! "Element Size" and "Flattening".
 
 use crate::named::read;
 use crate::rows::{Asked, hold, printed};
@@ -44,7 +45,7 @@ fn labels(alloc: Global, count: usize) -> Result<Rc<Labels>, Fail> {
     Ok(Rc::new(alloc, all)?)
 }
 
-/// A byte's case, and so many without a payload behind it.
+/// A byte's case, and that many without a payload after it.
 fn cases(alloc: Global, count: usize) -> Result<WitType, Fail> {
     let mut items = Vec::new(alloc);
     let name = Text::from_str(alloc, "c")?;
@@ -57,7 +58,7 @@ fn cases(alloc: Global, count: usize) -> Result<WitType, Fail> {
     Ok(WitType::Variant(Rc::new(alloc, Cases { items })?))
 }
 
-/// So many core types of one kind in a tuple.
+/// That many core types of one kind in a tuple.
 fn words(alloc: Global, count: usize) -> Result<WitType, Fail> {
     let mut items = Vec::new(alloc);
     for _ in 0..count {
@@ -66,7 +67,7 @@ fn words(alloc: Global, count: usize) -> Result<WitType, Fail> {
     Ok(WitType::Tuple(Rc::new(alloc, Types { items })?))
 }
 
-/// A type of a form with so many parts.
+/// A type of a form with that many parts.
 fn counted(alloc: Global, form: &str, count: usize) -> Result<WitType, Fail> {
     match form {
         "flags" => Ok(WitType::Flags(labels(alloc, count)?)),
@@ -93,7 +94,7 @@ fn type_of(alloc: Global, text: &'static str) -> Result<WitType, Fail> {
     }
 }
 
-/// Behind each type what is wanted. A type is the last in a text in the notation of `wasi_table`, or a form and how many parts
+/// After each type what is wanted. A type is the last in a text in the notation of `wasi_table`, or a form and how many parts
 /// it has.
 const ROWS: &str = "\
 one byte;type t bool => (1, 1, 1, 1, Some([I32]))

@@ -1,3 +1,5 @@
+//! A test of slot tables: places are given until none is free, and one that was freed is given again.
+
 ghost use Rattle.std.specs.Prelude.{◌≡◌, ◌<◌};
 
 use crate::rows::is_printed;

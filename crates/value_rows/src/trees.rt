@@ -1,3 +1,5 @@
+//! Rows: tables of trees, their nodes and children, and what paths lead to, with links that are followed or not.
+
 ghost use Rattle.std.specs.Prelude.{◌≡◌, ◌<◌, IfOk};
 ghost use Rattle.tree_table.specs.Tables.{count_of, tree_count};
 
@@ -15,7 +17,7 @@ use tree_table::{
 };
 use virt_base::{Items, Steps, Text, copy_bytes};
 
-/// What stands behind a node's name.
+/// What stands after a node's name.
 fn node_of(alloc: Global, what: &str) -> Result<Node, Fail> {
     if let Some(content) = what.strip_prefix("= ") {
         return Ok(Node::File(copy_bytes(alloc, content.as_bytes())?));
@@ -140,7 +142,7 @@ fn place_found(table: &Table, found: Result<u32, u8>) -> Result<u32, u8>
     }
 }
 
-/// Walks from the root of a tree: behind each path what it leads to where a last link is followed, and where it is not.
+/// Walks from the root of a tree: after each path what it leads to where a last link is followed, and where it is not.
 fn walk_all<L: Ledger>(
     alloc: Global,
     table: &Table,

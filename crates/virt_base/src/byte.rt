@@ -1,3 +1,5 @@
+//! The next byte is taken at a cursor. Readers of every format are made of it.
+
 ghost use Rattle.std.specs.Prelude.{◌≡◌, ◌∷◌, ◌+◌, MatchOption, []};
 ghost use Rattle.virt_base.specs.Place.{rest};
 

@@ -1,3 +1,5 @@
+//! Faults that many crates have in common: memory ran out, a trap, and why an application is refused.
+
 use crate::text::Text;
 use std::alloc::{AllocError, AllocFailed};
 
@@ -24,7 +26,7 @@ pub struct Trap;
 /// Why an application is refused.
 #[derive(Debug, Drop)]
 pub enum AppFault {
-    /// No component spells the bytes. So many of them, at the front, are one.
+    /// No component spells the bytes. That many of them, at the front, are one.
     Malformed(u64),
     /// The byte at this offset chooses a form that is not supported.
     Unsupported(u64, u8),

@@ -1,3 +1,5 @@
+//! Lists that contracts see as lists, and whose calls say when memory runs out.
+
 ghost use Rattle.std.specs.Prelude.{◌≡◌, ◌==◌, length, IfOk, OnOk, OnErr, ◌++◌, ◌∷◌, []};
 
 use crate::fault::NoMemory;

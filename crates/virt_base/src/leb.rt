@@ -1,3 +1,6 @@
+//! Numbers of 32, 33 and 64 bits are read in LEB128 (core WebAssembly, Binary Format, "Integers"). They need not be in their shortest
+//! spelling.
+
 ghost use Rattle.std.specs.Prelude.{◌≡◌, ◌<◌, ◌≤◌, ◌^◌, pos, ◌≤ℤ◌, ◌<ℤ◌, neg_ℤ, IfOk, OnErr};
 ghost use Rattle.virt_base.specs.Place.{rest, Gives};
 ghost use Rattle.virt_base.specs.Leb.{unsigned_at, signed_at, seven, fits_seven, AnswersUnsigned, AnswersSigned};
@@ -105,7 +108,7 @@ pub fn read_u32(c: &mut Cursor<'_>) -> Result<u32, LebFault>
     }
 }
 
-/// Reads a signed number of so many values on each side of 0. After a refusal the cursor is where it was.
+/// Reads a signed number of `half` values on each side of 0. After a refusal the cursor is where it was.
 fn signed_or_back(c: &mut Cursor<'_>, half: u64) -> Result<i64, LebFault>
     requires { half ≤ 2 ^ 63 }
     ensures input { c.new.bytes ≡ c.old.bytes }

@@ -1,10 +1,12 @@
+//! Numbers are written in LEB128, each in its shortest spelling (core WebAssembly, Binary Format, "Integers"). They are read in `leb`.
+
 ghost use Rattle.std.specs.Prelude.{◌≡◌, ◌++◌, ◌<◌, ◌≤◌, ◌^◌, OnOk, OnErr, take, length};
 ghost use Rattle.virt_base.specs.Leb.{limit_of, shortest_unsigned, shortest_by, shortest_signed, low_bits, number_by, IsUnsigned, IsSigned, IsShortest};
 
 use crate::fault::NoMemory;
 use std::alloc::{AllocError, Global};
 
-/// Writes a number, of at most so many bytes behind the first.
+/// Writes a number, of at most `more` bytes after the first.
 fn push_unsigned(out: &mut Vec<u8>, value: u64, more: u8) -> Result<(), AllocError>
     requires { value < limit_of 128 more }
     ensures ok { OnOk result (out.new.items ≡ out.old.items ++ shortest_unsigned more value) }
@@ -27,7 +29,7 @@ fn bits_of(negative: bool, low: u8) -> u8
     if negative { 127 - low } else { low }
 }
 
-/// Writes `value`, or -1 less it, of at most so many bytes behind the first.
+/// Writes `value`, or -1 less it, of at most `more` bytes after the first.
 fn push_signed(out: &mut Vec<u8>, negative: bool, value: u64, more: u8) -> Result<(), AllocError>
     requires { value < limit_of 64 more }
     ensures ok { OnOk result (out.new.items ≡ out.old.items ++ shortest_by negative more value) }

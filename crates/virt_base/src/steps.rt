@@ -1,3 +1,5 @@
+//! A counter of steps, which contracts see as a number. It takes no bytes when the program runs.
+
 ghost use Rattle.std.specs.Prelude.{◌≡◌, ◌+◌, ◌<◌};
 
 use std::marker::Model;

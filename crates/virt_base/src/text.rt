@@ -1,3 +1,5 @@
+//! Text in UTF-8, which contracts see as its bytes. Texts are in the order of their bytes.
+
 ghost use Rattle.std.specs.Prelude.{◌≡◌, ◌↔◌, refl, Some, IfOk, IsTrue, IsErrOf, IsUtf8, bytes_eq, string_bytes};
 ghost use Rattle.std.specs.Ordering.{nat_cmp};
 ghost use Rattle.std.specs.Cmp.{partial_equiv_from_equiv};

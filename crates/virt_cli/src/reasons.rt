@@ -1,3 +1,6 @@
+//! What the program says on standard error besides what the engine puts: the place where a policy is no TOML or a script no JSON, or the
+//! machine's reason of a fault. Files are read once more for it, and no contract speaks of it.
+
 use real_outside::RealFiles;
 use serde_json::Value as Json;
 use std::alloc::Global;

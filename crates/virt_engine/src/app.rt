@@ -1,3 +1,5 @@
+//! The application of `virt`, read from its file and judged.
+
 ghost use Rattle.virt_engine.specs.Apps.{FetchesApp};
 
 use crate::status::Status;

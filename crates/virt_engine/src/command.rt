@@ -1,3 +1,6 @@
+//! What a call is to do, by the command that the words name. The names of `virt` and of `plug` stand
+//! here once more, borrowed.
+
 ghost use Rattle.virt_engine.specs.Command.{ReadsTask};
 
 use std::alloc::Global;

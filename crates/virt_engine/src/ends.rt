@@ -1,3 +1,5 @@
+//! How a run ended: as an observation, which is shown as a line, and as a status.
+
 ghost use Rattle.std.specs.Prelude.{◌≡◌};
 ghost use Rattle.host_port.specs.Calls.{plain_observation};
 ghost use Rattle.virt_engine.specs.Lines.{end_by, seen_by};

@@ -1,3 +1,5 @@
+//! The top call: it reads the words, does what the command asks, and answers a status.
+
 ghost use Rattle.std.specs.Prelude.{◌≡◌, true};
 ghost use Rattle.std.specs.Prelude.{None, Some};
 ghost use Rattle.virt_engine.specs.Command.{GenCommand, NoOther, PlugCommand, RunCommand, gen_of, names_of, plug_of, run_of};

@@ -1,3 +1,5 @@
+//! Files that `component_judge` could not read or refuses, as statuses.
+
 use crate::status::Status;
 use component_judge::{Refusal, Unready};
 

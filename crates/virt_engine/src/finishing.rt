@@ -1,3 +1,5 @@
+//! The last part of each call that writes an output: the file is written, and the line of its end is put.
+
 ghost use Rattle.virt_engine.specs.Plan.{Finishes};
 
 use crate::plan::Ready;

@@ -1,3 +1,5 @@
+//! The text of each status that has one, and the usage text. Each is one line.
+
 ghost use Rattle.std.specs.Prelude.{◌≡◌, ◌<◌, IfOk, string_bytes};
 ghost use Rattle.virt_engine.specs.Line.{hex_digit, hex_byte, policy_text, app_text, plug_text, done_text, status_text};
 

@@ -1,3 +1,5 @@
+//! The lines of what is seen of a run, kept until the run is over.
+
 ghost use Rattle.std.specs.Prelude.{◌≡◌, ◌++◌, [], All, None, OnOk, map};
 ghost use Rattle.host_port.specs.Calls.{plain_observation};
 ghost use Rattle.script_lines.specs.Lines.{line_text, type_of};
@@ -17,7 +19,7 @@ use wit_types::WitType;
 /// Lines of what is seen of a run, each with an LF at its end.
 #[derive(Drop)]
 pub struct Lines {
-    /// One behind the other.
+    /// One after the other.
     text: Vec<u8>,
     /// How many bytes each has.
     sizes: Vec<usize>,
@@ -45,7 +47,7 @@ impl Lines {
         }
     }
 
-    /// Adds the line of what is seen, where a returned value has this type. None is left after want of memory.
+    /// Adds the line of what is seen, where a returned value has this type. None is left where memory ran out.
     pub fn add(
         &mut self,
         alloc: Global,

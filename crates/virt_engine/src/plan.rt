@@ -1,3 +1,6 @@
+//! What `virt` does before it writes: both files are read, and the parts of the output and the texts of either end are made. All memory is
+//! taken here.
+
 ghost use Rattle.std.specs.Prelude.{◌≡◌, ◌+◌, IfOk, IfSome, string_bytes};
 ghost use Rattle.comp_grammar.specs.Trees.{plain};
 ghost use Rattle.comp_signature.specs.Signatures.{component_signature};
@@ -44,8 +47,8 @@ fn imports_nothing(ty: &ComponentType) -> bool
     }
 }
 
-/// What stands around an application that imports nothing. An output that no size can tell is want of memory: its application has more
-/// exports, or longer names, than the limit on applications lets in.
+/// What stands around an application that imports nothing. An output that no size can tell counts as out of memory: its application has
+/// more exports, or longer names, than the limit on applications lets in.
 fn parts_alone(alloc: Global, ty: &ComponentType, size: usize) -> Result<Composed, NoMemory>
     ensures { IfOk result (IsAround ty.now.exports size) }
 {
@@ -59,8 +62,8 @@ fn parts_alone(alloc: Global, ty: &ComponentType, size: usize) -> Result<Compose
     }
 }
 
-/// What stands around an application with imports. Each fault of composing is want of memory: also a check of what was made that
-/// failed, and a size that 32 bits cannot tell.
+/// What stands around an application with imports. Each fault of composing counts as out of memory: also a check of what was made
+/// that failed, and a size that 32 bits cannot tell.
 fn parts_beside(
     alloc: Global,
     policy: &Policy,
@@ -79,7 +82,7 @@ fn parts_beside(
     }
 }
 
-/// What stands around an application of so many bytes.
+/// What stands around an application of that many bytes.
 fn parts_for(
     alloc: Global,
     policy: &Policy,

@@ -1,3 +1,5 @@
+//! The policy of a call, read from its file within a limit, with its faults as statuses.
+
 ghost use Rattle.virt_engine.specs.Policies.{FetchesPolicy, IsRefusedFor, ReadsPolicy};
 
 use crate::status::{PolicyFault, Status};
@@ -8,7 +10,7 @@ use policy_toml::read_policy;
 use std::alloc::Global;
 use virt_base::Text;
 
-/// A policy has at most so many bytes.
+/// A policy has at most this many bytes.
 const POLICY_LIMIT: u64 = 16_777_216;
 
 fn refused_for(fault: ReadPolicyFault) -> Status

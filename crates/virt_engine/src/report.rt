@@ -1,3 +1,5 @@
+//! The text of a status, put to the sink. Where the sink fails, that is the status.
+
 ghost use Rattle.std.specs.Prelude.{◌≡◌, string_bytes};
 ghost use Rattle.virt_engine.specs.Line.{status_text};
 ghost use Rattle.virt_engine.specs.Report.{Puts, Reports};

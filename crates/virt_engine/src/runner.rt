@@ -1,3 +1,6 @@
+//! A run, from a judged component to its lines: the instances are made, calls are made one after another, and what is seen of the host and
+//! of each call is shown and counted. It is the same over any host.
+
 ghost use Rattle.std.specs.Prelude.{◌≡◌, [], IfOk, OnOk, drop, map};
 ghost use Rattle.comp_grammar.specs.Trees.{plain as plain_tree};
 ghost use Rattle.host_script.specs.Script.{AreTyped, call_seen, exports_seen};
@@ -38,7 +41,7 @@ fn result_named<'a>(exports: &'a ExportTypes, name: &Text) -> Option<&'a WitType
     }
 }
 
-/// What was seen behind the first ones.
+/// What was seen after the first ones.
 fn behind(seen: &[Observation], shown: usize) -> &[Observation]
     ensures { result.now ≡ drop shown seen.now }
 {
@@ -55,7 +58,7 @@ struct Runner<H> {
     run: Run<H>,
     lines: Lines,
     tally: Tally,
-    /// So many of the host's observations stand among them.
+    /// How many of the host's observations stand among them.
     shown: usize,
 }
 
@@ -142,7 +145,7 @@ impl<H: Host> Runner<H> {
     }
 }
 
-/// Runs a component, which exports these functions, over a host, in at most so many steps: it is made, and these calls of what it
+/// Runs a component, which exports these functions, over a host, in at most that many steps: it is made, and these calls of what it
 /// exports are made, until one does not return. What is shown of the host is what it says that was seen of it.
 pub fn run_component<H: Host + Drop>(
     alloc: Global,

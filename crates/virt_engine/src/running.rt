@@ -1,3 +1,5 @@
+//! The command `run`: a component over a script alone, or over the reference host of a policy, which asks the script.
+
 ghost use Rattle.virt_engine.specs.Command.{told_by};
 ghost use Rattle.virt_engine.specs.Runs.{PutsShown, RunsBy, ShowsAlone, ShowsUnder, ShowsTask};
 

@@ -1,3 +1,5 @@
+//! How a call of the program can end, and the exit status of each end.
+
 ghost use Rattle.std.specs.Prelude.{◌≡◌};
 ghost use Rattle.virt_engine.specs.Code.{code_of};
 

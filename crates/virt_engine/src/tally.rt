@@ -1,3 +1,5 @@
+//! The counts of a run: the calls of the host, and the sum of the numbers that called functions returned.
+
 ghost use Rattle.std.specs.Prelude.{◌≡◌, OnOk, map};
 ghost use Rattle.wit_types.specs.PlainValue.{plain_value};
 ghost use Rattle.host_port.specs.Calls.{plain_observation, plain_option};
@@ -56,7 +58,7 @@ impl Tally {
         Tally { calls: 0, sum: 0 }
     }
 
-    /// Counts what is seen. More calls than 64 bits can count are want of memory.
+    /// Counts what is seen. More calls than 64 bits can count are taken as out of memory.
     pub fn count(&mut self, seen: &Observation) -> Result<(), NoMemory>
         ensures { OnOk result (self.new ≡ and_seen self.old (plain_observation seen.now)) }
     {

@@ -1,3 +1,5 @@
+//! The trees of a policy, made over the files outside, with their faults as statuses.
+
 ghost use Rattle.policy_data.specs.Limits.{KeepsLimits};
 ghost use Rattle.virt_engine.specs.PolicyTrees.{MakesTrees, IsStoppedBy};
 

@@ -1,10 +1,12 @@
+//! The output file: it is created, and its three parts are added in pieces, each by one call.
+
 ghost use Rattle.std.specs.Prelude.{◌≡◌, ◌++◌};
 ghost use Rattle.virt_engine.specs.Writing.{Adds, Writes};
 
 use outside::{Files, WriteFailed};
 use virt_base::Text;
 
-/// So many bytes are added to a file in one call.
+/// This many bytes are added to a file in one call.
 const PIECE: usize = 65_536;
 
 /// Adds bytes to the end of a file, piece by piece.

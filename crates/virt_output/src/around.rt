@@ -1,3 +1,5 @@
+//! The output of an application that imports nothing, as what stands before its bytes and what stands after them.
+
 ghost use Rattle.std.specs.Prelude.{◌≡◌, ◌≤◌, ◌++◌, ℕ, List, length, IfOk};
 ghost use Rattle.comp_grammar.specs.Trees.{Tree};
 ghost use Rattle.comp_write.specs.Copying.{SpellsBare};
@@ -11,7 +13,7 @@ use comp_types::InstanceEntries;
 use std::alloc::Global;
 use virt_base::NoMemory;
 
-/// What an output has before and behind the application's bytes.
+/// What an output has before and after the application's bytes.
 #[derive(Drop)]
 pub struct Around {
     pub front: Vec<u8>,
@@ -26,8 +28,8 @@ fn front(alloc: Global, size: u32) -> Result<Vec<u8>, NoMemory>
     Ok(out)
 }
 
-/// What stands around an application of so many bytes that imports nothing and exports these: it stands as it is in a section of its
-/// own, behind it its instance, and where it exports something an alias and an export of each of its exports. The application's bytes
+/// What stands around an application of that many bytes that imports nothing and exports these: it stands as it is in a section of its
+/// own, after it its instance, and where it exports something an alias and an export of each of its exports. The application's bytes
 /// need not be in memory.
 ///
 /// `TooLong` exactly where a size of 32 bits cannot say how long the application, a section of items or a name is, or how many

@@ -1,3 +1,5 @@
+//! What stands after the bytes of an application that imports nothing: its instance, aliases and exports, written section by section.
+
 ghost use Rattle.virt_output.specs.Pieces.{Adds, ItemsFit, content_of, id_of};
 ghost use Rattle.comp_types.specs.Views.{entries_of};
 ghost use Rattle.virt_output.specs.Bytes.{AddsExports, CanBeNamed, Ends};
@@ -33,7 +35,7 @@ fn add_exports(
     add(alloc, out, Piece::Exports(exports))
 }
 
-/// What stands behind the application's bytes: its instance and, where it exports something, aliases and exports of that.
+/// What stands after the application's bytes: its instance and, where it exports something, aliases and exports of that.
 pub fn back(alloc: Global, entries: &[InstanceEntry]) -> Result<Vec<u8>, PieceFault>
     requires { CanBeNamed (entries_of entries.now) }
     ensures { Ends (entries_of entries.now) result }

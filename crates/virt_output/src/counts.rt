@@ -1,3 +1,5 @@
+//! The next index of each sort, as sections are made one after another.
+
 ghost use Rattle.std.specs.Prelude.{◌≡◌, ◌<◌, ◌^◌};
 ghost use Rattle.comp_types.specs.Views.{item_of};
 ghost use Rattle.virt_output.specs.Counts.{sort_of as sort_in, count_of, and_one};

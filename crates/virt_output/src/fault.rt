@@ -1,3 +1,5 @@
+//! Why a section is not added: out of memory, or too long for a size of 32 bits.
+
 use virt_base::NoMemory;
 
 /// Why a section is not added.

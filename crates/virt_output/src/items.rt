@@ -1,3 +1,5 @@
+//! The items of an output's sections: one instance, and an alias and an export of each export of the application.
+
 ghost use Rattle.std.specs.Prelude.{◌≡◌, ◌↔◌, IfOk, IsTrue};
 ghost use Rattle.wasm_format.specs.Format.{vec};
 ghost use Rattle.wasm_ast.specs.ComponentItems.{alias, component_export, instance};

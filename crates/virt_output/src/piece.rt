@@ -1,3 +1,5 @@
+//! A section as it is given to be written: a list of items, or the bytes of what is nested.
+
 use virt_base::Items;
 use wasm_ast::{Alias, Canon, ComponentExport, ComponentImport, CoreInstance, Instance, TypeItem};
 
@@ -11,7 +13,7 @@ pub enum Piece<'a> {
     CoreInstances(Items<CoreInstance>),
     Instances(Items<Instance>),
     Aliases(Items<Alias>),
-    /// Definitions; what an instance type declares stands behind it.
+    /// Definitions; what an instance type declares stands after it.
     Types(Items<TypeItem>),
     Canons(Items<Canon>),
     Imports(Items<ComponentImport>),

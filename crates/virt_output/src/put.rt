@@ -1,3 +1,5 @@
+//! Sections, added to a component that is being written (Component Model, Binary.md, "Component Definitions").
+
 ghost use Rattle.std.specs.Prelude.{◌≡◌, ℕ, List, ◌++◌, length, IfOk, OnOk};
 ghost use Rattle.wasm_format.specs.Format.{Format};
 ghost use Rattle.comp_grammar.specs.Trees.{Tree, Part, Nested, End};
@@ -92,7 +94,7 @@ pub fn put_piece(alloc: Global, out: &mut Vec<u8>, piece: &Piece<'_>) -> Result<
     put_section(alloc, out, piece)
 }
 
-/// Adds the head of a nested component that has so many bytes, which are to follow it: they need not be in memory.
+/// Adds the head of a nested component that has that many bytes, which are to follow it: they need not be in memory.
 #[tactic(auto, unfolding(wasm_format::specs::Format::u32_format))]
 pub fn put_component_head(alloc: Global, out: &mut Vec<u8>, size: u32) -> Result<(), NoMemory>
     ensures added { OnOk result (out.new.items ≡ out.old.items ++ head_of_component size) }

@@ -1,3 +1,5 @@
+//! The commands as `clap` is told them: the words that each takes, and its options.
+
 ghost use Rattle.std.specs.Prelude.{◌≡◌, IfOk, false};
 ghost use Rattle.clap.specs.Words.{app_of, rule_of};
 ghost use Rattle.virt_words.specs.Apps.{plain_app, positional, option_named, long_option, required_option, virt_app, run_app, gen_app, plug_app, inspect_app};
@@ -47,7 +49,7 @@ fn spelled<'a>(alloc: Global, id: &'a str) -> Arg<'a>
     Arg::new(alloc, id).long(id)
 }
 
-/// The command behind `virt`.
+/// The command after `virt`.
 pub fn virt_command<'a>(alloc: Global) -> Result<Command<'a>, AllocError>
     ensures { IfOk result (λ c. app_of c ≡ virt_app) }
 {
@@ -57,7 +59,7 @@ pub fn virt_command<'a>(alloc: Global) -> Result<Command<'a>, AllocError>
     plain(alloc, "virt").arg(app)?.arg(policy)?.arg(out)
 }
 
-/// The command behind `run`.
+/// The command after `run`.
 pub fn run_command<'a>(alloc: Global) -> Result<Command<'a>, AllocError>
     ensures { IfOk result (λ c. app_of c ≡ run_app) }
 {
@@ -72,7 +74,7 @@ pub fn run_command<'a>(alloc: Global) -> Result<Command<'a>, AllocError>
         .arg(steps)
 }
 
-/// The command behind `gen`.
+/// The command after `gen`.
 pub fn gen_command<'a>(alloc: Global) -> Result<Command<'a>, AllocError>
     ensures { IfOk result (λ c. app_of c ≡ gen_app) }
 {

@@ -1,3 +1,5 @@
+//! What words of a command line ask for, as values, and why words ask for nothing.
+
 use virt_base::{NoMemory, Text};
 
 /// The names that `virt` works on.

@@ -1,3 +1,5 @@
+//! The lines of a text, each put to a sink by a call of its own.
+
 ghost use Rattle.virt_words.specs.Lines.{PutsAll, cut, text_of};
 
 use outside::{PutFailed, Sink};

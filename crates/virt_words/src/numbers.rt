@@ -1,3 +1,5 @@
+//! Numbers among words: decimal digits without a sign or a leading zero, within a limit.
+
 ghost use Rattle.std.specs.Prelude.{◌≡◌, ◌≤◌};
 ghost use Rattle.virt_words.specs.Numbers.{digits_within, number_in};
 

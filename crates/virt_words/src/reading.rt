@@ -1,3 +1,5 @@
+//! The reading of words: `clap` matches them with the command that the first word names, and what was found becomes a value.
+
 ghost use Rattle.std.specs.Prelude.{◌≡◌, IfOk, codes, option_map, true};
 ghost use Rattle.clap.specs.Words.{app_of, first_value, found_of, is_simple, is_simple_and_free, kind_of};
 ghost use Rattle.virt_words.specs.Words.{Matches, Reads, command_of, gen_from, gen_words, inspect_from, inspect_words, plug_from, plug_words, run_from, run_words, steps_in, virt_from, virt_words};
@@ -18,7 +20,7 @@ const STEPS: u64 = 10_000_000;
 /// The most functions of a component that is made.
 const MOST_FUNCTIONS: u64 = 1_000;
 
-/// Want of memory, or words that are refused.
+/// Out of memory, or words that are refused.
 fn fault_from(e: &Error) -> WordsFault
     ensures memory { result ≡ WordsFault.NoMemory → kind_of e.now ≡ ErrorKind.OutOfMemory }
     ensures usage { result ≡ WordsFault.Usage → kind_of e.now ≡ ErrorKind.OutOfMemory → ⊥ }
@@ -222,7 +224,7 @@ pub fn read_inspect(alloc: Global, words: &[Text]) -> Result<InspectWords, Words
     }
 }
 
-/// The command of the words behind the program's name. The first names the action; the rest is read with `clap` as one
+/// The command of the words after the program's name. The first names the action; the rest is read with `clap` as one
 /// simple command, without a help or version flag: options with one value each, in any order and each at most once, and
 /// the words that have to be there. `Usage` exactly where the words give no command.
 pub fn read_words(alloc: Global, words: &[Text]) -> Result<Command, WordsFault>

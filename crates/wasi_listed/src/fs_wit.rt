@@ -1,3 +1,5 @@
+//! The text in WIT (Component Model, WIT.md) that says the same as the table of `fs`, by a law there.
+
 /// The same interfaces in the notation of WIT (WASI 0.2.0), spelled a second time beside the table. Parameters stand without names.
 pub const WIT: &str = "\
 interface wasi:filesystem/types {

@@ -1,3 +1,5 @@
+//! The table of `io` as one text (WASI 0.2). It stands apart since it is data alone.
+
 /// The interfaces of `wasi:io`, `wasi:cli`, `wasi:clocks` and `wasi:random` (WASI 0.2.0), in the notation of `wasi_table`.
 pub const TABLE: &str = "\
     wasi:io/error;\

@@ -1,3 +1,5 @@
+//! The table of `net` as one text (WASI 0.2). It stands apart since it is data alone.
+
 /// The interfaces of `wasi:sockets` (WASI 0.2.0), in the notation of `wasi_table`.
 pub const TABLE: &str = "\
     wasi:sockets/network;\

@@ -1,3 +1,6 @@
+//! The entries of an imported instance against what the interface offers under their names, with a kind for each resource; and the places
+//! of the functions among them.
+
 ghost use Rattle.std.specs.Prelude.{◌≡◌, ◌<◌, ◌^◌, ◌++◌, IfOk, IfSome, OnOk, map, length, position};
 ghost use Rattle.std.specs.Str.{bytes_eq};
 ghost use Rattle.wit_types.specs.Plain.{plain_func};

@@ -1,3 +1,5 @@
+//! Exports are searched for resource types and handles: no export of a listed component holds one.
+
 ghost use Rattle.std.specs.Prelude.{◌≡◌, false, MatchOption};
 ghost use Rattle.comp_types.specs.Resources.{entries_have_resource};
 ghost use Rattle.wasi_match.specs.Verdicts.{HasHandle};

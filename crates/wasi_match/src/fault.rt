@@ -1,3 +1,5 @@
+//! Why a component is not listed: what can be at fault in an import or an export, and the fault with its name.
+
 ghost use Rattle.std.specs.Prelude.{◌≡◌, Some};
 ghost use Rattle.wasi_match.specs.Verdicts.{Refused, fault_verdict};
 

@@ -1,3 +1,5 @@
+//! The imports of a component, matched with the listed interfaces one after another, to its verdict: listed, or the first fault at a name.
+
 ghost use Rattle.std.specs.Prelude.{◌≡◌, ◌<◌, IfOk, nat_eq};
 ghost use Rattle.std.specs.List.{list_any};
 ghost use Rattle.wit_types.specs.Plain.{Name};
@@ -113,7 +115,7 @@ fn match_import(
     }
 }
 
-/// Matches the imports with the listed interfaces, in order, and looks for handles in the exports behind them. Ok exactly where
+/// Matches the imports with the listed interfaces, in order, and looks for handles in the exports after them. Ok exactly where
 /// the component is listed.
 pub fn match_imports(alloc: Global, ty: &ComponentType) -> Result<Listed, MatchFault>
     ensures { Answers (component_signature ty.now) result }
@@ -134,7 +136,7 @@ pub fn match_imports(alloc: Global, ty: &ComponentType) -> Result<Listed, MatchF
     }
 }
 
-/// Of each component exactly one verdict holds, so that the contract of `match_imports` allows one answer beside want of memory.
+/// Of each component exactly one verdict holds, so that the contract of `match_imports` allows one answer, unless memory runs out.
 pub fn has_one_verdict()
     ensures { HasOneVerdict }
 {}

@@ -1,3 +1,5 @@
+//! Whether the resources of the imports stand apart: each is taken for a kind, and no two for the same one.
+
 ghost use Rattle.std.specs.Prelude.{◌≡◌, [], is_some, IfOk};
 ghost use Rattle.wasi_match.specs.Kinds.{turned};
 

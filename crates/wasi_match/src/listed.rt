@@ -1,3 +1,5 @@
+//! What is kept of a listed component: each of its imports, with the interface, the version and the functions that it asks for.
+
 use virt_base::{Items, Text};
 
 /// An import of a listed interface.

@@ -1,3 +1,6 @@
+//! What a listed interface of WASI 0.2 offers: its types, first those that it uses of other interfaces, and its functions, each found by
+//! its name.
+
 ghost use Rattle.std.specs.Prelude.{◌≡◌, ◌<◌, ◌^◌, ◌++◌, IfOk, IfSome, OnOk, All, length, map, option_map, position};
 ghost use Rattle.std.specs.Option.{option_copied};
 ghost use Rattle.std.specs.List.{find};
@@ -70,7 +73,7 @@ fn used(alloc: Global, uses: &[Use]) -> Result<NamedTypes, NoMemory>
     Ok(types)
 }
 
-/// Adds types behind others.
+/// Adds types after others.
 fn push_all(own: NamedTypes, types: &mut NamedTypes) -> Result<(), NoMemory>
     ensures { OnOk result (map plain_named types.new ≡ map plain_named types.old ++ map plain_named own) }
 {

@@ -1,3 +1,5 @@
+//! A table cut into interfaces, items, lines and words, part by part. No memory is taken.
+
 ghost use Rattle.std.specs.Prelude.{◌≡◌, ◌<◌, [], ◌∷◌, length, MatchOption};
 ghost use Rattle.wasi_table.specs.Texts.{interfaces_in, items_in, items_of, left, lines_in, lines_of, parts_in, parts_of, words_in, words_of};
 

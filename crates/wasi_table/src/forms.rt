@@ -1,3 +1,5 @@
+//! The words of the notation that are no names: the primitive types, the forms of types, and the arrow of a signature.
+
 ghost use Rattle.std.specs.Prelude.{◌≡◌};
 ghost use Rattle.wasi_table.specs.Forms.{form_named};
 
@@ -15,11 +17,11 @@ pub enum Form {
     List,
     Option,
     Result,
-    /// A tuple of so many types.
+    /// A tuple of that many types.
     Tuple(usize),
     Own,
     Borrow,
-    /// The arrow between parameters and answer: what stands behind it is no parameter.
+    /// The arrow between parameters and answer: what stands after it is no parameter.
     Arrow,
 }
 

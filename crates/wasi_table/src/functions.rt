@@ -1,3 +1,6 @@
+//! The functions of an interface: their signatures, and the names of methods (Component Model, Explainer.md, "Import and Export
+//! Definitions").
+
 #![tactic(auto, using(crate::proofs::FunctionLemmas::function_rules))]
 
 ghost use Rattle.std.specs.Prelude.{◌≡◌, ◌∷◌, [], ◌++◌, IfOk, OnOk, map, option_map};
@@ -19,7 +22,7 @@ use std::alloc::Global;
 use virt_base::{Items, NoMemory, Text};
 use wit_types::{FuncType, Labels};
 
-/// What stands behind the arrow of a signature.
+/// What stands after the arrow of a signature.
 fn behind_arrow(words: Rest) -> Rest
     ensures { words_in result ≡ behind_arrow (words_in words.entry) }
 {

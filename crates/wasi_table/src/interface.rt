@@ -1,3 +1,5 @@
+//! A listed interface as a value: its name, what it uses of other interfaces, its types and its functions.
+
 use virt_base::{Items, Text};
 use wit_types::{FuncType, Labels, WitType};
 

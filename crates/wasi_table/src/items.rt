@@ -1,3 +1,5 @@
+//! The items of an interface, as the keywords at their beginning tell them apart.
+
 ghost use Rattle.std.specs.Prelude.{◌≡◌, option_map};
 ghost use Rattle.wasi_table.specs.Items.{item_as, item_in, plain_item};
 ghost use Rattle.wasi_table.specs.Texts.{lines_in, lines_of, words_in};

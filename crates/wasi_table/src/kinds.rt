@@ -1,3 +1,6 @@
+//! The kinds of resources in the listed interfaces: 14 names, numbered by their places. Handle types of listed interfaces have these
+//! numbers.
+
 ghost use Rattle.std.specs.Prelude.{◌≡◌, ◌<◌, IfSome, length, map, position};
 ghost use Rattle.std.specs.Str.{bytes_eq};
 ghost use Rattle.wasi_table.specs.Types.{kind_of, place_in};

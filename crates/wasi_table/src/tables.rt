@@ -1,3 +1,5 @@
+//! What a whole table says: the types that its interfaces define, one interface by its number, and the number of a name.
+
 #![tactic(auto, using(crate::proofs::FunctionLemmas::function_rules))]
 
 ghost use Rattle.std.specs.Prelude.{◌≡◌, ◌∷◌, [], ◌++◌, ◌<◌, ◌≤◌, ◌+◌, ◌-◌, ◌^◌, IfOk, OnOk, length, map, drop, option_map, Some};

@@ -1,3 +1,5 @@
+//! The types that the items of a table define: a type in words, and records, variants, flags, enumerations and resources.
+
 #![tactic(auto, using(wit_types::proofs::PlainLemmas::plains, crate::proofs::ItemLemmas::item_rules, crate::proofs::FunctionLemmas::function_rules))]
 
 ghost use Rattle.std.specs.Prelude.{◌≡◌, ◌++◌, IfOk, OnOk, Some, map, option_map};

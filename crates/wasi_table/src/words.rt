@@ -1,3 +1,6 @@
+//! Types in words. Words are read from the last to the first over a stack of operands, from which a form takes the types that come
+//! after it.
+
 #![tactic(auto, using(wit_types::proofs::PlainLemmas::plains, crate::proofs::OperandLemmas::operand_rules))]
 
 ghost use Rattle.std.specs.Prelude.{◌≡◌, ◌∷◌, IfOk, OnOk, option_map, map, take, drop};
@@ -19,7 +22,7 @@ use std::rc::Rc;
 use virt_base::{NoMemory, Text};
 use wit_types::{Field, Fields, Types, WitType, copy_type};
 
-/// What a word stands for, with the words behind it that it takes: none is a payload that is not there.
+/// What a word stands for, with the words after it that it takes: none is a payload that is not there.
 pub type Operand = Option<Meaning>;
 
 /// Operands, the first of them at the end.

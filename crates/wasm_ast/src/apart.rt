@@ -1,3 +1,5 @@
+//! A value on the heap, so that what holds it is small. Contracts see the value itself.
+
 ghost use Rattle.std.specs.Prelude.{◌≡◌, IfOk};
 
 use std::alloc::Global;

@@ -1,3 +1,5 @@
+//! The instructions of one byte that open and close nothing, as values of few bytes. Constant expressions are kept by them.
+
 ghost use Rattle.std.specs.Prelude.{◌≡◌, IfSome};
 ghost use Rattle.wasm_ast.specs.ConstExprs.{instr_of};
 

@@ -1,3 +1,5 @@
+//! A value on the heap, which contracts see as a record that holds the value. In `apart` they see the value itself.
+
 ghost use Rattle.std.specs.Prelude.{◌≡◌, IfOk};
 
 use std::alloc::Global;

@@ -1,3 +1,5 @@
+//! The tree of a component: its sections, and the items in them (Component Model, Binary.md).
+
 use crate::apart::Apart;
 use crate::boxed::Boxed;
 use crate::kept_type::KeptType;
@@ -94,7 +96,7 @@ pub enum Alias {
         instance: u32,
         name: Text,
     },
-    /// An item of the scope so many scopes further out.
+    /// An item of the scope that many scopes further out.
     Outer {
         sort: OuterSort,
         count: u32,
@@ -173,7 +175,7 @@ pub enum TypeDef {
         params: Items<LabelType>,
         result: MaybeType,
     },
-    /// An instance type, whose so many declarations follow in the list.
+    /// An instance type, of which that many declarations follow in the list.
     Instance {
         declarations: u32,
     },
@@ -265,7 +267,7 @@ pub enum Section {
     Canons(Items<Canon>),
     Imports(Items<ComponentImport>),
     Exports(Items<ComponentExport>),
-    /// A custom section: the part behind its size.
+    /// A custom section: the part after its size.
     Custom(Span),
 }
 

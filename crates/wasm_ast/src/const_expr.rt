@@ -1,3 +1,5 @@
+//! Constant expressions, in little memory where they have few instructions. Contracts see the instructions.
+
 ghost use Rattle.std.specs.Prelude.{◌≡◌, IfOk, IfSome};
 ghost use Rattle.wasm_ast.specs.ConstExprs.{code_kept, code_lent};
 
@@ -8,7 +10,7 @@ use std::alloc::Global;
 use std::marker::Model;
 use virt_base::{Items, NoMemory};
 
-/// The end that closes an expression is not kept behind none, one or two instructions of one byte, and these take no memory of
+/// The end that closes an expression is not kept after none, one or two instructions of one byte, and these take no memory of
 /// their own. Up to seven instructions take what they are.
 #[derive(Debug, Drop)]
 enum Kept {

@@ -1,3 +1,5 @@
+//! A list of small items that is mostly short. Up to three items stand in the value itself.
+
 ghost use Rattle.std.specs.Prelude.{◌≡◌, IfOk};
 ghost use Rattle.wasm_ast.specs.Fews.{few_kept};
 

@@ -1,3 +1,5 @@
+//! Instructions as a flat list, as the binary format has them (WebAssembly Core 2.0, section 5.4), with types of references and blocks.
+
 use crate::boxed::Boxed;
 use crate::few::Few;
 use crate::numeric::NumericOp;

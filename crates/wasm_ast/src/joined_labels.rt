@@ -1,3 +1,5 @@
+//! A list of labels in one piece of memory. An enum or flags type may have many short ones.
+
 ghost use Rattle.std.specs.Prelude.{◌≡◌, ◌==◌, ◌<◌, ◌∷◌, ◌++◌, IfOk, IfSome, OnOk, IsUtf8, length, option_map, position};
 ghost use Rattle.wasm_ast.specs.JoinedLabels.{labels_in, labels_with};
 
@@ -44,7 +46,7 @@ fn place_between(bytes: &[u8]) -> Option<usize>
     bytes.iter().position(|b| *b == BETWEEN)
 }
 
-/// The first label, and what stands behind it; nothing where only one label is left.
+/// The first label, and what stands after it; nothing where only one label is left.
 fn cut(bytes: &[u8]) -> Option<(&[u8], &[u8])>
     ensures labels { labels_in bytes.now ≡ labels_with bytes.now (option_map (λ p. (p.0.now, p.1.now)) result) }
     ensures shorter { IfSome result (λ p. length p.1.now < length bytes.now) }
@@ -67,7 +69,7 @@ fn text_of(alloc: Global, label: &[u8]) -> Result<Text, NoMemory>
 }
 
 impl JoinedLabels {
-    /// A label, and those behind it.
+    /// A label, and those after it.
     pub fn new(alloc: Global, first: &Text, more: &[Text]) -> Result<JoinedLabels, NoMemory>
         ensures { IfOk result (λ joined. joined ≡ first.now ∷ more.now) }
     {

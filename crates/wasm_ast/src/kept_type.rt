@@ -1,3 +1,5 @@
+//! Definitions of types as a section of types keeps them, in little memory for the bytes that spell them. Contracts see the definition.
+
 ghost use Rattle.std.specs.Prelude.{◌≡◌, IfOk};
 ghost use Rattle.wasm_ast.specs.declared.component.TypeDef.TheVariants as defs;
 ghost use Rattle.wasm_ast.specs.KeptTypes.{declaration_count, resource_destructor, empty_def, type_kept};

@@ -1,3 +1,5 @@
+//! A list that is mostly empty. The empty one takes no memory of its own.
+
 ghost use Rattle.std.specs.Prelude.{◌≡◌, ◌==◌, [], length, IfOk};
 ghost use Rattle.wasm_ast.specs.Leans.{lean_kept};
 

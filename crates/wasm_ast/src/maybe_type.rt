@@ -1,3 +1,5 @@
+//! A value type that may be absent, with one tag for both. Contracts see an option.
+
 ghost use Rattle.std.specs.Prelude.{◌≡◌};
 
 use crate::component::{Primitive, ValType};

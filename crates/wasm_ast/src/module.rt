@@ -1,3 +1,5 @@
+//! The tree of a core module: a list for each section, and the items in them (WebAssembly Core 2.0, section 2.5).
+
 use crate::const_expr::ConstExpr;
 use crate::few::Few;
 use crate::instr::{Instrs, RefType};
@@ -131,7 +133,7 @@ pub struct LocalRun {
     pub ty: CoreType,
 }
 
-/// The body of a function: its locals behind the parameters, in runs as they are spelled, and its instructions.
+/// The body of a function: its locals after the parameters, in runs as they are spelled, and its instructions.
 #[derive(Debug, Drop)]
 pub struct Body {
     pub locals: Items<LocalRun>,

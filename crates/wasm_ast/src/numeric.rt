@@ -1,10 +1,13 @@
+//! The numeric instructions on integers by opcode: their types, and their names (core WebAssembly, Binary Format, "Numeric
+//! Instructions").
+
 ghost use Rattle.std.specs.Prelude.{◌≡◌, ◌<◌, ◌^◌, true, IfSome, is_some};
 ghost use Rattle.wasm_ast.specs.Numeric.{numeric, is_numeric};
 
 use std::marker::Model;
 use virt_base::CoreType;
 
-/// What a numeric instruction takes and gives: so many operands of one type, and a result.
+/// What a numeric instruction takes and gives: a number of operands of one type, and a result.
 #[derive(Debug, Clone, Copy, PartialEq, Eq)]
 pub struct Numeric {
     pub params: u8,

@@ -1,3 +1,5 @@
+//! The sections of a core module one by one, as they are read (WebAssembly Core 2.0, section 5.5.2).
+
 use crate::lean::Lean;
 use crate::module::{Body, CoreFunc, Data, Elements, Export, Global, Import, Limits, TableType};
 

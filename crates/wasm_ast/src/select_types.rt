@@ -1,3 +1,5 @@
+//! The types of a `select` that names them. Up to four stand in the value itself.
+
 ghost use Rattle.std.specs.Prelude.{◌≡◌, IfOk};
 ghost use Rattle.wasm_ast.specs.SelectTypes.{select_kept};
 

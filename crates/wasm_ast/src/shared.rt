@@ -1,3 +1,5 @@
+//! A value with several owners, which contracts see as the value itself.
+
 ghost use Rattle.std.specs.Prelude.{◌≡◌, IfOk};
 
 use std::alloc::Global;

@@ -1,3 +1,5 @@
+//! Bytes that are always the same: a tag that is the only one of its table, and a preamble.
+
 ghost use Rattle.std.specs.Prelude.{◌≡◌, ◌∷◌, ◌++◌, [], ℕ, List, length, drop, true, false, MatchOption};
 ghost use Rattle.virt_base.specs.Place.{place, rest, Gives};
 ghost use Rattle.wasm_format.specs.Format.{literal, fixed, is_tag_byte};

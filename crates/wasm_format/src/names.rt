@@ -1,3 +1,5 @@
+//! Readers of bytes and of names, which stand after their length (core WebAssembly, Binary Format, "Names").
+
 ghost use Rattle.std.specs.Prelude.{◌≡◌};
 ghost use Rattle.virt_base.specs.Place.{place};
 ghost use Rattle.wasm_format.specs.Format.{Format, sized, anything, name};
@@ -9,7 +11,7 @@ use crate::stop::Stop;
 use std::alloc::Global;
 use virt_base::{Bytes, Cursor, Text, TextFault, copy_bytes};
 
-/// Takes a length, and so many bytes.
+/// Takes a length, and that many bytes.
 pub fn take_sized<'a>(alloc: Global, c: &mut Cursor<'a>) -> Result<&'a [u8], Stop>
     ensures input { c.new.bytes ≡ c.old.bytes }
     ensures value { ReadsAs (λ s. s.now) result c.new ((sized anything).read (place c.old)) }
@@ -23,7 +25,7 @@ pub fn take_sized<'a>(alloc: Global, c: &mut Cursor<'a>) -> Result<&'a [u8], Sto
     Ok(&c.bytes[start..start + size])
 }
 
-/// Takes a length, and so many bytes of text in UTF-8.
+/// Takes a length, and that many bytes of text in UTF-8.
 #[tactic(auto, unfolding(crate::specs::Format::name), using(crate::proofs::NameLaws::name_is, crate::proofs::NameLaws::name_not))]
 pub fn take_name<'a>(alloc: Global, c: &mut Cursor<'a>) -> Result<&'a [u8], Stop>
     ensures input { c.new.bytes ≡ c.old.bytes }
@@ -36,7 +38,7 @@ pub fn take_name<'a>(alloc: Global, c: &mut Cursor<'a>) -> Result<&'a [u8], Stop
     }
 }
 
-/// Bytes behind their length.
+/// Bytes after their length.
 #[derive(Clone, Copy)]
 pub struct ByteLists;
 
@@ -51,7 +53,7 @@ impl Reader for ByteLists {
     }
 }
 
-/// Text in UTF-8 behind its length.
+/// Text in UTF-8 after its length.
 #[derive(Clone, Copy)]
 pub struct Names;
 

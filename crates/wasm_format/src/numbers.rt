@@ -1,3 +1,5 @@
+//! Readers of numbers and of indexes, in LEB128 (core WebAssembly, Binary Format, "Integers").
+
 ghost use Rattle.std.specs.Prelude.{◌≡◌};
 ghost use Rattle.virt_base.specs.Place.{place};
 ghost use Rattle.wasm_format.specs.Format.{Format, u32_format};

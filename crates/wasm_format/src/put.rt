@@ -1,3 +1,5 @@
+//! Bytes are added at the end of a list, where memory may run out.
+
 ghost use Rattle.std.specs.Prelude.{◌≡◌, ◌++◌, ◌∷◌, [], OnOk};
 
 use std::alloc::Global;

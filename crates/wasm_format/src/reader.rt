@@ -1,3 +1,6 @@
+//! What a reader is, and the readers that are made of others: a count and that many, a size and content that fills it, a value with the
+//! part of the input where it stands.
+
 ghost use Rattle.std.specs.Prelude.{◌≡◌, ℕ, List};
 ghost use Rattle.virt_base.specs.Place.{place};
 ghost use Rattle.wasm_format.specs.Format.{Format, vec, vec_of, read_items, sized, spanned};

@@ -1,3 +1,5 @@
+//! Sections up to the end of the bytes, and the last place at which they might have ended. Core modules and components share it.
+
 ghost use Rattle.std.specs.Prelude.{◌≡◌, length, IfOk, OnOk};
 ghost use Rattle.virt_base.specs.Place.{rest, place};
 ghost use Rattle.wasm_format.specs.Sections.{Sections, Ran, run, good_at, ended};

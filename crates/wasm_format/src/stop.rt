@@ -1,3 +1,5 @@
+//! Why a reader stops. Readers of core modules and of components stop for the same reasons.
+
 ghost use Rattle.std.specs.Prelude.{◌≡◌};
 ghost use Rattle.wasm_format.specs.declared.stop.Stop.TheVariants.{NoMemory};
 

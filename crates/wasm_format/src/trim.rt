@@ -1,3 +1,5 @@
+//! Lists that were read, in no more memory than their items take.
+
 ghost use Rattle.std.specs.Prelude.{◌≡◌, IfOk};
 
 use std::alloc::Global;

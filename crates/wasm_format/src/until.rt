@@ -1,3 +1,5 @@
+//! Items that end where one of them says so, and not by a count: expressions, and sections of types with their instance types.
+
 ghost use Rattle.std.specs.Prelude.{◌≡◌, OnOk};
 ghost use Rattle.virt_base.specs.Place.{place};
 ghost use Rattle.wasm_format.specs.Sections.{Sections};

@@ -1,3 +1,5 @@
+//! What a writer is, and the writers of numbers, names, bytes, counted lists and sized parts. Their formats are those of the readers.
+
 ghost use Rattle.std.specs.Prelude.{◌≡◌, ◌++◌, ◌<◌, ℕ, List, OnOk};
 ghost use Rattle.std.specs.List.{AllByRecursion};
 ghost use Rattle.wasm_format.specs.Format.{Format, u32_format, vec, vec_of, write_items, sized, anything, name};

@@ -1,3 +1,5 @@
+//! Copies of types, which share their parts, and of types of functions.
+
 #![tactic(auto, using(crate::proofs::PlainLemmas::plains))]
 
 ghost use Rattle.std.specs.Prelude.{◌≡◌, IfOk};

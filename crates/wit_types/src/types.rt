@@ -1,3 +1,5 @@
+//! The types of the interface language (WIT). Parts of a type are shared, so that one that is small as a graph stays small.
+
 use std::rc::Rc;
 use virt_base::{Items, Text};
 

@@ -1,3 +1,5 @@
+//! Whether a value has a type (Component Model, Explainer.md, "Type Definitions").
+
 #![tactic(auto, using(crate::proofs::PlainLemmas::plains, crate::proofs::ValueLemmas::values, crate::proofs::Only::only))]
 
 ghost use Rattle.std.specs.Prelude.{◌≡◌, ◌↔◌, ◌&&◌, nat_lt, pos, IsTrue, []};
@@ -53,7 +55,7 @@ fn is_char(value: &Value) -> bool
     }
 }
 
-/// Whether the bits are of so many flags.
+/// Whether the bits are of that many flags.
 fn fits_flags(bits: u32, count: usize) -> bool
     ensures { result ≡ is_flags count (FlagsValue bits) }
 {

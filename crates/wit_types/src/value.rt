@@ -1,3 +1,5 @@
+//! The values of the interface language (WIT). A list of bytes may be kept as one run.
+
 use virt_base::{Bytes, Text};
 
 /// A value of a type. A tuple is a `Record`. An enum, an option and a result are a `Variant`, by the number of the case:

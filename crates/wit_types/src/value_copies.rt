@@ -1,3 +1,5 @@
+//! Copies of values, with memory of their own.
+
 #![tactic(auto, using(crate::proofs::ValueLemmas::values))]
 
 ghost use Rattle.std.specs.Prelude.{◌≡◌, IfOk};

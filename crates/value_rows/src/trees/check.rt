@@ -1,3 +1,5 @@
+//! A check, by code, that trees are as a table of trees asks, so that a test of trees can meet what the table requires.
+
 ghost use Rattle.std.specs.Prelude.{◌≡◌, [], IfOk, IsTrue, Some, All, slice_get};
 ghost use Rattle.std.specs.declared.cmp.Ordering.TheVariants.{Less};
 ghost use Rattle.tree_table.specs.Trees.{AreTrees, IsTree, IsShort, path_cmp};
