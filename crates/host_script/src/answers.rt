@@ -1,3 +1,5 @@
+//! The answers of a script: `"trap"`, `{}` or `{"value":V}`.
+
 #![tactic(auto, using(crate::proofs::Views::untypeds))]
 
 ghost use Rattle.std.specs.Prelude.{map, codes, string_bytes};

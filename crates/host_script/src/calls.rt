@@ -1,3 +1,5 @@
+//! The calls of a script: `[NAME,[V, ..]]`, with a value for each parameter.
+
 #![tactic(auto, using(crate::proofs::Views::untypeds))]
 
 ghost use Rattle.std.specs.Prelude.{map, ◌≡◌, option_map, string_bytes};

@@ -1,3 +1,5 @@
+//! The functions that a script may call, found by name through an ordered map.
+
 ghost use Rattle.std.specs.Prelude.{◌≡◌, [], ◌∷◌, ◌++◌, OnErr, OnOk, option_map};
 ghost use Rattle.host_script.specs.Exports.{export_named};
 

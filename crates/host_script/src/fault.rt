@@ -1,3 +1,5 @@
+//! Why a script is refused, with the path of the member at fault.
+
 use virt_base::{NoMemory, Text};
 
 /// Why a script is refused.

@@ -1,3 +1,5 @@
+//! The host that answers by a script, in order, and by nothing of this machine.
+
 ghost use Rattle.std.specs.Prelude.{◌≡◌, [], IfOk, map};
 ghost use Rattle.host_port.specs.Calls.{plain_answer};
 ghost use Rattle.host_port.specs.Scripts.{Script, script, item_answer};

@@ -1,3 +1,5 @@
+//! The answers that a script has left, each as the compact text of its JSON, in one buffer.
+
 ghost use Rattle.std.specs.Prelude.{◌≡◌, [], ◌∷◌, ◌++◌, OnErr, OnOk, drop, MatchOption};
 
 use std::alloc::Global;

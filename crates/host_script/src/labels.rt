@@ -1,3 +1,5 @@
+//! Cases and flags by their labels.
+
 #![tactic(auto, using(wit_types::proofs::ValueLemmas::values, crate::proofs::Views::untypeds))]
 
 ghost use Rattle.std.specs.Prelude.{◌≡◌, ◌<◌, IsTrue, IfSome, drop, length};

@@ -1,3 +1,5 @@
+//! Objects with just one member, by which variants and results are written.
+
 ghost use Rattle.std.specs.Prelude.{string_bytes};
 ghost use Rattle.serde_json.specs.View.{view, members_view};
 ghost use Rattle.host_port.specs.Untyped.{choice_in, ok_or_err};

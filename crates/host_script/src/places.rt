@@ -1,3 +1,5 @@
+//! Where each name of a list stands first, kept in an ordered map.
+
 ghost use Rattle.std.specs.Prelude.{◌≡◌, if◌then◌else◌, List, ℕ, None, Some, OnErr, OnOk, string_bytes};
 ghost use Rattle.std.specs.Option.{option_or};
 ghost use Rattle.std.specs.Str.{bytes_eq};

@@ -1,3 +1,5 @@
+//! Values of the interface language (WIT) from JSON, by recursion on the type.
+
 #![tactic(auto, using(wit_types::proofs::PlainLemmas::plains, wit_types::proofs::ValueLemmas::values, crate::proofs::Views::untypeds))]
 
 ghost use Rattle.std.specs.Prelude.{pos, [], Some, None, option_map};

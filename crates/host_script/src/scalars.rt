@@ -1,3 +1,5 @@
+//! Booleans, integers, characters, texts and handles from JSON.
+
 #![tactic(auto, using(wit_types::proofs::ValueLemmas::values, crate::proofs::Views::untypeds))]
 
 ghost use Rattle.std.specs.Prelude.{pos, ◌^◌};

@@ -1,3 +1,5 @@
+//! A script, its items, and the functions that it may call.
+
 use crate::kept::Answers;
 use serde_json::Value as Json;
 use virt_base::{Items, Text};

@@ -1,3 +1,5 @@
+//! Reading a script: its regular form in one pass, any other as a whole, which then names the first fault.
+
 #![tactic(auto, using(crate::proofs::Views::untypeds, crate::proofs::Whole::bads))]
 
 ghost use Rattle.std.specs.Prelude.{◌≡◌, ◌≢◌, [], List, ℕ, Err, IfOk, option_map};

@@ -1,3 +1,5 @@
+//! Why the reader of the regular form gives up.
+
 use std::alloc::{AllocError, AllocFailed};
 use virt_base::NoMemory;
 

@@ -1,3 +1,5 @@
+//! Why JSON stands for no value of a type.
+
 use std::alloc::{AllocError, AllocFailed};
 use virt_base::NoMemory;
 

@@ -1,3 +1,5 @@
+//! One call of the program, from its words to its status.
+
 ghost use Rattle.inspect_engine.specs.Inspected.{Accepts, Inspected, InspectedFor, Inspects};
 
 use crate::policy::fetch_asked;

@@ -1,3 +1,5 @@
+//! Which key of a policy decides the functions of an interface.
+
 ghost use Rattle.std.specs.Prelude.{◌≡◌};
 ghost use Rattle.inspect_engine.specs.Texts.{family};
 

@@ -1,3 +1,5 @@
+//! What a policy leaves of an imported function: denied, decided by the policy, or asked of the machine.
+
 ghost use Rattle.std.specs.Prelude.{◌≡◌};
 ghost use Rattle.reference_step.specs.Refused.{by_rules};
 ghost use Rattle.ref_rules.specs.Seen.{access_of};

@@ -1,3 +1,5 @@
+//! The status of a file that could not be read or is refused.
+
 use crate::status::Status;
 use component_judge::{Refusal, Unready};
 

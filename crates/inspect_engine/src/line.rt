@@ -1,3 +1,5 @@
+//! The text of a refusal, one line.
+
 ghost use Rattle.std.specs.Prelude.{◌≡◌, ◌<◌, IfOk, string_bytes};
 ghost use Rattle.inspect_engine.specs.Status.{component_text, hex_byte, hex_digit, policy_text, status_text};
 

@@ -1,3 +1,5 @@
+//! The policy that the words name, read and checked.
+
 ghost use Rattle.std.specs.Prelude.{◌≡◌, Some};
 ghost use Rattle.inspect_engine.specs.Policies.{FetchesAsked, FetchesPolicy, ReadsPolicy, refused_for};
 

@@ -1,3 +1,5 @@
+//! Putting text on the sink, and a refusal's text where memory allows.
+
 ghost use Rattle.std.specs.Prelude.{◌≡◌, string_bytes};
 ghost use Rattle.inspect_engine.specs.Inspected.{Puts, Reports};
 ghost use Rattle.inspect_engine.specs.Status.{status_text};

@@ -1,3 +1,5 @@
+//! The report: a line for each imported function, what an output would import, and the counts.
+
 ghost use Rattle.std.specs.Prelude.{◌≡◌, IfOk, string_bytes};
 ghost use Rattle.inspect_engine.specs.Report.{report, text_alone, text_of, text_under};
 

@@ -1,3 +1,5 @@
+//! An imported function as a row of the report: its name, its interface, and what becomes of its calls.
+
 ghost use Rattle.std.specs.Prelude.{◌≡◌, ◌++◌, ◌<◌, IfOk, OnOk, map};
 ghost use Rattle.wasi_table.specs.Plain.{plain_interface, plain_named_func};
 ghost use Rattle.wasi_listed.specs.Listed.{described};

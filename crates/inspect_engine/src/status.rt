@@ -1,3 +1,5 @@
+//! How a call ended, and the exit status for it.
+
 ghost use Rattle.std.specs.Prelude.{◌≡◌};
 ghost use Rattle.inspect_engine.specs.Status.{code_of};
 

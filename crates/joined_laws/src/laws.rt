@@ -1,3 +1,5 @@
+//! The laws of this crate, each the contract of a function without a body.
+
 ghost use Rattle.joined_laws.specs.Behaves.{JoiningDoesSame};
 ghost use Rattle.joined_laws.specs.PluggedIn.{PluggedInDoesSame};
 

@@ -1,3 +1,5 @@
+//! What is wrong with a policy, in the words of the readers that refused it, for standard error.
+
 use inspect_engine::{PolicyFault, Status};
 use real_outside::RealFiles;
 use std::alloc::Global;
