@@ -78,7 +78,7 @@ add_within-twice (Some os) xs ys = elim (cases_lt 16 (length (os ++ xs))) [
       ∙ sym (within-long (os ++ (xs ++ ys)) (rw (← append_assoc os xs ys, length-append (os ++ xs) ys) (omega arith)))
 ]
 
--- a list that is too long is also too long behind another
+-- a list that is too long is also too long after another
 pub append_within-within : (o : Option (List CoreType)) (xs : List CoreType) → append_within o (within xs) ≡ add_within o xs
 unfolding add_within append_within
 append_within-within o xs = elim (cases_lt 16 (length xs)) [

@@ -12,7 +12,7 @@ within xs = if nat_le (length xs) 16 then Some xs else None
 abbrev pub types_of : Flat → Option (List CoreType)
 types_of f = if nat_le f.count 16 then Some (take f.count f.types) else None
 
--- what is left of one list behind another, and of two lists joined
+-- what is left of one list after another, and of two lists joined
 unfoldable pub add_within : Option (List CoreType) → List CoreType → Option (List CoreType)
 add_within None xs = None
 add_within (Some ys) xs = within (ys ++ xs)

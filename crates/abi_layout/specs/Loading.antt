@@ -10,14 +10,14 @@ use Rattle.wit_types.specs.HasType.{is_of}
 use Rattle.wit_types.specs.Layout.{alignment, greatest_alignment, discriminant_size, align_to, count, size, flat}
 use Rattle.abi_layout.specs.Numbers.{value_of}
 
--- the integer of so many bytes at a place, the lowest first; none past the end
+-- the integer of that many bytes at a place, the lowest first; none past the end
 abbrev pub read : List ℕ → ℕ → ℕ → Option ℕ
 read memory at width = if nat_le (at + width) (length memory) then Some (number (take width (drop at memory))) else None
 
 abbrev pub is_aligned : ℕ → ℕ → Bool
 is_aligned at align = nat_eq (at % align) 0
 
--- where the payload of a variant lies in it: behind the number of the case, at the greatest alignment of the payloads
+-- where the payload of a variant lies in it: after the number of the case, at the greatest alignment of the payloads
 abbrev pub payload_offset : Parts → ℕ
 payload_offset cases = align_to (discriminant_size (count cases)) (greatest_alignment cases)
 
@@ -30,21 +30,21 @@ first_or_later first later (suc n) = later n
 abbrev pub number_at : List ℕ → Plain → ℕ → Option PlainValue
 number_at memory ty at = option_and_then (value_of ty) (read memory at (size ty))
 
--- what a place and a length stand for that lie one behind the other
+-- what a place and a length stand for that lie one after the other
 abbrev pub range_at : List ℕ → ℕ → (ℕ → ℕ → Option PlainValue) → Option PlainValue
 range_at memory at load = option_and_then (λ place. option_and_then (λ len. load place len) (read memory (at + 4) 4)) (read memory at 4)
 
--- the string of so many bytes at a place: they are within the memory, and UTF-8
+-- the string of that many bytes at a place: they are within the memory, and UTF-8
 abbrev pub string_at : List ℕ → ℕ → ℕ → Option PlainValue
 string_at memory place len =
     if nat_le (place + len) (length memory) && is_utf8 (take len (drop place memory)) then Some (StringValue (take len (drop place memory))) else None
 
--- so many items of one size, one behind the other
+-- that many items of one size, one after the other
 abbrev pub items_at : (ℕ → Option PlainValue) → ℕ → ℕ → ℕ → Option PlainValues
 items_at load size place zero = Some NoValues
 items_at load size place (suc n) = option_and_then (λ v. option_map (Values v) (items_at load size (place + size) n)) (load place)
 
--- the list of so many items at a place: it is aligned, and they are within the memory, also where there are none
+-- the list of that many items at a place: it is aligned, and they are within the memory, also where there are none
 abbrev pub list_at : List ℕ → (ℕ → Option PlainValue) → (size align place count : ℕ) → Option PlainValue
 list_at memory load size align place count =
     if is_aligned place align && nat_le (place + count * size) (length memory) then option_map ListValue (items_at load size place count) else None

@@ -24,12 +24,12 @@ value_of (ListType _) n = None
 value_of (RecordType _ _) n = None
 value_of (VariantType _ _) n = None
 
--- an integer among so many numbers, a negative one in two's complement
+-- an integer among that many numbers, a negative one in two's complement
 abbrev pub within : ℕ → ℤ → ℕ
 within count (pos n) = n % count
 within count (negsuc n) = count - 1 - n % count
 
--- the number of a value, where an integer is one of so many numbers
+-- the number of a value, where an integer is one of that many numbers
 abbrev pub number_of : ℕ → PlainValue → ℕ
 number_of count (BoolValue b) = if b then 1 else 0
 number_of count (IntValue n) = within count n

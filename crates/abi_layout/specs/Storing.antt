@@ -63,11 +63,11 @@ count_values (Values _ vs) = count_values vs + 1
 
 -- ---- what strings and lists hold; `k` requests were made before
 
--- a value that is one number, in so many bytes
+-- a value that is one number, in that many bytes
 abbrev pub number_bytes : ℕ → PlainValue → List ℕ
 number_bytes size v = bytes_of size (number_of (2 ^ 64) v)
 
--- numbers one behind the other
+-- numbers one after the other
 abbrev pub run_bytes : ℕ → PlainValues → List ℕ
 run_bytes size NoValues = []
 run_bytes size (Values v vs) = number_bytes size v ++ run_bytes size vs
@@ -75,7 +75,7 @@ run_bytes size (Values v vs) = number_bytes size v ++ run_bytes size vs
 abbrev pub string_steps : List ℕ → ℕ → List Step
 string_steps bytes k = if nat_le (length bytes) 2147483647 then Ask 1 (length bytes) ∷ Write (Answer k) 0 bytes ∷ [] else Refuse ∷ []
 
--- items of one size, one behind the other
+-- items of one size, one after the other
 abbrev pub item_steps : (PlainValue → Base → ℕ → ℕ → List Step) → ℕ → PlainValues → Base → ℕ → ℕ → List Step
 item_steps store size NoValues base at k = []
 item_steps store size (Values v vs) base at k = store v base at k ++ item_steps store size vs base (at + size) (k + requests (store v base at k))
@@ -88,7 +88,7 @@ list_steps store item vs k =
     ∷ (if is_number item then Write (Answer k) 0 (run_bytes (size item) vs) ∷ [] else item_steps store (size item) vs (Answer k) 0 (k + 1))
     else Refuse ∷ []
 
--- the place of what the request `k` is for, and a length behind it
+-- the place of what the request `k` is for, and a length after it
 abbrev pub place_and_length : Base → ℕ → ℕ → ℕ → List Step
 place_and_length base at k len = Place base at k ∷ Write base (at + 4) (bytes_of 4 len) ∷ []
 

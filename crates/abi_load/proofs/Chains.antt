@@ -1,4 +1,4 @@
--- Values that are loaded one behind the other.
+-- Values that are loaded one after the other.
 use Rattle.std.proofs.Common.{◌≡◌, ℕ, ◌+◌, ◌*◌, ◌<◌, ap, refl, sym, ◌∙◌, List, [], ◌∷◌, ◌++◌, length, drop, get_or, Option, Some, None, arith, add-one, drop-cons}
 use Rattle.std.specs.Prelude.{option_and_then, option_map}
 use Rattle.wit_types.specs.declared.types.Field.{Field, out-Field}
@@ -9,7 +9,7 @@ use Rattle.wit_types.specs.PlainValue.{PlainValue, PlainValues, More as Values, 
 use Rattle.wit_types.specs.Layout.{size, alignment, align_to}
 use Rattle.abi_layout.specs.Loading.{items_at, fields_at, loads_at}
 
--- values, and others behind them
+-- values, and others after them
 abbrev pub followed : PlainValues → PlainValues → PlainValues
 followed NoValues ys = ys
 followed (Values x xs) ys = Values x (followed xs ys)

@@ -45,6 +45,6 @@ pub ok_typed : (m : List ℕ) (ty : WitType) (at : ℕ) (r : Result Value LoadFa
 ok_typed m ty at (Ok v) is = passed (λ x. is_of (plain ty) x) (loads_at m (plain ty) at) (plain_value v) (loaded_passes m (plain ty) at) is
 ok_typed m ty at (Err e) is = tt
 
--- a fault stays what it is behind a `?`
+-- a fault stays what it is after a `?`
 pub fault_kept : {A B E : Type 0} (x y : E) → (let r : Result A E = Err x in r) ≡ Err y → (let r : Result B E = Err x in r) ≡ Err y
 fault_kept x y h = let e : x ≡ y = cc in ap (λ z. Err z) e

@@ -44,6 +44,6 @@ case_lifted memory number payload words k = option_map (VariantValue number) (pa
 abbrev pub variant_lifted : List ℕ → Parts → List ℕ → ℕ → Option PlainValue
 variant_lifted memory cases words k = option_map (VariantValue (low_word words k)) (lift_case memory cases (low_word words k) words (k + 1))
 
--- the variant of so many cases without payloads
+-- the variant of that many cases without payloads
 abbrev pub enum_lifted : ℕ → List ℕ → ℕ → Option PlainValue
 enum_lifted labels words k = if nat_lt (low_word words k) labels then Some (VariantValue (low_word words k) Without) else None

@@ -32,7 +32,7 @@ abbrev pub variant_at : List ℕ → Parts → ℕ → Option PlainValue
 variant_at memory cases at =
     option_and_then (λ n. option_map (VariantValue n) (case_at memory cases n (at + payload_offset cases))) (read memory at (discriminant_size (count cases)))
 
--- the variant of so many cases without payloads
+-- the variant of that many cases without payloads
 abbrev pub enum_at : List ℕ → ℕ → ℕ → Option PlainValue
 enum_at memory labels at =
     option_and_then (λ n. if nat_lt n labels then Some (VariantValue n Without) else None) (read memory at (discriminant_size labels))

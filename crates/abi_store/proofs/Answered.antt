@@ -109,13 +109,13 @@ content_item a (OfItems list) b o j =
     (settle-items 0 (a ∷ []) (λ x c p k. stores_at item x c p k) (size item) (λ v c p k. settle-stores 0 (a ∷ []) item v c p k) vs b o j)
 content_item a (OfWhole whole) b o j = settle-stores 0 (a ∷ []) (plain whole.ty.value) (plain_value whole.value) b o j
 
--- behind a request that is answered later
+-- after a request that is answered later
 content_later : (a : ℕ) (content : Content) (k : ℕ) → settled 0 (a ∷ []) (content_steps content (Answer (k + 1)) 0 (k + 1 + 1)) ≡ content_steps content (Answer k) 0 (k + 1)
 content_later a content k =
     content_item a content (Answer (k + 1)) 0 (k + 1) ∙ ap (λ (b : Base). content_steps content b (place_of 0 (a ∷ []) (Answer (k + 1)) + 0) (k + 1)) (base-late (a ∷ []) k)
     ∙ ap (λ (o : ℕ). content_steps content (Answer k) (o + 0) (k + 1)) (place-late 0 (a ∷ []) k)
 
--- behind the request that is answered
+-- after the request that is answered
 content_now : (a : ℕ) (content : Content) → settled 0 (a ∷ []) (content_steps content (Answer 0) 0 (0 + 1)) ≡ content_steps content Target a 0
 content_now a content = content_item a content (Answer 0) 0 0 ∙ ap (λ (o : ℕ). content_steps content Target o 0) (no_rest a)
 

@@ -1,4 +1,4 @@
--- Steps one behind the other, and where they lead.
+-- Steps one after the other, and where they lead.
 use Rattle.std.proofs.Common.{◌≡◌, ℕ, ◌+◌, ap, refl, sym, ◌∙◌, List, [], ◌∷◌, ◌++◌, arith, append_assoc}
 use Rattle.core_memory.specs.Linear.{Linear}
 use Rattle.abi_layout.specs.Storing.{Step, Ask, Write, Place, Refuse, Lowered, both, requests}
@@ -24,7 +24,7 @@ chain-assoc a b c k =
 pub leads_then : (m n o : Linear) (a b c : ℕ → Lowered) → Leads m a n b → Leads n b o c → Leads m a o c
 leads_then m n o a b c s t = record { on = λ before rest. s.on before rest ∙ t.on before rest }
 
--- with others behind them
+-- with others after them
 pub leads_behind : (m n : Linear) (a b s : ℕ → Lowered) → Leads m a n b → Leads m (chain a s) n (chain b s)
 leads_behind m n a b s t = record {
   on = λ before rest.
@@ -38,7 +38,7 @@ leads_same m n a b c d p q t = record {
       ap (λ l. led before (both l (rest (0 + requests l.steps))) m) p ∙ t.on before rest ∙ ap (λ l. led before (both l (rest (0 + requests l.steps))) n) (sym q);
 }
 
--- a write, and others behind it
+-- a write, and others after it
 pub leads_write : (m n : Linear) (at : ℕ) (bytes : List ℕ) (s : ℕ → List Step) (base : _) → Leads m (λ k. record { steps = Write base at bytes ∷ []; flats = [] }) n none_left →
     Leads m (λ k. record { steps = Write base at bytes ∷ s k; flats = [] }) n (stored s)
 leads_write m n at bytes s base t = record { on = λ before rest. t.on before (chain (stored s) rest) }

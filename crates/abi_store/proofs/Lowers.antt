@@ -1,4 +1,4 @@
--- Flat values one behind the other.
+-- Flat values one after the other.
 use Rattle.std.proofs.Common.{◌≡◌, ℕ, ◌+◌, ◌-◌, ◌*◌, ◌≤◌, ap, refl, sym, ◌∙◌, subst, Bool, true, false, List, [], ◌∷◌, ◌++◌, length, take, arith, zero, suc, Option, Some, None, append-nil, length-append, add-one, ◌^◌}
 use Rattle.std.proofs.lemmas.List.{length-replicate, length-take-le}
 use Rattle.std.specs.Prelude.{reverse, replicate, nat_le, nat_lt, if◌then◌else◌}
@@ -155,7 +155,7 @@ zeros_more a b c m n p q is =
 pub zeros_same : (a b : List Slot) (m n : ℕ) → m ≡ n → Appends a b (zeros m) → Appends a b (zeros n)
 zeros_same a b m n is p = subst (λ j. Appends a b (zeros j)) is p
 
--- the number of a case, and zeros behind its payload
+-- the number of a case, and zeros after its payload
 pub padded : (width : ℕ) (fs : List FlatItem) → suc (length (fs ++ replicate (width - length fs) (Number 0))) ≡ suc (length fs + (width - length fs))
 padded width fs = ap suc (length-append fs (replicate (width - length fs) (Number 0)) ∙ ap (λ k. length fs + k) (length-replicate (width - length fs) (Number 0)))
 

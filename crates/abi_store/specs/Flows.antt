@@ -1,4 +1,4 @@
--- Steps one behind the other, and where they lead.
+-- Steps one after the other, and where they lead.
 use Rattle.std.specs.Prelude.{ℕ, ◌≡◌, ◌+◌, List, [], ◌∷◌, ◌++◌}
 use Rattle.core_memory.specs.Linear.{Linear}
 use Rattle.abi_layout.specs.Storing.{Step, Ask, Refuse, FlatItem, Lowered, nothing, both, requests}
@@ -8,14 +8,14 @@ use Rattle.abi_store.specs.declared.request.Flow.TheVariants.{Goes, Asks, Trappe
 use Rattle.abi_store.specs.Plan.{Halt, goes}
 use Rattle.abi_store.specs.Rooms.{behind, cell_flats}
 
--- Steps, and others behind them whose requests are counted on.
+-- Steps, and others after them whose requests are counted on.
 abbrev pub chain : (ℕ → Lowered) → (ℕ → Lowered) → ℕ → Lowered
 chain l m k = both (l k) (m (k + requests (l k).steps))
 
 abbrev pub stored : (ℕ → List Step) → ℕ → Lowered
 stored steps k = record { steps = steps k; flats = [] }
 
--- Steps over one memory lead where others lead over another, whatever is behind them and whatever flat values stand before.
+-- Steps over one memory lead where others lead over another, whatever is after them and whatever flat values stand before.
 pub record Leads (old : Linear) (l : ℕ → Lowered) (new : Linear) (m : ℕ → Lowered) : Type 0 where
   pub on : (before : List FlatItem) (rest : ℕ → Lowered) →
       goes (before ++ (chain l rest 0).flats) (chain l rest 0).steps old ≡ goes (before ++ (chain m rest 0).flats) (chain m rest 0).steps new

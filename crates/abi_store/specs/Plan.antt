@@ -52,13 +52,13 @@ answered answer left = record { steps = settled 0 (answer ∷ []) left.steps; fl
 
 -- ---- taking steps
 
--- where steps lead: to a request, with what is left behind it; to the end, with the flat values; or to a trap
+-- where steps lead: to a request, with what is left after it; to the end, with the flat values; or to a trap
 pub data Halt : Type 0 where
   Asks : (align len : ℕ) → (left : Lowered) → (memory : Linear) → Halt
   Ends : (flats : List FlatItem) → (memory : Linear) → Halt
   Traps : (memory : Linear) → Halt
 
--- so many bytes from a place on are within a memory
+-- that many bytes from a place on are within a memory
 abbrev pub is_within : Linear → ℕ → ℕ → Bool
 is_within memory place len = nat_le (place + len) (length memory.bytes)
 

@@ -60,7 +60,7 @@ abbrev pub cell_at : Cell → ℕ → ℕ → ℕ → Lowered
 cell_at (Memory at) place len k = record { steps = Write Target at (bytes_of 4 place) ∷ Write Target (at + 4) (bytes_of 4 len) ∷ []; flats = [] }
 cell_at Flat place len k = record { steps = []; flats = Number place ∷ [] }
 
--- behind a request of this number
+-- after a request of this number
 abbrev pub behind : Content → Cell → ℕ → List Step
 behind content cell k = content_steps content (Answer k) 0 (k + 1) ++ cell_steps cell k (content_len content)
 

@@ -1,4 +1,4 @@
--- Flat values that are still to come, with the steps behind them.
+-- Flat values that are still to come, with the steps after them.
 use Rattle.std.specs.Prelude.{ℕ, ◌≡◌, List, [], ◌∷◌, length, map, replicate, Option, Some, None}
 use Rattle.wit_types.specs.Plain.{Plain, Parts}
 use Rattle.wit_types.specs.PlainValue.{PlainValue, Payload}
@@ -21,7 +21,7 @@ abbrev pub slots_lowered : List Slot → ℕ → Lowered
 slots_lowered [] k = none_left k
 slots_lowered (s ∷ ss) k = chain (slot_lowered s) (slots_lowered ss) k
 
--- The new flat values are the old ones, and these behind them.
+-- The new flat values are the old ones, and these after them.
 pub record Appends (old new : List Slot) (l : ℕ → Lowered) : Type 0 where
   pub same : (k : ℕ) → slots_lowered new k ≡ chain (slots_lowered old) l k
 

@@ -15,11 +15,11 @@ use Rattle.abi_store.specs.Flows.{chain}
 use Rattle.abi_store.specs.Works.{work_lowered, works_lowered, place_lowered}
 use Rattle.abi_store.specs.Slots.{slots_lowered, known}
 
--- what is in progress, and the flat values behind it
+-- what is in progress, and the flat values after it
 abbrev pub rest_of : List Work → Flats → ℕ → Lowered
 rest_of works flats k = chain (works_lowered (reverse works)) (slots_lowered (reverse flats.left.items)) k
 
--- what is left behind a request that is asked
+-- what is left after a request that is asked
 abbrev pub asked_left : Request → List Work → Flats → Lowered
 asked_left request works flats = record {
   steps = behind request.content request.cell 0 ++ (rest_of works flats (0 + (requests (behind request.content request.cell 0) + 1))).steps;

@@ -15,7 +15,7 @@ plan_for (At place) ty v = at_plan place ty v
 plan_for Flat ty v = flat_plan ty v
 plan_for Spill ty v = spill_plan ty v
 
--- A step ends where the plan leads: at a request, with what is left behind it; at the end, with the flat values; or at a trap, and
+-- A step ends where the plan leads: at a request, with what is left after it; at the end, with the flat values; or at a trap, and
 -- nothing is said of the plan then.
 abbrev pub Stops : Halt → List CoreType → StoreStep → Plan → Linear → Type 0
 Stops (Asks align len left memory) types step plan new = (step ≡ NeedsRealloc 0 0 align len) × (plan ≡ record { due = Asked align len; left = left; types = types }) × (new ≡ memory)

@@ -12,14 +12,14 @@ use Rattle.adapter_state.specs.State.{each_kind}
 use Rattle.adapter_bytes.proofs.Sections.{IsSmall, none, one_more, both, sized_fits}
 use Rattle.adapter_bytes.proofs.Items.{IsName, func_export, export_fits, index_fits}
 
--- a function whose body takes so many bytes at most, its size among them
+-- a function whose body takes that many bytes at most, its size among them
 pub record IsFunction (most : ℕ) (d : Defined) : Type 0 where
   pub named : IsName 15 d.name
   pub ty : d.ty < 2 ^ 32
   pub fits : (sized body).Fits d.body
   pub few : length ((sized body).write d.body) ≤ most
 
--- functions whose bodies take so many together
+-- functions whose bodies take that many together
 abbrev pub AreFunctions : ℕ → List Defined → Type 0
 AreFunctions total [] = Unit {0}
 AreFunctions total (d ∷ ds) = (k rest : ℕ) × (k + rest ≤ total) × (0 < k) × IsFunction k d × AreFunctions rest ds

@@ -117,7 +117,7 @@ first_host asks fs (Some g) h (Table place ∷ is) rest e p = absurd p
 first_host asks fs (Some g) h (Memory place ∷ is) rest e p = absurd p
 first_host asks fs (Some g) h (Global place ∷ is) rest e p = absurd p
 
--- the function of the stub at a place stands behind those of the stubs before it
+-- the function of the stub at a place stands after those of the stubs before it
 pub hosts_lead : (asks : ℕ → ℕ) (fs : List StoreFunc) (ss : List Stub) (is : List Extern) (k : ℕ) (s : Stub) (h : HostFunc) → AreHosts asks fs ss is → slice_get ss k ≡ Some s → s.host ≡ Some h →
     (place : ℕ) × (slice_get (flat_map functions_of is) (length (host_types (take k ss))) ≡ Some place) × (slice_get fs place ≡ Some (Outside h.flat (asks h.function)))
 hosts_lead asks fs [] is k s h are here host = absurd (cc)

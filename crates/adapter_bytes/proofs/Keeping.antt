@@ -42,7 +42,7 @@ kept_ok s u t p e =
     let P : StoreState → Type 0 = λ x. Kept s x in
     subst P same p
 
--- one change behind another
+-- one change after another
 pub kept_then : (s t : StoreState) (r : Result StoreState StoreState) (f : StoreState → Result StoreState StoreState) → ((u : StoreState) → r ≡ ends u → Kept s u) → ((u : StoreState) → f u ≡ ends t → Kept u t) → and_next r f ≡ ends t → Kept s t
 kept_then s t (Ok u) f first rest e = kept_on s u t (first u refl) (rest u e)
 kept_then s t (Err u) f first rest e = absurd (cc)

@@ -34,7 +34,7 @@ in_front i n code s t = record {
 
 -- ---- brackets
 
--- behind a body stands the end of its bracket
+-- after a body stands the end of its bracket
 closed_fits : (n : ℕ) (body : List Instr) → IsSpelledIn n body → (c b : Bool) (o : Open) (rest : List Instr) → UntilFits nested (b ∷ o) rest → UntilFits nested (c ∷ b ∷ o) ((body ++ End ∷ []) ++ rest)
 unfolding nested
 closed_fits n body s c b o rest h = subst (UntilFits nested (c ∷ b ∷ o)) (sym (append_assoc body (End ∷ []) rest)) (s.fits c (b ∷ o) (End ∷ rest) (refl, end_bracket.fits c, h))

@@ -1,4 +1,4 @@
--- Lists whose items may be written, in so many bytes at most.
+-- Lists whose items may be written, in that many bytes at most.
 use Rattle.std.proofs.Common.{◌≡◌, ℕ, zero, suc, ◌+◌, ◌<◌, ◌≤◌, ◌^◌, List, [], ◌∷◌, ◌++◌, length, refl, arith, length-append}
 use Rattle.std.specs.List.{AllByRecursion}
 use Rattle.wasm_format.specs.Format.{Format, vec, sized, u32_format, write_items}
@@ -46,7 +46,7 @@ section F n (a ∷ items) lt s =
     let whole : length ((vec F).write (a ∷ items)) < 2 ^ 32 = omega (arith, s.few, lt, few_unsigned 4 (length (a ∷ items)), length-append (u32_format.write (length (a ∷ items))) (write_items F (a ∷ items))) in
     (whole, (omega (arith, s.count, lt), s.fits))
 
--- an item behind its size
+-- an item after its size
 pub sized_fits : {A : Type 0} (F : Format A) (k : ℕ) (a : A) → F.Fits a → length (F.write a) ≤ k → k < 2 ^ 32 → (sized F).Fits a × (length ((sized F).write a) ≤ 5 + k)
 unfolding u32_format
 sized_fits F k a fits few lt = ((omega (arith, few, lt), fits), omega (arith, few, few_unsigned 4 (length (F.write a)), length-append (u32_format.write (length (F.write a))) (F.write a)))

@@ -20,7 +20,7 @@ use Rattle.core_instance.specs.Instantiation.{names_of, instantiated}
 abbrev pub spaces_in : StoreState → Module → List Extern → CoreSpaces
 spaces_in s m imports = record (places_of s m imports) { types = m.types }
 
--- what was there stays; each body, global and memory stands behind it, and behind what is imported in its index space
+-- what was there stays; each body, global and memory stands after it, and after what is imported in its index space
 pub record HasBodies (s : StoreState) (m : Module) (imports : List Extern) (t : StoreState) : Type 0 where
   pub earlier : (i : ℕ) (f : StoreFunc) → slice_get s.functions i ≡ Some f → slice_get t.functions i ≡ Some f
   pub functions : (i : ℕ) (b : Body) → slice_get m.code i ≡ Some b → slice_get t.functions (length s.functions + i) ≡ Some (Inside (body_type m i) (length s.instances) (each_local b.locals) b.code)

@@ -41,7 +41,7 @@ pub record AreIndexes (calls : HandleCalls) : Type 0 where
   pub makes : (kind f : ℕ) → call_at calls.makes kind ≡ Some f → f < 2 ^ 32
   pub drops : (kind f : ℕ) → call_at calls.drops kind ≡ Some f → f < 2 ^ 32
 
--- code in front of whatever else: it may be written where that may, in so many bytes more
+-- code in front of whatever else: it may be written where that may, in that many bytes more
 pub record IsSpelledIn (most : ℕ) (code : List Instr) : Type 0 where
   pub fits : (b : Bool) (o : Open) (rest : List Instr) → UntilFits nested (b ∷ o) rest → UntilFits nested (b ∷ o) (code ++ rest)
   pub few : (b : Bool) (o : Open) (rest : List Instr) → length (write_parts nested (b ∷ o) (code ++ rest)) ≤ most + length (write_parts nested (b ∷ o) rest)

@@ -41,7 +41,7 @@ fn weigh_stub(alloc: Global, stub: &Stub, left: u32) -> Result<Option<u32>, NoMe
     Ok(weigh_behind(stub, locals, left))
 }
 
-// The routines of a stub with so many locals.
+// The routines of a stub with that many locals.
 fn weigh_behind(stub: &Stub, locals: u32, left: u32) -> Option<u32>
     requires { locals ≡ length (widths_of stub.now) }
     ensures some { IfSome result (λ rest. rest + weight_of stub.now ≡ left) }

@@ -20,7 +20,7 @@ abbrev closed_as : Config ℕ → Config ℕ
 closed_as c = record { store = c.store; map = c.map; entered = c.entered; closed = true }
 
 module _ {S : Type 0} (h : HostStep S) (G : Group) (unfolds : Unfolds G (hosted h)) (by : GoesByItsRest G (hosted h)) (w : World S) (k : ℕ) where
-  -- in so many steps, where core code alone takes these
+  -- in that many steps, where core code alone takes these
   pub returned : (f : ℕ) (results : List CoreValue) (c : Config ℕ) (t : State) (s : S) (n m : ℕ) → IsQuiet c.store → running G (hosted h) Endless k f results (standing w k (closed_as c) s) n ≡ Next [] m (standing w k (with_store (closed_as c) t) s) [] →
       post_returns G (hosted h) (running G (hosted h)) Endless k results (Some f) (standing w k c s) (suc n) ≡ Next [] m (standing w k (record { store = t; map = c.map; entered = c.entered; closed = false }) s) tt
   unfolding ◌>>◌

@@ -195,7 +195,7 @@ pub named_left : (n : ℕ) (names : List ℕ) (x : ℕ) → (x ≡ n → ⊥) �
 named_left n names x other (inl e) = absurd (other (sym e))
 named_left n names x other (inr r) = r
 
--- ---- one list behind another
+-- ---- one list after another
 
 before_followed : (st : Statement) (q next : Code) → before st (followed_by q next) ≡ followed_by (before st q) next
 before_followed (Const to v) q next = refl

@@ -65,7 +65,7 @@ Keeps n (Next k s) = length s.locals ≡ n
 Keeps n (Left name k s) = length s.locals ≡ n
 Keeps n (Over e k s) = length s.locals ≡ n
 
--- the places are good ones for a routine of so many locals
+-- the places are good ones for a routine of that many locals
 pub record Fits (ps : List ℕ) (outer : List Local) (n : ℕ) : Type 0 where
   pub places : are_places (length outer) ps ≡ true
   pub count : length ps ≡ n
@@ -226,7 +226,7 @@ placed_inside ps outer n (Turns name count body rest) k s f len w =
     let at_count = subst (λ x. IsInside ps outer n (turns name (runs body) (number_at s count) (suc k) s) (turns name (runs (placed ps body)) (value x) (suc k) (inside ps outer s))) (sym (reads_at ps outer n count s f len b.0)) all in
     then_of ps outer n _ _ (runs rest) (runs (placed ps rest)) at_count (λ i t g. placed_inside ps outer n rest i t f g c.1)
 
--- ---- one routine behind another
+-- ---- one routine after another
 
 then_then : (r : Run) (f g : ℕ → State → Run) (h : ℕ → State → Run) → ((k : ℕ) (s : State) → h k s ≡ then_run (f k s) g) → then_run r h ≡ then_run (then_run r f) g
 then_then (Next k s) f g h e = e k s

@@ -109,7 +109,7 @@ last_of Goes no' = no' refl
 last_of (Leaves m) no' = tt
 last_of (Ends e) no' = tt
 
--- nothing is behind the statement
+-- nothing is after the statement
 pub at_stop : (r : Run) (w : Flow) (t : State) → Shows r w t → Shows (then_run r (runs Stop)) w t
 at_stop (Next k s) w t h = h
 at_stop (Left m k s) w t h = h

@@ -25,7 +25,7 @@ abbrev pub code_of : List Statement → Code
 code_of [] = Stop
 code_of (statement ∷ rest) = before statement (code_of rest)
 
--- one routine behind another
+-- one routine after another
 abbrev pub followed_by : Code → Code → Code
 followed_by Stop next = next
 followed_by (Then statement rest) next = Then statement (followed_by rest next)

@@ -57,7 +57,7 @@ Behind go wanted (Next k s) = go k s
 Behind go wanted (Left name k s) = wanted (Left name k s)
 Behind go wanted (Over e k s) = wanted (Over e k s)
 
--- the same of a turn of a `Repeat`: a way out of it goes on behind it
+-- the same of a turn of a `Repeat`: a way out of it goes on after it
 abbrev pub TurnEnds : ℕ → (ℕ → State → Type 0) → (Run → Type 0) → Run → Type 0
 TurnEnds name go wanted (Next k s) = go k s
 TurnEnds name go wanted (Left m k s) = wanted (if m == name then Next k s else Left m k s)

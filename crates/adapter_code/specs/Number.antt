@@ -56,7 +56,7 @@ moved Narrow Narrow v = v
 moved Broad Narrow v = v
 moved Broad Broad v = v
 
--- the number of so many bytes at a place of a memory
+-- the number of that many bytes at a place of a memory
 unfoldable pub word : List ℕ → ℕ → ℕ → ℕ
 word memory place width = number (take width (drop place memory))
 

@@ -41,7 +41,7 @@ run_inside places outer (Next k s) = Next k (inside places outer s)
 run_inside places outer (Left name k s) = Left name k (inside places outer s)
 run_inside places outer (Over e k s) = Over e k (inside places outer s)
 
--- each local that is named is one of so many
+-- each local that is named is one of that many
 abbrev pub statement_within : ℕ → Statement → Bool
 statement_within n (Const to v) = nat_lt to n
 statement_within n (Move to from) = nat_lt to n && nat_lt from n
@@ -58,7 +58,7 @@ within n (Then st rest) = statement_within n st && within n rest
 within n (Choose test first other rest) = nat_lt test n && (within n first && (within n other && within n rest))
 within n (Turns name count body rest) = nat_lt count n && (within n body && within n rest)
 
--- the places differ, and are among so many
+-- the places differ, and are among that many
 abbrev pub differs : ℕ → List ℕ → Bool
 differs p [] = true
 differs p (q ∷ ps) = not (p == q) && differs p ps

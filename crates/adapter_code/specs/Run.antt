@@ -66,7 +66,7 @@ turn_end name (Next k s) go = go k s
 turn_end name (Left m k s) go = if m == name then Next k s else Left m k s
 turn_end name (Over e k s) go = Over e k s
 
--- so many turns, each of which counts one
+-- that many turns, each of which counts one
 abbrev pub turns : ℕ → (ℕ → State → Run) → ℕ → ℕ → State → Run
 turns name body zero k s = Next k s
 turns name body (suc n) k s = turn_end name (body (suc k) s) (turns name body n)

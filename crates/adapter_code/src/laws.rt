@@ -18,7 +18,7 @@ pub fn placed_routines_run_alike()
     ensures { (places : List ℕ) (outer : List Local) (code : Code) (k : ℕ) (s : State) → are_places (length outer) places ≡ true → length s.locals ≡ length places → within (length places) code ≡ true → runs (placed places code) k (inside places outer s) ≡ run_inside places outer (runs code k s) }
 {}
 
-/// A routine behind another runs behind it.
+/// A routine after another runs after it.
 pub fn routines_run_in_order()
     ensures { (code rest : Code) (k : ℕ) (s : State) → runs (followed_by code rest) k s ≡ then_run (runs code k s) (runs rest) }
 {}

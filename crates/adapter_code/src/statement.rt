@@ -72,7 +72,7 @@ pub enum Statement {
         count: u32,
         body: Statements,
     },
-    /// Goes behind the innermost `Repeat` of this name around it.
+    /// Goes after the innermost `Repeat` of this name around it.
     Leave {
         name: u32,
     },

@@ -98,7 +98,7 @@ pub fn repeat(name: u32, count: u32, body: Statements) -> Statement
     Statement::Repeat { name, count, body }
 }
 
-/// Puts one list behind another.
+/// Puts one list after another.
 pub fn append(list: &mut Statements, more: Statements) -> Result<(), NoMemory>
     ensures { OnOk result (code_of list.new.items ≡ followed_by (code_of list.old.items) (code_of more.items)) }
 {
@@ -109,7 +109,7 @@ pub fn append(list: &mut Statements, more: Statements) -> Result<(), NoMemory>
 }
 
 /// A loop over a list in memory: the loop's name, and the locals of the number of elements, of the place of the next one, and
-/// of a number that is lost. Elements stand so many bytes apart.
+/// of a number that is lost. Elements stand that many bytes apart.
 #[derive(Clone, Copy, Debug)]
 pub struct Walk {
     pub name: u32,

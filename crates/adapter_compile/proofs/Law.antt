@@ -22,7 +22,7 @@ use Rattle.adapter_compile.proofs.Sequences.{seq_in, tree_of}
 use Rattle.adapter_compile.proofs.Sim.{IsAt, count_of, state_of, ends_block, Arrives, Sim}
 use Rattle.adapter_compile.proofs.Whole.{seq_does}
 
--- behind the block around the routine
+-- after the block around the routine
 arrives_end : (numbers : Numbers) (home : Home) (q : Seq) (r : Run) (cs : List ℕ) (ps : List Bool) (n : ℕ) (X : List Reply → Out) (h : HandleMap ℕ) → IsAt [] r → Arrives numbers home [] (exec go Stop) r cs ps n X h →
     ArrivesAt numbers Out Stops (ended r).end (ended r).state.table (λ rs. exec go q n (config_of home (ended r).state cs ps rs)) (λ rs. ends_block (exec go q) (X rs)) h
 arrives_end numbers home q (Next k s) cs ps n X h named p = (p.0, λ rs. ap (ends_block (exec go q)) (p.1 rs))

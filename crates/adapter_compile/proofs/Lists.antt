@@ -145,7 +145,7 @@ brackets_left i list st most there le so_far rest =
     let both = max-le le rest in
     so_far (omega (arith, e, both))
 
--- ---- instructions that were put one behind another
+-- ---- instructions that were put one after another
 
 joined : (x y o rest : List Instr) → o ≡ x ++ y → o ++ rest ≡ x ++ (y ++ rest)
 joined x y o rest e = ap (λ l. l ++ rest) e ∙ append_assoc x y rest

@@ -25,7 +25,7 @@ writes (Small v ∷ ls) cs zero n lt = refl
 writes (Wide v ∷ ls) cs zero n lt = refl
 writes (l ∷ ls) cs (suc i) n lt = ap (λ xs. value l ∷ xs) (writes ls cs i n (omega arith))
 
--- the counters stand behind
+-- the counters stand after
 reads_counter : (ls : List Local) (cs : List ℕ) (i : ℕ) → slice_get (map value ls ++ cs) (length ls + i) ≡ slice_get cs i
 reads_counter [] cs i = let e : 0 + i ≡ i = omega arith in ap (slice_get cs) e
 reads_counter (l ∷ ls) cs i =

@@ -32,7 +32,7 @@ statement_seq ws calls ls Trap q = Then Unreachable q
 statement_seq ws calls ls Answer q = Then (Br (length ls)) q
 statement_seq ws calls ls other q = q
 
--- what stands behind a turn's body, and before the turns
+-- what stands after a turn's body, and before the turns
 abbrev pub tail_seq : ℕ → Seq
 tail_seq counter = Then (get counter) (Then (constant Narrow 1) (Then (numeric 0x6B) (Then (tee counter) (Then (BrIf 0) Stop))))
 

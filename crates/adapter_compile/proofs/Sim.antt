@@ -21,7 +21,7 @@ names_of [] = []
 names_of (None ∷ ls) = names_of ls
 names_of (Some name ∷ ls) = name ∷ names_of ls
 
--- what comes behind a piece of code, and a run by its steps and replies
+-- what comes after a piece of code, and a run by its steps and replies
 abbrev pub Onward : Type 0
 Onward = ℕ → Config → Out
 
@@ -54,7 +54,7 @@ kept_all d cs = record { long = refl; same = λ i lt. refl }
 pub kept_on : (d : ℕ) (a b c : List ℕ) → Kept d a b → Kept d b c → Kept d a c
 kept_on d a b c p q = record { long = q.long ∙ p.long; same = λ i lt. q.same i lt ∙ p.same i lt }
 
--- so many steps more, by computation
+-- that many steps more, by computation
 abbrev pub up : ℕ → ℕ → ℕ
 up zero n = n
 up (suc p) n = suc (up p n)
@@ -71,7 +71,7 @@ abbrev pub ends_block : Onward → Out → Out
 ends_block q o = then_do (block_end 0 0 o) q
 
 module _ (numbers : Numbers) (home : Home) where
-  -- where a run is once it has asked for its effects; at an answer it goes behind the block around the routine
+  -- where a run is once it has asked for its effects; at an answer it goes after the block around the routine
   abbrev pub Arrives : Labels → Onward → Run → List ℕ → List Bool → ℕ → (List Reply → Out) → HandleMap ℕ → Type 0
   Arrives ls q (Next k s) cs ps n X h = (h ≡ s.table) × ((rs : List Reply) → X rs ≡ q n (config_of home s cs ps rs))
   Arrives ls q (Left m k s) cs ps n X h = (h ≡ s.table) × ((rs : List Reply) → X rs ≡ Break (label_of m ls) n (config_of home s cs ps rs))

@@ -145,7 +145,7 @@ pub length_bytes : (k v : ℕ) → length (bytes_of k v) ≡ k
 length_bytes zero v = refl
 length_bytes (suc k) v = ap suc (length_bytes k (v / 256))
 
--- the pages that are made behind a store
+-- the pages that are made after a store
 abbrev pub pages_behind : List Bool → ℕ → ℕ → ℕ → List Bool
 pages_behind ps at size v = touched ps at (length (bytes_of size v))
 

@@ -169,7 +169,7 @@ module _ (numbers : Numbers) (home : Home) (ws : List Width) (d room : ℕ) (nam
   next_turn : (v n : ℕ) (s : State) (cs : List ℕ) (ps : List Bool) (rs : List Reply) → suc v < 2 ^ 32 → turns_again (then_do (choose (i32_in (suc v)) (Goes (suc n) (config_of home s cs ps rs)) (Break 0 (suc n) (config_of home s cs ps rs))) (exec go Stop)) ≡ leaves (loops n (config_of home s cs ps rs))
   next_turn v n s cs ps rs lt = ap (λ x. turns_again (then_do (choose x (Goes (suc n) (config_of home s cs ps rs)) (Break 0 (suc n) (config_of home s cs ps rs))) (exec go Stop))) (i32_same (suc v) lt)
 
-  -- one turn more than so many, where the counter holds their number, and where the other turns follow from the end of the first
+  -- one turn more than that many, where the counter holds their number, and where the other turns follow from the end of the first
   sim_loop : BodyDoes → (v k : ℕ) (s : State) (cs : List ℕ) (ps : List Bool) → Good s cs → slice_get cs d ≡ Some (suc v) →
       ((k' : ℕ) (s' : State) (cs' : List ℕ) (ps' : List Bool) → Good s' cs' → slice_get cs' d ≡ Some (suc v) → Sim numbers home d ls q 6 (λ n rs. turns_again (exec go (tail_seq counter) n (config_of home s' cs' ps' rs))) s' k' cs' (turns name runs_body v k' s')) →
       Sim numbers home d ls q 0 (λ n rs. leaves (loops n (config_of home s cs ps rs))) s k cs (turns name runs_body (suc v) k s)
@@ -179,7 +179,7 @@ module _ (numbers : Numbers) (home : Home) (ws : List Width) (d room : ℕ) (nam
       (omega arith)
       (sim_turn v (λ n rs. exec go body n (config_of home s cs ps rs)) s k cs (runs_body (suc k) s) (does (suc k) s cs ps good) good.0 good.2 there again)
 
-  -- from the end of a turn, behind which so many are to come
+  -- from the end of a turn, after which that many are to come
   sim_end : BodyDoes → (v k : ℕ) (s : State) (cs : List ℕ) (ps : List Bool) → suc v < 2 ^ 32 → Good s cs → slice_get cs d ≡ Some (suc v) →
       Sim numbers home d ls q 6 (λ n rs. turns_again (exec go (tail_seq counter) n (config_of home s cs ps rs))) s k cs (turns name runs_body v k s)
   sim_end does zero k s cs ps lt good there = record {

@@ -37,7 +37,7 @@ use Rattle.adapter_compile.proofs.Sequences.{converts, statement_seq, tail_seq, 
 use Rattle.adapter_compile.proofs.Sim.{names_of, Onward, Runs, Kept, kept_all, kept_on, up, from_up, ends_block, Sim, sim_after, sim_next, sim_trap, sim_then, sim_block}
 use Rattle.adapter_compile.proofs.Turning.{BodyDoes, sim_turns}
 
--- what holds of a state, over locals of these widths, with so many counters in use and so many more
+-- what holds of a state, over locals of these widths, with that many counters in use and that many more
 pub record Good (ws : List Width) (d room : ℕ) (s : State) (cs : List ℕ) : Type 0 where
   pub wide : map local_width s.locals ≡ ws
   pub range : IsInRange s
@@ -332,7 +332,7 @@ module _ (numbers : Numbers) (home : Home) (calls : HandleCalls) (is : IsHome ca
   chooses zero a b A B ls d q k s cs taken untaken = sim_block numbers home d ls q B s k cs b untaken
   chooses (suc x) a b A B ls d q k s cs taken untaken = sim_block numbers home d ls q A s k cs a taken
 
-  -- the turns, from the loop on, where the counter holds their number, or behind the block where there are none
+  -- the turns, from the loop on, where the counter holds their number, or after the block where there are none
   begun : (x k : ℕ) (name : ℕ) (ls : Labels) (d : ℕ) (q : Onward) (s : State) (cs : List ℕ) (ps : List Bool) (body : Seq) (runs_body : ℕ → State → Run) (X : Runs) → x < 2 ^ 32 → IsInRange s →
       ((n : ℕ) (rs : List Reply) → X (up 5 n) rs ≡ ends_block q (then_do (choose (from_bool (x == 0)) (Goes n (config_of home s cs ps rs)) (Break 0 n (config_of home s cs ps rs))) (exec go (InLoop Empty body Stop)))) →
       ((v : ℕ) → x ≡ suc v → Sim numbers home d ls q 0 (λ n rs. ends_block q (then_do (go (Turn Empty body) n (config_of home s cs ps rs)) (exec go Stop))) s k cs (turns name runs_body (suc v) k s)) →

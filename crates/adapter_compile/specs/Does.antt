@@ -45,7 +45,7 @@ pub record Home : Type 0 where
 abbrev pub store_with : Home → List ℕ → List Bool → StoreState
 store_with home bytes made = with_memory home.store home.memory (record { bytes = bytes; made = made; max = (memory_at home.store home.memory).max })
 
--- the routine's state as a configuration: the function's locals are the routine's and further ones behind
+-- the routine's state as a configuration: the function's locals are the routine's and further ones after
 abbrev pub config_of : Home → State → List ℕ → List Bool → List Reply → Config
 config_of home s behind made replies = record {
   stack = [];
@@ -71,7 +71,7 @@ pub record IsInRange (s : State) : Type 0 where
   pub memory : All (λ b. b < 256) s.memory
   pub table : IsTable s.table
 
--- where a run is behind a routine: at its answer it is where the code goes on, with what the routine left; a trap is a trap, or
+-- where a run is after a routine: at its answer it is where the code goes on, with what the routine left; a trap is a trap, or
 -- a handle that the handle map refuses
 abbrev pub ArrivesAt : Numbers → (A : Type 0) → (Outcome → A) → CodeEnd → HandleMap ℕ → (List Reply → A) → (List Reply → A) → HandleMap ℕ → Type 0
 ArrivesAt numbers A over Answer table behind X h = (h ≡ table) × ((rs : List Reply) → X rs ≡ behind rs)
@@ -104,7 +104,7 @@ RoutinesDo =
 
 -- ---- a whole function
 
--- its type: so many of the routine's locals are the parameters, and it has no result
+-- its type: that many of the routine's locals are the parameters, and it has no result
 abbrev pub core_type : Width → CoreType
 core_type Narrow = types.I32
 core_type Broad = types.I64
@@ -116,7 +116,7 @@ abbrev pub core_value : Local → CoreValue
 core_value (Small v) = values.I32 v
 core_value (Wide v) = values.I64 v
 
--- the declaration of locals of these widths, and of so many counters behind them
+-- the declaration of locals of these widths, and of that many counters after them
 abbrev pub counters_of : ℕ → List LocalRun
 counters_of zero = []
 counters_of (suc n) = record { count = suc n; ty = types.I32 } ∷ []
@@ -131,7 +131,7 @@ declared_of ws counters = map local_of ws ++ counters_of counters
 abbrev pub body_of : ℕ → List Width → HandleCalls → Code → Body
 body_of params ws calls code = record { locals = declared_of (drop params ws) (nesting code); code = routine_code ws calls code ++ End ∷ [] }
 
--- the locals behind the parameters are zeros
+-- the locals after the parameters are zeros
 abbrev pub BeginsAsZeros : ℕ → List Local → Type 0
 BeginsAsZeros params ls = map value (drop params ls) ≡ replicate (length (drop params ls)) 0
 

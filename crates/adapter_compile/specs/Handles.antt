@@ -51,7 +51,7 @@ pub record AreHosted (calls : HandleCalls) (numbers : Numbers) (spaces : CoreSpa
   pub makes : (kind f : ℕ) → call_at calls.makes kind ≡ Some f → IsOutside spaces functions f makes_type (numbers.makes kind)
   pub drops : (kind f : ℕ) → call_at calls.drops kind ≡ Some f → IsOutside spaces functions f drops_type (numbers.drops kind)
 
--- the question of an effect, asked in a store with so many steps left
+-- the question of an effect, asked in a store with that many steps left
 abbrev pub question : Numbers → Effect → StoreState → ℕ → Outcome
 question numbers (Made kind rep index) t left = Asks (numbers.makes kind) (I32 rep ∷ []) t left
 question numbers (Dropped kind rep index) t left = Asks (numbers.drops kind) (I32 index ∷ []) t left

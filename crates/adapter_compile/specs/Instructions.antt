@@ -23,7 +23,7 @@ use Rattle.adapter_compile.specs.declared.calls.HandleCalls.{HandleCalls}
 abbrev pub Labels : Type 0
 Labels = List (Option ℕ)
 
--- the label behind the innermost `Repeat` of a name
+-- the label after the innermost `Repeat` of a name
 abbrev pub label_of : ℕ → Labels → ℕ
 label_of name [] = 0
 label_of name (None ∷ ls) = suc (label_of name ls)
@@ -83,7 +83,7 @@ conversion Broad Narrow = numeric 0xAD ∷ []
 conversion Narrow Narrow = []
 conversion Broad Broad = []
 
--- the load of so many bytes into a local of a width, and the store of a local's lowest bytes
+-- the load of that many bytes into a local of a width, and the store of a local's lowest bytes
 abbrev pub load_of : Width → ℕ → LoadOp
 load_of Narrow size = if size == 1 then loads.I32Narrow8U else (if size == 2 then loads.I32Narrow16U else loads.I32)
 load_of Broad size =
@@ -106,7 +106,7 @@ abbrev pub call_of : Option ℕ → Instr
 call_of None = Unreachable
 call_of (Some f) = Call f
 
--- a statement that holds no others. An answer leads behind the block around the routine
+-- a statement that holds no others. An answer leads after the block around the routine
 abbrev pub statement_code : List Width → HandleCalls → Labels → Statement → List Instr
 statement_code ws calls ls (Const to v) = constant (width_in ws to) v ∷ set to ∷ []
 statement_code ws calls ls (Move to from) = get from ∷ (conversion (width_in ws to) (width_in ws from) ++ set to ∷ [])
@@ -123,7 +123,7 @@ statement_code ws calls ls other = []
 abbrev pub choice_code : ℕ → List Instr → List Instr → List Instr
 choice_code test first other = get test ∷ If Empty ∷ (first ++ Else ∷ (other ++ End ∷ []))
 
--- the turns of a `Repeat`, whose number is kept in a counter: it is tested on entry, and then behind each turn
+-- the turns of a `Repeat`, whose number is kept in a counter: it is tested on entry, and then after each turn
 abbrev pub turns_begin : ℕ → ℕ → List Instr
 turns_begin count counter = Block Empty ∷ get count ∷ tee counter ∷ numeric 0x45 ∷ BrIf 0 ∷ Loop Empty ∷ []
 
@@ -133,8 +133,8 @@ turns_end counter = get counter ∷ constant Narrow 1 ∷ numeric 0x6B ∷ tee c
 abbrev pub turns_code : ℕ → ℕ → List Instr → List Instr
 turns_code count counter body = turns_begin count counter ++ (body ++ turns_end counter)
 
--- a routine over locals of these widths, in these brackets, in so many `Repeat`s: the counters stand behind the locals, that
--- of a `Repeat` behind those of the ones around it
+-- a routine over locals of these widths, in these brackets, in that many `Repeat`s: the counters stand after the locals, that
+-- of a `Repeat` after those of the ones around it
 abbrev pub code_in : List Width → HandleCalls → Labels → ℕ → Code → List Instr
 code_in ws calls ls d Stop = []
 code_in ws calls ls d (Then statement rest) = statement_code ws calls ls statement ++ code_in ws calls ls d rest
@@ -143,6 +143,6 @@ code_in ws calls ls d (Choose test first other rest) =
 code_in ws calls ls d (Turns name count body rest) =
     turns_code count (length ws + d) (code_in ws calls (None ∷ Some name ∷ ls) (suc d) body) ++ code_in ws calls ls d rest
 
--- a whole routine, in a block behind which it goes on at its answer
+-- a whole routine, in a block after which it goes on at its answer
 abbrev pub routine_code : List Width → HandleCalls → Code → List Instr
 routine_code ws calls code = Block Empty ∷ (code_in ws calls [] 0 code ++ End ∷ [])

@@ -1,6 +1,6 @@
 //! The nodes of trees in the static data, as routines read them.
 //!
-//! Each node has a record of ten numbers of 32 bits, in the order of the table of nodes; behind the records stand the bytes of names
+//! Each node has a record of ten numbers of 32 bits, in the order of the table of nodes; after the records stand the bytes of names
 //! and contents, node by node. Places of bytes are counted from where these begin.
 //!
 //! | Offset | Number |

@@ -21,7 +21,7 @@ const TRUNCATE: u64 = 8;
 
 const WRITE_OR_MUTATE_DIRECTORY: u64 = 34;
 
-/// The locals of these rows. What comes behind them is free for parts.
+/// The locals of these rows. What comes after them is free for parts.
 #[derive(Clone, Copy)]
 struct Locals {
     start: u32,

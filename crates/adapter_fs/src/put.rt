@@ -70,7 +70,7 @@ fn put_record(data: &mut StaticData, table: &Table, node: u32, at: u32) -> Resul
     Ok(end)
 }
 
-// The records of the first so many nodes.
+// The records of the first that many nodes.
 fn put_records(data: &mut StaticData, table: &Table, count: u32) -> Result<(), NoMemory>
     requires { count ≤ count_of table.now }
 {
@@ -105,7 +105,7 @@ fn longest_target(table: &Table, count: u32) -> u32
     longest
 }
 
-// How many nodes a table of so many trees has: the children of each node stand behind those of the one before it.
+// How many nodes a table of that many trees has: the children of each node stand after those of the one before it.
 fn node_count(table: &Table, trees: u32) -> u32
     requires { trees ≤ count_of table.now }
     ensures { result ≤ count_of table.now }

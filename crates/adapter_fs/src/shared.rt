@@ -20,7 +20,7 @@ pub struct Text {
     pub length: u32,
 }
 
-/// The local behind another one.
+/// The local after another one.
 pub fn next(local: u32) -> u32 {
     local.saturating_add(1)
 }
@@ -65,7 +65,7 @@ pub fn put_read(f: &Frame, bytes: Span, length: u32, offset: u32) -> Routine {
 }
 
 /// The answer of a function of a stream over a file, by its name: `read` gives bytes from the stream's place on, and `skip` their
-/// number; both go on behind them. At the end the stream is closed. The place stands in the long word at `spot`; the number of
+/// number; both go on after them. At the end the stream is closed. The place stands in the long word at `spot`; the number of
 /// bytes that are wanted is the second argument. The first spare local of 32 bits and the first two of 64 bits are lost.
 pub fn stream_on(f: &Frame, spot: u32, bytes: Span, name: &str) -> Routine {
     let place = f.spare.broad(0);

@@ -170,7 +170,7 @@ impl Walker {
             )
     }
 
-    // The next part ends at a slash or with the text; the text goes on behind it.
+    // The next part ends at a slash or with the text; the text goes on after it.
     fn cut(&self, f: &Frame) -> Routine {
         let scan = f
             .routine()

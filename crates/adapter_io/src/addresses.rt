@@ -51,7 +51,7 @@ pub fn address_of(f: &Frame) -> Address {
     }
 }
 
-// Puts a number behind others.
+// Puts a number after others.
 fn append(f: &Frame, number: u32, to: u32, l: &Address) -> Routine {
     f.routine()
         .shift_left(to, to, l.width)
@@ -59,7 +59,7 @@ fn append(f: &Frame, number: u32, to: u32, l: &Address) -> Routine {
         .either_bits(to, to, l.part)
 }
 
-// Four numbers that stand in locals from one on, of so many bits each.
+// Four numbers that stand in locals from one on, of that many bits each.
 fn four_locals(f: &Frame, from: u32, bits: u64, to: u32, l: &Address) -> Routine {
     let mut routine = f.routine().constant(to, 0).constant(l.width, bits);
     for i in 0u32..4 {

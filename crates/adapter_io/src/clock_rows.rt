@@ -26,7 +26,7 @@ pub fn wall_clock(f: &Frame, time: WallTime, name: &str) -> Routine {
     }
 }
 
-/// The functions of a monotonic clock that stands at so many nanoseconds: each time that is waited for has come.
+/// The functions of a monotonic clock that stands at that many nanoseconds: each time that is waited for has come.
 pub fn monotonic_clock(f: &Frame, nanoseconds: u64, name: &str) -> Routine {
     if name == "now" {
         f.flat_value(nanoseconds)

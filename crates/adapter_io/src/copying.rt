@@ -34,7 +34,7 @@ impl Sums {
             .constant(self.multiple, MULTIPLE)
     }
 
-    /// Adds a request of so many bytes, which a local says.
+    /// Adds a request of that many bytes, which a local says.
     pub fn add(&self, f: &Frame, length: u32) -> Routine {
         f.routine()
             .add(self.sum, length, self.seven)
@@ -46,7 +46,7 @@ impl Sums {
 /// The locals of the copying of an element.
 #[derive(Clone, Copy)]
 pub struct Copied {
-    /// Where it stands, and where it goes, which is then behind it; of 32 bits.
+    /// Where it stands, and where it goes, which is then after it; of 32 bits.
     pub at: u32,
     pub out: u32,
     /// How many bytes an element has, and the last place at which one fits into the transfer area.

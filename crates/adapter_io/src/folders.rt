@@ -46,7 +46,7 @@ impl Listed {
     }
 }
 
-// Adds a folder with a new handle and the name that stands behind `at`; traps where no place is free for the handle.
+// Adds a folder with a new handle and the name that stands after `at`; traps where no place is free for the handle.
 fn put_folder(f: &Frame, tag: Tag, word: Option<u32>, l: &Listed) -> Routine {
     let index = f.spare.narrow(0);
     f.inside(1)
@@ -191,7 +191,7 @@ fn weigh(f: &Frame, policy: &Policy, d: &IoData, l: &Filtered) -> Routine {
         .part(check_room(f, d, l))
 }
 
-// How many folders are answered; their list has to fit behind the host's answer. The sums' constants still stand.
+// How many folders are answered; their list has to fit after the host's answer. The sums' constants still stand.
 fn check_room(f: &Frame, d: &IoData, l: &Filtered) -> Routine {
     let needed = Sums::of(f, l.search.name);
     f.routine()
@@ -239,7 +239,7 @@ fn put_hosted(f: &Frame, policy: &Policy, l: &Filtered) -> Routine {
 }
 
 /// get-directories after the host's answer, whose list stands at the beginning of the transfer area: the host's folders that the policy
-/// passes, in the host's order and under the names that it shows, and then those of the adapter's own, in a list behind the host's
+/// passes, in the host's order and under the names that it shows, and then those of the adapter's own, in a list after the host's
 /// answer. The host's other folders are dropped. It traps where the list passes the transfer area, or where no place is free for a
 /// handle.
 pub fn filtered_directories(f: &Frame, policy: &Policy, d: &IoData) -> Routine {

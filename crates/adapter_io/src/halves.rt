@@ -138,7 +138,7 @@ fn probe(f: &Frame, list: ListAt, l: &Halves) -> Routine {
         .choose(l.below, behind, before)
 }
 
-// After so many probes no element of so many is left: each leaves less than half of them.
+// After that many probes no element of that many is left: each leaves less than half of them.
 fn probes_in(count: u32) -> u64 {
     32u32.saturating_sub(count.leading_zeros()) as u64
 }

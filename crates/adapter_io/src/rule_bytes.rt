@@ -15,7 +15,7 @@ struct Bits {
     low: u64,
 }
 
-// The first bits of 64, so many of them.
+// The first bits of 64, that many of them.
 fn first_bits(count: u8) -> u64 {
     if count < 64 {
         !(u64::MAX >> count)
@@ -38,7 +38,7 @@ fn mask_of(rule: &Rule) -> Bits {
     }
 }
 
-// Numbers behind one another, the first in the highest bits: of 16 bits each, or of 8.
+// Numbers after one another, the first in the highest bits: of 16 bits each, or of 8.
 fn joined(numbers: &[u16], six: bool) -> u64 {
     let mut bits: u64 = 0;
     for number in numbers {

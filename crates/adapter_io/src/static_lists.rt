@@ -204,7 +204,7 @@ fn put_scratch(
     }
 }
 
-/// Adds the static data of these rows behind that of the trees, whose roots these are, in the policy's order.
+/// Adds the static data of these rows after that of the trees, whose roots these are, in the policy's order.
 pub fn put_static(
     alloc: Global,
     data: &mut StaticData,

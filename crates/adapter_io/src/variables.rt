@@ -194,7 +194,7 @@ fn last_place(f: &Frame) -> u32 {
 }
 
 /// get-environment after the host's answer, whose list stands at the beginning of the transfer area: the variables that the policy
-/// passes, in the host's order, and then its own, in a list behind the host's answer. It traps where that passes the transfer area.
+/// passes, in the host's order, and then its own, in a list after the host's answer. It traps where that passes the transfer area.
 pub fn filtered_environment(f: &Frame, policy: &Policy, d: &IoData) -> Routine {
     let l = Filtered::of(f);
     f.begin()

@@ -212,7 +212,7 @@ impl Frame {
         if i < self.args.len() { self.args[i] } else { 0 }
     }
 
-    /// The same where so many pairs of further locals are taken: for a part in the midst of a routine.
+    /// The same where that many pairs of further locals are taken: for a part in the midst of a routine.
     pub fn inside(&self, pairs: u8) -> Frame {
         Frame {
             spare: self.spare.after(pairs),

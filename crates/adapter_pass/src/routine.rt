@@ -47,7 +47,7 @@ impl Routine {
         }
     }
 
-    /// The statements; want of memory where the routine is lost.
+    /// The statements; `NoMemory` where the routine is lost.
     pub fn statements(self) -> Result<Statements, NoMemory> {
         if self.lost {
             Err(NoMemory)

@@ -262,7 +262,7 @@ pub fn by_handles(
             if function.needed {
                 Ok(gate.part(rest))
             } else {
-                // behind the gate no call of it goes on
+                // after the gate no call of it goes on
                 Ok(gate.trap())
             }
         }

@@ -87,7 +87,7 @@ fn spare_of(policy: &Policy) -> u32 {
     }
 }
 
-/// How the memory is cut for static data of so many bytes. It takes no memory.
+/// How the memory is cut for static data of that many bytes. It takes no memory.
 pub fn cut(policy: &Policy, image_len: usize) -> Layout {
     Layout {
         slots: policy.slots,
@@ -97,7 +97,7 @@ pub fn cut(policy: &Policy, image_len: usize) -> Layout {
     }
 }
 
-/// Where the scratch folder stands, if the policy has one; it comes behind so many trees.
+/// Where the scratch folder stands, if the policy has one; it comes after that many trees.
 pub fn scratch_in(policy: &Policy, places: &Places, trees: u32) -> Option<ScratchAt> {
     match &policy.fs_scratch {
         Some(scratch) => Some(ScratchAt::of(scratch, places, trees)),

@@ -17,7 +17,7 @@ use adapter_stubs::{HostFunc, Stub, stub_widths};
 use std::alloc::Global;
 use virt_base::{CoreType, NoMemory};
 
-/// A function has at most so many locals, those that count turns among them.
+/// A function has at most that many locals, those that count turns among them.
 const MOST_LOCALS: usize = 40_000;
 
 const MOST_STUBS: usize = 1_073_741_823;

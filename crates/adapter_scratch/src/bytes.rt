@@ -4,7 +4,7 @@ use crate::names::LOOP;
 use adapter_code::IntOp;
 use adapter_pass::{Frame, Routine, byte, long};
 
-// Copies so many words of 64 bits.
+// Copies that many words of 64 bits.
 fn words(f: &Frame, to: u32, from: u32, count: u8) -> Routine {
     let word = f.spare.broad(0);
     let mut routine = f.routine();
@@ -15,7 +15,7 @@ fn words(f: &Frame, to: u32, from: u32, count: u8) -> Routine {
     routine
 }
 
-// Writes a word of 64 bits so often, one behind the other.
+// Writes a word of 64 bits so often, one after the other.
 fn same_words(f: &Frame, word: u32, to: u32, count: u8) -> Routine {
     let mut routine = f.routine();
     for i in 0..count {
@@ -24,7 +24,7 @@ fn same_words(f: &Frame, word: u32, to: u32, count: u8) -> Routine {
     routine
 }
 
-/// Copies so many bytes to a place that they don't overlap.
+/// Copies that many bytes to a place that they don't overlap.
 pub fn copy_bytes(f: &Frame, to: u32, from: u32, count: u32) -> Routine {
     let turns = f.spare.narrow(0);
     let step = f.spare.narrow(1);
@@ -47,7 +47,7 @@ pub fn copy_bytes(f: &Frame, to: u32, from: u32, count: u32) -> Routine {
         .repeat(LOOP, count, one)
 }
 
-/// Sets so many bytes to zero.
+/// Sets that many bytes to zero.
 pub fn clear_bytes(f: &Frame, at: u32, count: u32) -> Routine {
     let turns = f.spare.narrow(0);
     let step = f.spare.narrow(1);

@@ -24,7 +24,7 @@ fn tell(f: &Frame, entry: u32) -> Routine {
 }
 
 /// `read-directory-entry`: the file that has the least number from the stream's number on. The stream stands at a spot, and goes on
-/// behind that number.
+/// after that number.
 pub fn scratch_entries_body(f: &Frame, s: ScratchAt, spot: u32) -> Routine {
     let number = f.spare.narrow(0);
     let entry = f.spare.narrow(1);

@@ -1,9 +1,9 @@
 //! The rows of the scratch folder: routines that answer for it over the adapter's spare bytes, in which its files stand.
 //!
-//! The spare bytes begin with an entry of 272 bytes for each number that a file may have; behind the entries stand the blocks. A file
+//! The spare bytes begin with an entry of 272 bytes for each number that a file may have; after the entries stand the blocks. A file
 //! that is not empty has a piece of whole blocks. Pieces stand in the order of the files' numbers and do not overlap; between them may
 //! stand gaps, so that a piece grows in place while its gap lasts. Where it lasts no longer, all pieces are moved, each with an equal
-//! gap behind it. Behind the blocks stand three marks, by which handles of a file are sought. Bytes of zeros are the empty folder.
+//! gap after it. After the blocks stand three marks, by which handles of a file are sought. Bytes of zeros are the empty folder.
 #![tactic(auto)]
 
 mod body;

@@ -26,7 +26,7 @@ impl Numbers {
         }
     }
 
-    /// Runs a routine for each number, from 0 on. Behind the last one `entry` and `number` are those of the number of files.
+    /// Runs a routine for each number, from 0 on. After the last one `entry` and `number` are those of the number of files.
     pub fn each(&self, f: &Frame, s: ScratchAt, name: u32, body: Routine) -> Routine {
         let onward = body
             .add(self.entry, self.entry, self.step)
@@ -40,7 +40,7 @@ impl Numbers {
             .repeat(name, self.turns, onward)
     }
 
-    /// Runs a routine for each number, from the last one on, right behind `each`.
+    /// Runs a routine for each number, from the last one on, right after `each`.
     pub fn each_back(&self, f: &Frame, name: u32, body: Routine) -> Routine {
         let back = f
             .routine()

@@ -17,7 +17,7 @@ pub struct Growth {
 }
 
 /// What the other files take: the bytes of their blocks together, where the piece before begins to leave room, and where the piece
-/// behind begins.
+/// after begins.
 #[derive(Clone, Copy)]
 struct Others {
     total: u32,
@@ -26,7 +26,7 @@ struct Others {
 }
 
 // A piece of another file, whose length stands in `length`: the last one before the number bounds the room from below, and the first
-// one behind it from above.
+// one after it from above.
 fn count_piece(f: &Frame, o: Others, each: Numbers, number: u32, length: u32) -> Routine {
     let start = f.spare.narrow(0);
     let test = f.spare.narrow(1);
@@ -88,7 +88,7 @@ fn begin_between(f: &Frame, file: FileAt, after: u32, o: Others) -> Routine {
         .when(start, begun)
 }
 
-/// Finds a place for a piece that grows: behind what it has, or between its neighbours, or all pieces are moved. It ends the row where
+/// Finds a place for a piece that grows: after what it has, or between its neighbours, or all pieces are moved. It ends the row where
 /// the quota has no room, and nothing is changed then. All spare locals are lost.
 pub fn make_room(f: &Frame, s: ScratchAt, file: FileAt, growth: Growth, full: Full) -> Routine {
     let others = Others {

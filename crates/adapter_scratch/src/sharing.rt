@@ -1,4 +1,4 @@
-//! The sharing out of the free blocks: all pieces are moved down, one behind the other, and up again, each with an equal gap behind it.
+//! The sharing out of the free blocks: all pieces are moved down, one after the other, and up again, each with an equal gap after it.
 
 use crate::bytes::{move_down, move_up};
 use crate::names::{HALVES, LOOP};
@@ -8,7 +8,7 @@ use crate::sizes::rounded;
 use adapter_code::IntOp;
 use adapter_pass::{Frame, Routine};
 
-// The locals: where the next piece goes, how many files there are, and the gap behind each piece; then the bytes of the blocks of one
+// The locals: where the next piece goes, how many files there are, and the gap after each piece; then the bytes of the blocks of one
 // file, where its piece begins, where it goes, and a test.
 #[derive(Clone, Copy)]
 struct Sharing {
@@ -99,7 +99,7 @@ impl Sharing {
             .with(IntOp::And, self.gap, self.gap, WHOLE, f.scratch)
     }
 
-    // Moves all pieces up from the last one on, so that each has a gap behind it, and the one that grows room for what is wanted.
+    // Moves all pieces up from the last one on, so that each has a gap after it, and the one that grows room for what is wanted.
     fn up(&self, f: &Frame, s: ScratchAt, number: u32, wanted: u32) -> Routine {
         let moving = move_up(&self.inside(f), self.to, self.start, self.size);
         let grown = f.routine().subtract(self.at, self.at, wanted);
@@ -119,7 +119,7 @@ impl Sharing {
     }
 }
 
-/// Moves all pieces, so that the one of a number has room for as much as is wanted, and each has an equal gap behind it. `total` are
+/// Moves all pieces, so that the one of a number has room for as much as is wanted, and each has an equal gap after it. `total` are
 /// the bytes of all pieces then. All spare locals are lost.
 pub fn share_out(f: &Frame, s: ScratchAt, number: u32, wanted: u32, total: u32) -> Routine {
     let l = Sharing::of(f);

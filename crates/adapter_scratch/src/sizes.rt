@@ -14,7 +14,7 @@ pub struct FileAt {
     pub entry: u32,
 }
 
-/// Sets a local to the bytes of the blocks that so many bytes take.
+/// Sets a local to the bytes of the blocks that N bytes take.
 pub fn rounded(f: &Frame, to: u32, length: u32) -> Routine {
     f.routine()
         .with(IntOp::Add, to, length, BLOCK as u64 - 1, f.scratch)

@@ -39,7 +39,7 @@ fn place_of(f: &Frame, s: ScratchAt, spot: u32, tag: u32, file: u32, place: u32)
     )
 }
 
-// Goes on behind what was written, but at the end of a file.
+// Goes on after what was written, but at the end of a file.
 fn go_on(f: &Frame, spot: u32, tag: u32, new: Written) -> Routine {
     let test = f.spare.narrow(0);
     let moved = f

@@ -8,7 +8,7 @@ use crate::sizes::{FileAt, resize};
 use adapter_code::IntOp;
 use adapter_pass::{Frame, Routine};
 
-/// What is written: so many bytes, more than none, from a place of the file on, which are zeros where there is no text. The place and
+/// What is written: that many bytes, more than none, from a place of the file on, which are zeros where there is no text. The place and
 /// the count are locals of 64 bits; that of the text is changed.
 #[derive(Clone, Copy)]
 pub struct Written {
@@ -17,7 +17,7 @@ pub struct Written {
     pub count: u32,
 }
 
-// The length of the file behind the write: it ends the row where that is past the quota, or past 64 bits. Two spare pairs are lost.
+// The length of the file after the write: it ends the row where that is past the quota, or past 64 bits. Two spare pairs are lost.
 fn new_length(
     f: &Frame,
     s: ScratchAt,

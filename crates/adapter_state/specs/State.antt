@@ -42,7 +42,7 @@ drop_import kind Absent = []
 drop_import kind Own = []
 drop_import kind Host = record { «module» = codes "host"; name = codes "drop-" ++ decimal kind; item = Func 0 } ∷ []
 
--- the index of its function, where so many are imported before
+-- the index of its function, where that many are imported before
 abbrev pub drop_call : ℕ → Presence → Option ℕ
 drop_call at Absent = None
 drop_call at Own = None

@@ -261,7 +261,7 @@ module _ (calls : HandleCalls) (numbers : Numbers) (asks : ℕ → ℕ) (home : 
         ap (λ l. final (exec go (tree l) (3 + count + n) (config_of inner run.state b.further' b.made' []))) (split h asked.here)
         ∙ ap final (asking.asks asked.some n) ∙ ap (λ vs. Asks (asks h.function) vs (store_with inner run.state.memory b.made') n) given_same
 
-    -- behind an answer
+    -- after an answer
     module _ (r : Reply) (table : HandleMap ℕ) (ok : IsAnswer h home r table) where
       abbrev far : Home
       far = home_behind home r

@@ -6,7 +6,7 @@ use Rattle.adapter_compile.specs.Instructions.{get}
 use Rattle.adapter_stubs.specs.Stub.{gets}
 use Rattle.adapter_stubs.specs.Widths.{width_at, further}
 
--- one item more, of those from i on, of which so many are left
+-- one item more, of those from i on, of which that many are left
 pub further_more : (i n : ℕ) (xs ys all : List Width) → i < n → ys ≡ xs ++ width_at i ∷ [] → xs ++ further i (n - i) ≡ all → ys ++ further (i + 1) (n - (i + 1)) ≡ all
 further_more i n xs ys all lt more so_far =
     let left : n - i ≡ suc (n - (i + 1)) = omega (arith, lt) in

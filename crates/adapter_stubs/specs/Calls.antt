@@ -33,7 +33,7 @@ use Rattle.adapter_stubs.specs.Bodies.{host_call, stub_body, IsStub}
 abbrev pub arguments_in : Stub → State → List CoreValue
 arguments_in s t = map core_value (take (length s.flat.params) t.locals)
 
--- what goes to the host stands behind the flag
+-- what goes to the host stands after the flag
 abbrev pub given_in : Stub → HostFunc → State → List CoreValue
 given_in s h t = map core_value (take (length h.flat.params) (drop (flag_of s + 1) t.locals))
 
@@ -107,7 +107,7 @@ pub record StubEnds (numbers : Numbers) (home : Home) (f : ℕ) (s : Stub) (t : 
       Follows numbers Outcome (λ o. o) (λ rs. eval (store_with home t.memory made) f (arguments_in s t) rs (steps + n)) t.table effects
       (ArrivesAt numbers Outcome (λ o. o) run.end run.state.table (λ rs. Done (flat_in s run.state) (store_with home run.state.memory made') n))
 
--- the rest of a call behind an answer, where so many steps were taken and statements run before it
+-- the rest of a call after an answer, where that many steps were taken and statements run before it
 pub record StubResumes (h : HostFunc) (before counted : ℕ) (t : State) (run : RoutineRun) : Type 0 where
   pub steps : ℕ
   pub effects : List Effect
@@ -115,7 +115,7 @@ pub record StubResumes (h : HostFunc) (before counted : ℕ) (t : State) (run : 
   pub few : length h.flat.params ≤ 17 → before + steps ≤ 32 * (1 + (counted + run.count))
   pub has : run.state.effects ≡ t.effects ++ effects
 
--- it asks the host behind the effects of the routine before, and ends as the routine after it
+-- it asks the host after the effects of the routine before, and ends as the routine after it
 pub record StubAsks (numbers : Numbers) (asks : ℕ → ℕ) (home : Home) (f : ℕ) (s : Stub) (t : State) (made : List Bool) (run : RoutineRun) (h : HostFunc) : Type 0 where
   pub steps : ℕ
   pub effects : List Effect

@@ -3,7 +3,7 @@ use Rattle.std.specs.Prelude.{ℕ, suc, max}
 use Rattle.adapter_code.specs.declared.statement.Statement.{Statement, Const, Move, Int, Load, Store, NewHandle, DropHandle}
 use Rattle.adapter_code.specs.Code.{Code, Stop, Then, Choose, Turns}
 
--- behind the greatest local that a statement names, which holds no others
+-- after the greatest local that a statement names, which holds no others
 abbrev pub span_of : Statement → ℕ
 span_of (Const to v) = suc to
 span_of (Move to from) = max (suc to) (suc from)

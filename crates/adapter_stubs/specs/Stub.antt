@@ -21,12 +21,12 @@ use Rattle.adapter_compile.specs.Handles.{IsOutside}
 use Rattle.adapter_compile.specs.Does.{Home, store_with, config_of, IsInRange}
 use Rattle.adapter_stubs.specs.declared.host_call.HostCall.{HostCall}
 
--- so many locals from one on, in order
+-- that many locals from one on, in order
 abbrev pub gets : ℕ → ℕ → List Instr
 gets from zero = []
 gets from (suc n) = get from ∷ gets (suc from) n
 
--- the local of the flat result stands behind the flag and what goes to the host
+-- the local of the flat result stands after the flag and what goes to the host
 abbrev pub result_at : ℕ → HostCall → ℕ
 result_at flag c = flag + 1 + c.params
 
@@ -59,20 +59,20 @@ pub record Answers (c : HostCall) (home : Home) (r : Reply) : Type 0 where
   pub count : length r.results ≡ (if c.gives then 1 else 0)
   pub within : home.memory < length r.store.memories
 
--- from a state in which the flag is 0, in two steps, the code goes on behind
+-- from a state in which the flag is 0, in two steps, the code goes on after
 abbrev pub Skips : List Width → HandleCalls → ℕ → HostCall → Code → List Instr → Home → State → List ℕ → List Bool → Type 0
 Skips ws calls flag c after behind home s further made =
     number_at s flag ≡ 0 → (n : ℕ) (rs : List Reply) →
     exec go (tree (host_code ws calls flag c after ++ behind)) (2 + n) (config_of home s further made rs) ≡ exec go (tree behind) n (config_of home s further made rs)
 
--- else the host is asked with the numbers in the locals behind the flag
+-- else the host is asked with the numbers in the locals after the flag
 abbrev pub AsksHost : List Width → HandleCalls → ℕ → HostCall → Code → List Instr → ℕ → CoreFunc → Home → State → List ℕ → List Bool → Type 0
 AsksHost ws calls flag c after behind number ty home s further made =
     number_at s flag ≢ 0 → (n : ℕ) →
     exec go (tree (host_code ws calls flag c after ++ behind)) (3 + c.params + n) (config_of home s further made [])
     ≡ Over (Asks number (values_in (length home.store.functions) ty.params (given flag c s)) (store_with home s.memory made) n)
 
--- and once it has answered, the routine after it runs, and then the code behind
+-- and once it has answered, the routine after it runs, and then the code after
 abbrev pub GoesOn : List Width → HandleCalls → ℕ → HostCall → Code → List Instr → Home → State → List ℕ → List Bool → Type 0
 GoesOn ws calls flag c after behind home s further made =
     number_at s flag ≢ 0 → (r : Reply) (rs : List Reply) (table : HandleMap ℕ) → Answers c home r → (n : ℕ) →

@@ -28,7 +28,7 @@ new_import kind Absent = []
 new_import kind Own = record { «module» = codes "host"; name = codes "new-" ++ decimal kind; item = Func 2 } ∷ []
 new_import kind Host = record { «module» = codes "host"; name = codes "new-" ++ decimal kind; item = Func 2 } ∷ []
 
--- the index of its function, where so many are imported before
+-- the index of its function, where that many are imported before
 abbrev pub new_call : ℕ → Presence → Option ℕ
 new_call at Absent = None
 new_call at Own = Some at
@@ -43,7 +43,7 @@ abbrev pub new_calls : ℕ → List Presence → List (Option ℕ)
 new_calls at [] = []
 new_calls at (p ∷ ps) = new_call at p ∷ new_calls (at + worlds p) ps
 
--- realloc is function 0, and behind it stand these
+-- realloc is function 0, and after it stand these
 abbrev pub first_drop : List Presence → ℕ
 first_drop kinds = 1 + length (each_kind new_import 0 kinds)
 

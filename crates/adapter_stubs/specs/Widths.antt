@@ -52,7 +52,7 @@ host_params (Some h) = h.flat.params
 abbrev pub first_widths : Stub → List Width
 first_widths s = widths_of s.flat.params ++ Narrow ∷ (widths_of (host_params s.host) ++ result_width s.flat.results ∷ [])
 
--- how many stand behind these, up to the greatest that its routines name
+-- how many stand after these, up to the greatest that its routines name
 abbrev pub further_of : Stub → ℕ
 further_of s = max (span (code_of s.before.items)) (span (code_of s.after.items)) - length (first_widths s)
 

@@ -33,14 +33,14 @@ module _ (c : Context) (labels : Labels) (global : slice_get c.globals 0 ≡ Som
       one c labels set_end (Known I32 ∷ []) [] (subst P (sym global) (refl, refl))
       (λ rule. (λ is. tests_within c.globals 0 _ global, (λ is. ap (λ o. option_map_or (λ (g : GlobalType). g.variable) o true) global, tt))) refl refl
 
-  -- a constant and an operator behind another piece
+  -- a constant and an operator after another piece
   then_constant : (x : List Instr) (v code : ℕ) → IsPiece c labels x [] (Known I32 ∷ []) → IsPiece c labels (numeric code ∷ []) (Known I32 ∷ Known I32 ∷ []) (Known I32 ∷ []) → IsPiece c labels (x ++ constant Narrow v ∷ numeric code ∷ []) [] (Known I32 ∷ [])
   then_constant x v code p q =
       joined c labels x (constant Narrow v ∷ numeric code ∷ []) [] (Known I32 ∷ []) (Known I32 ∷ []) p
       (joined c labels (constant Narrow v ∷ []) (numeric code ∷ []) (Known I32 ∷ []) (Known I32 ∷ Known I32 ∷ []) (Known I32 ∷ [])
       (above c labels (constant Narrow v ∷ []) [] (Known I32 ∷ []) (Known I32 ∷ []) (constant_piece c labels Narrow v)) q)
 
-  -- another operand and an operator behind another piece
+  -- another operand and an operator after another piece
   then_operand : (x : List Instr) (i : Instr) (code : ℕ) → IsPiece c labels x [] (Known I32 ∷ []) → IsPiece c labels (i ∷ []) [] (Known I32 ∷ []) → IsPiece c labels (numeric code ∷ []) (Known I32 ∷ Known I32 ∷ []) (Known I32 ∷ []) → IsPiece c labels (x ++ i ∷ numeric code ∷ []) [] (Known I32 ∷ [])
   then_operand x i code p operand q =
       joined c labels x (i ∷ numeric code ∷ []) [] (Known I32 ∷ []) (Known I32 ∷ []) p

@@ -29,7 +29,7 @@ use Rattle.adapter_compile.proofs.Steps.{i32_same, get_step, constant_step, oper
 use Rattle.adapter_transfer.specs.Transfer.{last_at, get_end, set_end, realloc_code, reset_code, body_of, realloc_type, Stands, IsUsed, with_end, Gives, IsRealloc, IsReset}
 use Rattle.adapter_transfer.proofs.Numbers.{less, not_less, within, beyond, has_room, has_none, is_before, last_small, begin_small}
 
--- so many steps and more
+-- that many steps and more
 up_add : (p n : ℕ) → p + n ≡ up p n
 up_add zero n = omega arith
 up_add (suc p) n = let e : suc p + n ≡ suc (p + n) = omega arith in e ∙ ap suc (up_add p n)

@@ -72,7 +72,7 @@ module _ (c : Context) (labels : Labels) where
         met_both c rule (conditions (length labels) i) _ (kept rule) (subst P (sym none) (subst Q (sym same) m));
   }
 
-  -- what is behind a bracket, and behind its end
+  -- what is after a bracket, and after its end
   open_met : (rule : ℕ) (code : List Instr) → AreMet c rule (code_conditions true (suc (length labels)) code) → AreMet c rule (code_conditions true (length labels + 1) code)
   open_met rule code m =
       let P : ℕ → Type 0 = λ n. AreMet c rule (code_conditions true n code) in

@@ -35,7 +35,7 @@ IsMost least (Some most) = most ≡ least
 abbrev pub AreLimits : Limits → Type 0
 AreLimits l = (l.min ≤ 4096) × IsMost l.min l.max
 
--- what is imported: functions of one of so many types, and memories
+-- what is imported: functions of one of that many types, and memories
 abbrev pub ImportFits : ℕ → ImportItem → Type 0
 ImportFits types (imported.Func n) = n < types
 ImportFits types (imported.Memory l) = AreLimits l

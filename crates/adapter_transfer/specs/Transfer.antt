@@ -47,7 +47,7 @@ room_code l = constant Narrow (last_at l) ∷ get_end ∷ numeric (opcode Sub Na
 abbrev pub rounded_code : List Instr
 rounded_code = constant Narrow 7 ∷ numeric (opcode Add Narrow) ∷ constant Narrow 3 ∷ numeric (opcode ShrU Narrow) ∷ constant Narrow 3 ∷ numeric (opcode Shl Narrow) ∷ []
 
--- the end of the used part behind a request whose length is in local 3, in local 3
+-- the end of the used part after a request whose length is in local 3, in local 3
 abbrev pub next_code : List Instr
 next_code = get 3 ∷ (rounded_code ++ get_end ∷ numeric (opcode Add Narrow) ∷ set 3 ∷ [])
 
@@ -92,7 +92,7 @@ pub record IsUsed (l : Layout) (spaces : CoreSpaces) (store : StoreState) (globa
 abbrev pub with_end : StoreState → ℕ → ℕ → StoreState
 with_end store global at = record store { globals = slice_set store.globals global (values.I32 at) }
 
--- a request of so many bytes is answered with the used part's end, which moves on by the next multiple of 8 of the length; one
+-- a request of that many bytes is answered with the used part's end, which moves on by the next multiple of 8 of the length; one
 -- that passes the area's end traps
 abbrev pub Gives : Layout → StoreState → ℕ → ℕ → ℕ → ℕ → Outcome
 Gives l store global at len n = if nat_le (at + padded len) (end_of l) then Done (values.I32 at ∷ []) (with_end store global (at + padded len)) n else Trapped

@@ -21,8 +21,8 @@ use Rattle.adapter_compile.specs.Bounds.{nesting}
 use Rattle.adapter_compile.specs.Handles.{makes_type, drops_type}
 use Rattle.adapter_compile.specs.Does.{core_type, body_of}
 
--- Code in these labels, whatever stands behind it: a sequence that takes the first operands and leaves the others, and that
--- breaks no rule which what is behind it does not break.
+-- Code in these labels, whatever stands after it: a sequence that takes the first operands and leaves the others, and that
+-- breaks no rule which what is after it does not break.
 pub record IsPiece (c : Context) (labels : Labels) (code : List Instr) (before after : List Operand) : Type 0 where
   pub trees : Trees → Trees
   pub spelled : (q : Trees) (rest : List Instr) → code ++ spell q rest ≡ spell (trees q) rest
@@ -30,7 +30,7 @@ pub record IsPiece (c : Context) (labels : Labels) (code : List Instr) (before a
   pub met : (rule : ℕ) (rest : List Instr) →
       AreMet c rule (code_conditions true (length labels) rest) → AreMet c rule (code_conditions true (length labels) (code ++ rest))
 
--- routines over locals of these widths may stand here: the locals are there, behind them so many counters, a memory, and
+-- routines over locals of these widths may stand here: the locals are there, after them that many counters, a memory, and
 -- the functions by which handles are made and dropped
 pub record MayHold (c : Context) (ws : List Width) (counters : ℕ) (calls : HandleCalls) : Type 0 where
   pub locals : (i : ℕ) (w : Width) → HasWidth ws i w → slice_get c.locals i ≡ Some (core_type w)
@@ -45,7 +45,7 @@ RoutinesAreValid =
     (ws : List Width) (calls : HandleCalls) (code : Code) (c : Context) (labels : Labels) →
     IsWellFormed ws [] code → MayHold c ws (nesting code) calls → IsPiece c labels (routine_code ws calls code) [] []
 
--- one piece behind another
+-- one piece after another
 abbrev pub PiecesJoin : Type 0
 PiecesJoin =
     (c : Context) (labels : Labels) (x y : List Instr) (before middle after : List Operand) →
@@ -70,7 +70,7 @@ pub record HasFunctions (c : Context) (calls : HandleCalls) : Type 0 where
   pub makes : (kind f : ℕ) → call_at calls.makes kind ≡ Some f → function_type c f ≡ Some makes_type
   pub drops : (kind f : ℕ) → call_at calls.drops kind ≡ Some f → function_type c f ≡ Some drops_type
 
--- the code of a routine's function, of whose locals so many are parameters
+-- the code of a routine's function, of whose locals that many are parameters
 abbrev pub function_part : Context → ℕ → List Width → HandleCalls → Code → Part
 function_part c params ws calls code =
     let body = body_of params ws calls code in

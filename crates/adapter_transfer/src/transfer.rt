@@ -61,7 +61,7 @@ fn put_room(out: &mut Vec<Instr>, layout: &Layout) -> Result<(), NoMemory>
     put(out, Instr::End)
 }
 
-// The end behind what is asked for.
+// The end after what is asked for.
 fn put_next(out: &mut Vec<Instr>) -> Result<(), NoMemory>
     ensures { OnOk result (out.new.items ≡ out.old.items ++ next_code) }
 {

@@ -1,4 +1,4 @@
--- A name and those behind it, where no step and where some steps are left.
+-- A name and those after it, where no step and where some steps are left.
 use Rattle.std.proofs.Common.{◌≡◌, ℕ, zero, suc, ◌-◌, List, [], ◌∷◌, refl, ap, arith, append_assoc}
 use Rattle.std.proofs.lemmas.List.{append-nil}
 use Rattle.std.specs.List.{flat_map}

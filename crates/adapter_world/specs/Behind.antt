@@ -35,11 +35,11 @@ abbrev pub behind_in : TypeName → Option PlainInterface → List TypeName
 behind_in t None = []
 behind_in t (Some i) = flat_map (defined_by t.name) i.uses ++ flat_map (written_with t.interface t.name) i.types
 
--- what stands right behind a name
+-- what stands right after a name
 abbrev pub behind : List PlainInterface → TypeName → List TypeName
 behind all t = behind_in t (slice_get all t.interface)
 
--- a name, and those behind it through at most so many more
+-- a name, and those after it through at most that many more
 abbrev pub reached : List PlainInterface → ℕ → TypeName → List TypeName
 reached all zero t = t ∷ []
 reached all (suc n) t = t ∷ flat_map (reached all n) (behind all t)
@@ -48,6 +48,6 @@ reached all (suc n) t = t ∷ flat_map (reached all n) (behind all t)
 abbrev pub named_through : List PlainInterface → ℕ → Name → List TypeName
 named_through all interface name = reached all 8 (in_interface interface name)
 
--- the names in a function's type, and all behind them
+-- the names in a function's type, and all after them
 abbrev pub function_types : List PlainInterface → ℕ → PlainNamedFunc → List TypeName
 function_types all interface f = flat_map (named_through all interface) f.names

@@ -133,7 +133,7 @@ fn behind(alloc: Global, all: &[Interface], name: &TypeName) -> Result<TypeNames
     }
 }
 
-/// Adds a name and those with which it is written, through at most so many more.
+/// Adds a name and those with which it is written, through at most that many more.
 #[tactic(auto, using(crate::proofs::Reached::reaching))]
 fn reach(
     alloc: Global,

@@ -18,7 +18,7 @@ pub fn same(row: &str, found: &str, wanted: &str) -> Result<(), Fail> {
     Err(Fail::new(format_args!("{row}: found {found}, not {wanted}")))
 }
 
-/// What stands before a text and behind it.
+/// What stands before a text and after it.
 pub fn parts<'a>(row: &'a str, between: &str) -> Result<(&'a str, &'a str), Fail> {
     match row.split_once(between) {
         Some(parts) => Ok(parts),
@@ -39,7 +39,7 @@ fn answer(alloc: Global, call: &str, given: &str) -> Result<String, Fail> {
     }
 }
 
-/// Each row: a call, what it is given, and behind ` => ` what it answers.
+/// Each row: a call, what it is given, and after ` => ` what it answers.
 pub fn hold(alloc: Global, rows: &str) -> Result<(), Fail> {
     for row in rows.lines() {
         let (asked, wanted) = parts(row, " => ")?;

@@ -212,7 +212,7 @@ module _ {S : Type 0} (h : HostStep S) (old : Moment S) (resource rep : ℕ) (ne
 
 -- ---- a destructor runs, or there is none
 
--- what is left behind a destructor is left in every instance
+-- what is left after a destructor is left in every instance
 behind_any : {S : Type 0} (h : HostStep S) (G : Group) (waiting : List (Awaiting S)) (k at : ℕ) (visit : Visit) (results : List CoreValue) →
     comes_back G (hosted h) (nested 0) k (back_to h G waiting) at (ToDestroy (visits_of visit)) results ≡ behind h G waiting at (ToDestroy (visits_of visit)) results
 behind_any h G waiting k at visits.Own results = refl
@@ -233,7 +233,7 @@ module _ {S : Type 0} (h : HostStep S) (k at : ℕ) (visit : Visit) (depth : Dep
         (stays h old) (leads G waiting [] w lt)
 
     module _ (f : ℕ) (some : destructor ≡ Some f) where
-      -- it runs, and then what is behind it
+      -- it runs, and then what is after it
       abbrev runs_it : (G : Group) → List (Awaiting S) → Nesting → Act (World S) (Option PlainValue)
       runs_it G waiting e = run h G e at f (values.I32 rep ∷ []) >> behind h G waiting at (ToDestroy (visits_of visit))
 

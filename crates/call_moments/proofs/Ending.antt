@@ -1,4 +1,4 @@
--- Core code of the innermost frame came back, and what is behind it goes on; core code asked for a canonical function by its number.
+-- Core code of the innermost frame came back, and what is after it goes on; core code asked for a canonical function by its number.
 use Rattle.std.proofs.Common.{◌≡◌, ◌≤◌, ◌<◌, ℕ, List, [], ◌∷◌, ◌++◌, length, reverse, Option, Some, None, Ok, Err, refl, sym, ap, subst, ◌∙◌}
 use Rattle.std.specs.Prelude.{Result, IsErrAnd, option_map, nat_eq}
 use Rattle.indexmap.specs.IndexMap.{get}
@@ -67,7 +67,7 @@ module _ {S : Type 0} (h : HostStep S) (old mid : Moment S) (results : List Core
     mid_outer : outer ≡ reverse mid.frames
     mid_outer = same_outer ∙ ap (λ (m : Moment S). reverse m.frames) (sym is)
 
-  -- what is behind goes on in the same stores
+  -- what is after goes on in the same stores
   pub code_ends : (new : Moment S) (result : Result Flow Stop) →
       ((G : Group) (waiting : List (Awaiting S)) (types : List CoreType) → frame.instance < length mid.instances → Waits h G mid waiting (loans_behind frame.purpose) (due_behind frame.purpose) →
       PurposeFits (scenes_of mid.instances) (instance_of (reverse mid.frames)) frame.instance frame.purpose → RoomOf (sizes_of mid.instances) frame.purpose → WillAnswer (scenes_of mid.instances) frame.purpose types → HaveTypes types results →

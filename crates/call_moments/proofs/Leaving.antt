@@ -68,7 +68,7 @@ module _ {S : Type 0} (h : HostStep S) (G : Group) (m : Moment S) (waiting : Lis
         is = given value;
       }
 
-  -- nothing is left to do behind a host's answer
+  -- nothing is left to do after a host's answer
   pub left_host : (e : Nesting) (due : Due) (go : Act (World S) (Option PlainValue)) → so_far m (is_left G (hosted h) (nested 0) e (Below due) >> λ _. go) ≡ so_far m go
   left_host e due go = ap (seen_before m.kept.seen) (host_left h e (world_of m.instances m.kept.state) m.budget due (λ _. go))
 

@@ -49,7 +49,7 @@ use Rattle.call_moments.proofs.Following.{same_after, ends_by, begin_then, begin
 -- ---- an answer that is made of another one
 
 module _ {S A B : Type 0} (h : HostStep S) (G : Group) (m : Moment S) (x : Act (World S) A) (f : A → B) where
-  -- what is done behind what was seen
+  -- what is done after what was seen
   with_answer : so_far m (x >> λ a. gives (f a)) ≡ then_do (so_far m x) (λ a. gives (f a))
   unfolding ◌>>◌
   with_answer = sym (before_then m.kept.seen (x (world_of m.instances m.kept.state) m.budget) (λ a. gives (f a)))
@@ -217,7 +217,7 @@ module _ {S : Type 0} (h : HostStep S) (old : Moment S) (args : PlainValues) whe
         let d : Same old new × IsDone h G (so_far old (whole G)) new (option_map plain_value o) = subst (λ x. Leads h G (so_far old (whole G)) old (Ok x) new) f (lifted_so value v (Ok flow) new leads G r can) in
         (d.0, d.1.rest, own_so G can.params ∙ next_with h G old (whole G) out_of new.kept.seen new.budget (world_of new.instances new.kept.state) (option_map plain_value o) d.1.is ∙ ap (λ a. Next new.kept.seen new.budget (world_of new.instances new.kept.state) a) (sym e))
 
-    -- or behind core code
+    -- or after core code
     module _ (value : PlainValue) (v : value ≡ tuple_of_args) (mid : Moment S) (flow : Flow) (leads : CallsLifted h old callee lifting callers.Outside depth value (Ok flow) mid) (f : flow ≡ flows.Goes) where
       goes_so : (G : Group) → IsAtRest h G old → CanCall G old (Mine callee lifting) args → Same old mid × GoesOn h G (so_far old (whole G)) mid
       goes_so G r can = subst (λ x. Leads h G (so_far old (whole G)) old (Ok x) mid) f (lifted_so value v (Ok flow) mid leads G r can)
@@ -267,7 +267,7 @@ module _ {S : Type 0} (h : HostStep S) (old : Moment S) (args : PlainValues) (im
   abbrev tuple_in : PlainValue
   tuple_in = RecordValue args
 
-  -- it is called, behind the step of the call
+  -- it is called, after the step of the call
   abbrev asks_it : Act (World S) (Option PlainValue)
   asks_it = below ((hosted h).ask (nested 0) Inside import (passed_by (params_tuple import.ty) tuple_in)) >> λ a. gives (Some a.passed.value)
 

@@ -203,7 +203,7 @@ module _ {S : Type 0} (h : HostStep S) (s : Storing) (old : Moment S) (answer : 
               room = λ x e. subst (λ (q : Plan). IsRoomy (sizes_of mid.instances k x) q.due q.left) (sym left_is) (roomy x e);
             }
 
-            -- what comes behind room that is asked for, by a plan
+            -- what comes after room that is asked for, by a plan
             abbrev asks_by : Plan → Out (World S) (Option PlainValue)
             asks_by q =
                 so_far mid (is_storing G (hosted h) (nested 0) (instance_in waiting) (back_to h G waiting) k (record { options = options_of s.options; depth = depth_of s.depth; types = q.types; next = next_of s.then })

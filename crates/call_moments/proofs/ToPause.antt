@@ -61,7 +61,7 @@ use Rattle.call_moments.proofs.Resuming.{calls_twice, same_calls}
 use Rattle.call_moments.proofs.Results.{innermost_is}
 use Rattle.call_moments.proofs.Serves.{ends_as}
 
--- some results, so many
+-- some results, that many
 abbrev some_results : ℕ → List CoreValue
 some_results n = replicate n (values.I32 0)
 
@@ -131,7 +131,7 @@ module _ {S : Type 0} (h : HostStep S) (old : Moment S) where
       pub same : Same old mid
       same = record { group = refl; scenes = scenes }
 
-      -- what is behind the code
+      -- what is after the code
       abbrev behind_it : List CoreValue → Act (World S) (Option PlainValue)
       behind_it = ends_in G (hosted h) (nested 0) g.waiting g.frame.instance (purpose_of g.frame.purpose)
 

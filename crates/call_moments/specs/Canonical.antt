@@ -72,7 +72,7 @@ module _ {S : Type 0} (h : HostStep S) where
 
   -- ---- canonical functions
 
-  -- a canonical function does this for core code of an instance, in which so many calls are in progress, and its results go back
+  -- a canonical function does this for core code of an instance, in which that many calls are in progress, and its results go back
   abbrev pub Performs : Moment S → ℕ → Nesting → Func → List CoreValue → Result Flow Stop → Moment S → Type 0
   Performs old k e func args result new =
       (G : Group) (waiting : List (Awaiting S)) → Waits h G old waiting [] (Some (length (core_type_of func).results)) → k ≡ instance_of (reverse old.frames) →

@@ -18,7 +18,7 @@ use Rattle.comp_worlds.specs.Hosts.{hosted}
 use Rattle.comp_frames.specs.Running.{running}
 use Rattle.comp_frames.specs.Pausing.{IsRunBy, LeadsTo}
 
--- of at most 65,536 calls so many are in progress
+-- of at most 65,536 calls that many are in progress
 abbrev pub nested : ℕ → Nesting
 nested calls = Nested 65536 calls
 
@@ -26,7 +26,7 @@ module _ {S : Type 0} (h : HostStep S) (G : Group) where
   abbrev pub Code : Type 0
   Code = Act (World S) (List CoreValue)
 
-  -- A machine runs a call that began behind the others, and it does this in every world where the instance has that store.
+  -- A machine runs a call that began after the others, and it does this in every world where the instance has that store.
   pub record HasBegun (k f : ℕ) (args : List CoreValue) (calls : ℕ) (old new : Runs) : Type 0 where
     pub machine : Machine
     pub last : new.calls ≡ old.calls ++ record { machine = machine; nesting = calls } ∷ []

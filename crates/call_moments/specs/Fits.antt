@@ -39,7 +39,7 @@ answers_in f None = []
 answers_in f (Some w) = results_at w f
 
 module _ (scenes : List Scene) where
-  -- in the store of the instance k is a function that takes so many values
+  -- in the store of the instance k is a function that takes that many values
   abbrev pub Takes : (k f count : ℕ) → Type 0
   Takes k f count = IsSomeAnd (slice_get scenes k) (λ w. IsCallable (slice_get w.functions f) count)
 

@@ -17,7 +17,7 @@ use Rattle.call_moments.specs.Shown.{purpose_of}
 use Rattle.call_moments.specs.Standing.{Calls, with_calls, with_store, AllStand, Goes}
 
 module _ {S : Type 0} (h : HostStep S) (G : Group) where
-  -- the code that goes on, and that what was left there is this code and what is left behind it
+  -- the code that goes on, and that what was left there is this code and what is left after it
   pub record GoOn (d : ℕ) (stores : ℕ → State) (calls : Calls) (f : Frame) (fs : List Frame) (a : Awaiting S) (waiting : List (Awaiting S)) (old : State) (results : List CoreValue) : Type 0 where
     pub code : Act (World S) (List CoreValue)
     pub goes : Goes h G stores calls f fs code waiting

@@ -83,7 +83,7 @@ ComesLater (Write base offset bytes ∷ steps) = ⊥
 ComesLater (Place base offset request ∷ steps) = ⊥
 ComesLater (Refuse ∷ steps) = Unit {0}
 
--- a function is there that takes so many values, and what is behind it fits
+-- a function is there that takes that many values, and what is after it fits
 pub record CanBegin (scenes : List Scene) (sizes : ℕ → ℕ → ℕ) (below k f count : ℕ) (purpose : Purpose) : Type 0 where
   pub takes : Takes scenes k f count
   pub fits : PurposeFits scenes below k purpose

@@ -6,7 +6,7 @@ use Rattle.core_store.specs.declared.value.StoreFunc.{StoreFunc}
 use Rattle.core_store.specs.declared.value.StoreFunc.TheVariants.{Outside}
 use Rattle.core_store.specs.Scene.{CameBack}
 
--- what awaits results, since the store was some other and so many calls were in progress, still may get them
+-- what awaits results, since the store was some other and that many calls were in progress, still may get them
 abbrev pub AwaitsStill : State → State → Type 0
 AwaitsStill s t = (since : State) (calls : ℕ) → CameBack since (record s { nesting = calls }) → CameBack since (record t { nesting = calls })
 

@@ -52,7 +52,7 @@ pub record StoresAreLeft : Type 0 where
   pub adds : (plain : ℕ → ℕ → Option ℕ) (handles : List (Handle ℕ)) → LeavesStore (adds_handles plain handles)
   pub ends : (loans : List ℕ) → LeavesStore (ends_loans loans)
 
--- The code behind the outer calls awaits results of a function of the embedder that is in the store, which it asked for with arguments of
+-- The code after the outer calls awaits results of a function of the embedder that is in the store, which it asked for with arguments of
 -- its types.
 pub record AwaitsHost (outer : List CoreCall) (number : ℕ) (args : List CoreValue) (old new : Runs) : Type 0 where
   pub machine : Machine

@@ -14,7 +14,7 @@ use Rattle.call_moments.specs.declared.depth.Depth.{Depth}
 use Rattle.call_moments.specs.Steps.{BeginsCall}
 use Rattle.call_moments.specs.Asking.{called, Asks}
 
--- of at most 65,536 calls so many are in progress
+-- of at most 65,536 calls that many are in progress
 abbrev pub nested : ℕ → Nesting
 nested calls = Nested 65536 calls
 
@@ -30,7 +30,7 @@ IsBegun w old calls new (Err stops.NoMemory) = ⊥
 abbrev pub CallsBegin : {S : Type 0} → HostStep S → Type 0
 CallsBegin {S} h = (w : World S) (old calls new : ℕ) (result : Result Depth Stop) → BeginsCall old calls new result → IsBegun w old calls new result
 
--- how the call of an import comes out, with these arguments and so many steps, in a world with this host
+-- how the call of an import comes out, with these arguments and that many steps, in a world with this host
 abbrev pub ComesOut : {S : Type 0} → HostStep S → (ℕ → Config ℕ) → S → Import → PlainValue → ℕ → Out (World S) Answer → Result Value Stop → Type 0
 ComesOut h configs s i args n out (Ok value) =
     out ≡ Next (h.call s (called i args)).seen n (record { configs = configs; below = (h.call s (called i args)).next }) (record { passed = passed_by (answer_tuple i.ty) (plain_value value); due = Nothing })

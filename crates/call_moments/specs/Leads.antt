@@ -50,7 +50,7 @@ maps_of instances k = (configs_of instances k).map
 abbrev pub sizes_of : List Instance → ℕ → ℕ → ℕ
 sizes_of instances k at = length (memory_at (stores_of instances k) at).bytes
 
--- what is left of a run at a moment, behind all that was seen
+-- what is left of a run at a moment, after all that was seen
 abbrev pub so_far : {S A : Type 0} → Moment S → Act (World S) A → Out (World S) A
 so_far m rest = seen_before m.kept.seen (rest (world_of m.instances m.kept.state) m.budget)
 
@@ -68,7 +68,7 @@ abbrev pub OneGoes : List Instance → ℕ → Type 0
 OneGoes instances at = (k : ℕ) (i : Instance) → slice_get instances k ≡ Some i → i.code.going ≡ (k == at)
 
 module _ {S : Type 0} (h : HostStep S) (G : Group) where
-  -- a canonical call is in progress, with these loans beside those of the frames: all core code awaits results, the innermost so many
+  -- a canonical call is in progress, with these loans beside those of the frames: all core code awaits results, the innermost that many
   pub record Waits (m : Moment S) (waiting : List (Awaiting S)) (loans : List Loan) (count : Option ℕ) : Type 0 where
     pub fits : Fits G m.group (scenes_of m.instances)
     pub still : AreStill m.instances
@@ -106,7 +106,7 @@ module _ {S : Type 0} (h : HostStep S) (G : Group) where
     pub rest : IsAtRest m
     pub is : whole ≡ Next m.kept.seen m.budget (world_of m.instances m.kept.state) value
 
-  -- what a run that was ended says of what was left, at want of memory nothing
+  -- what a run that was ended says of what was left, where memory ran out, nothing
   abbrev pub Ends : {A : Type 0} → Out (World S) A → Moment S → Stop → Type 0
   Ends whole m stops.Trapped = whole ≡ Over m.kept.seen Trapped
   Ends whole m stops.ScriptEnded = whole ≡ Over m.kept.seen ScriptEnded

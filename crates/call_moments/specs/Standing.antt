@@ -31,7 +31,7 @@ module _ {S : Type 0} (h : HostStep S) (G : Group) (stores : ℕ → State) wher
     pub instance : a.instance ≡ f.instance
     pub purpose : a.purpose ≡ purpose_of f.purpose
     pub now : a.now ≡ c.nesting
-    -- as it began so many calls were in progress
+    -- as it began that many calls were in progress
     pub begun : ℕ
     pub since : State
     pub resumes : AwaitsSince h G (nested begun) f.instance c.machine since a.resume

@@ -14,7 +14,7 @@ TakesStep old new (Err stops.BadAnswer) = ⊥
 TakesStep old new (Err stops.TooDeep) = ⊥
 TakesStep old new (Err stops.NoMemory) = ⊥
 
--- where so many calls are in progress: one more is, or no step was left, or none for the last of too many calls, or that is too deep
+-- where that many calls are in progress: one more is, or no step was left, or none for the last of too many calls, or that is too deep
 abbrev pub BeginsCall : ℕ → ℕ → ℕ → Result Depth Stop → Type 0
 BeginsCall old calls new (Ok depth) = (old ≡ new + 1) × (calls < 65536) × (depth.calls ≡ calls + 1)
 BeginsCall old calls new (Err stops.Spent) = (old ≤ 1) × (calls < 65536 → old ≡ 0)

@@ -1,4 +1,4 @@
--- Core code in progress that fits what is behind it: how many results it awaits, what it will answer, and that what it names is there.
+-- Core code in progress that fits what is after it: how many results it awaits, what it will answer, and that what it names is there.
 -- Frames are given innermost first here, as in `Standing` of frame_laws.
 use Rattle.std.specs.Prelude.{◌≡◌, ◌<◌, ℕ, List, [], ◌∷◌, ◌++◌, length, map, Option, Some, None, Bool, true, false}
 use Rattle.virt_base.specs.declared.core_type.CoreType.{CoreType}
@@ -57,7 +57,7 @@ abbrev pub instance_of : List Frame → ℕ
 instance_of [] = 0
 instance_of (f ∷ fs) = f.instance
 
--- ---- an answered call is left where so many calls were in progress in its function
+-- ---- an answered call is left where that many calls were in progress in its function
 
 abbrev pub IsDueAt : Nesting → Due → Type 0
 IsDueAt e dues.Host = Unit {0}
@@ -142,7 +142,7 @@ module _ (scenes : List Scene) where
     pub purpose : PurposeFits (instance_of fs) f.instance f.purpose
     pub answers : WillAnswer f.purpose (answers_of scenes f.instance c.machine.entry)
 
-  -- each frame's call awaits what is due to it of what is inside, and what is behind it fits
+  -- each frame's call awaits what is due to it of what is inside, and what is after it fits
   abbrev pub AllAwait : Calls → List Frame → Option ℕ → Type 0
   AllAwait calls [] None = Unit {0}
   AllAwait calls [] (Some count) = ⊥

@@ -1,4 +1,4 @@
--- What a function of `World` begins in an instance, said in the terms of code: by the types by which values pass, by a lifting behind its
+-- What a function of `World` begins in an instance, said in the terms of code: by the types by which values pass, by a lifting after its
 -- pointer, and by how a call that failed ends the run.
 use Rattle.std.proofs.Common.{◌≡◌, ℕ, Bool, true, false, List, [], Option, Some, None, Ok, Err, refl, sym, ap, subst, ◌∙◌, length}
 use Rattle.std.specs.Prelude.{Result, IsErrAnd, Vec, slice_get}
@@ -67,7 +67,7 @@ pub ends_so : {A : Type 0} (P : Result A Stop → Type 0) (stop : Stop) (result 
 ends_so P stop (Ok a) e p = absurd e
 ends_so P stop (Err s) e p = subst (λ x. P (Err x)) (sym e) p
 
--- the result of a lifted function, behind its pointer
+-- the result of a lifted function, after its pointer
 pub lifted_as : {S : Type 0} (h : HostStep S) (old new : Moment S) (k : ℕ) (results : List CoreValue) (result : Result Value Stop) (l l' : Lifting) → l ≡ l' → LiftsResult h old k (lifting_of l) results result new → LiftsResult h old k (lifting_of l') results result new
 lifted_as h old new k results result l l' is r = subst (λ (x : Lifting). LiftsResult h old k (lifting_of x) results result new) is r
 

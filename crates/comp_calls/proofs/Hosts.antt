@@ -22,7 +22,7 @@ module _ {S : Type 0} (h : HostStep S) (old : Moment S) (import : Import) (args 
   asked_fails new (Ok value) e = absurd e
   asked_fails new (Err stop) e = subst (λ s. AsksHost h old import args (Err s) new) (sym e) (λ G d go. tt)
 
-  -- behind the call that was made, and its answer
+  -- after the call that was made, and its answer
   module _ (call : PlainCall) (is : call ≡ called import args) (answer : PlainAnswer) (answers : answer ≡ answer_of h old.kept call) (after : Kept S) (next : after ≡ reacts h old.kept call) where
     abbrev pub behind : Moment S
     behind = record old { kept = after }

@@ -6,7 +6,7 @@ use Rattle.call_moments.specs.declared.frame.Purpose.TheVariants.{Starts, Serves
 use Rattle.call_moments.specs.declared.frame.Stored.{Stored}
 use Rattle.call_moments.specs.declared.frame.Stored.TheVariants.{Params, Result}
 
--- behind the last `realloc` for parameters the function runs, which takes no step of its own
+-- after the last `realloc` for parameters the function runs, which takes no step of its own
 abbrev pub weight : Purpose → ℕ
 weight Starts = 1
 weight (Serves service) = 1

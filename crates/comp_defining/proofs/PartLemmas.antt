@@ -7,7 +7,7 @@ use Rattle.wit_types.specs.Plain.{Name, Plain, Parts, End, More, Bare, plain, fi
 use Rattle.comp_facts.specs.Facts.{and_part, and_bare}
 use Rattle.comp_defining.specs.Parts.{and_case}
 
--- the one behind the other
+-- the one after the other
 abbrev pub and_parts : Parts → Parts → Parts
 and_parts End qs = qs
 and_parts (More n t rest) qs = More n t (and_parts rest qs)

@@ -36,7 +36,7 @@ then_same {W} {A} x f g w n h = at (x w n)
     at (Over o e) = refl
     at (Spent o) = refl
 
--- one after the other, and what comes behind both
+-- one after the other, and what comes after both
 pub after_both : {W A B C D : Type 0} → (x : Act W A) (f : A → Act W B) (g : B → Act W D) (f' : A → Act W C) (g' : C → Act W D) (w : W) (n : ℕ) → ((a : A) (w' : W) (l : ℕ) → (f a >> g) w' l ≡ (f' a >> g') w' l) →
     ((x >> f) >> g) w n ≡ ((x >> f') >> g') w n
 after_both x f g f' g' w n h = then_then x f g w n ∙ then_same x (λ a. f a >> g) (λ a. f' a >> g') w n h ∙ sym (then_then x f' g' w n)

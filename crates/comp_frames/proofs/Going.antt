@@ -30,7 +30,7 @@ module _ {S : Type 0} (G : Group) (p : Ports S) (fair : Fair p) where
       (λ reply. goes_agree G p fair n d k (λ replies. X (reply ∷ replies)) (λ replies. rest (reply ∷ replies)))
       n (X [] n) (omega arith) (rest [] n) w).0 i
 
-  -- with so many steps taken, from a question on
+  -- with that many steps taken, from a question on
   module _ (b n t : ℕ) (most : n ≤ b) (d : Nesting) (k : ℕ) (X : Rest) (rest : IsRest X)
       (so : (reply : Reply) (m : ℕ) → m < b → (w : World S) → going G p d k (λ replies. X (reply ∷ replies)) w (t + m) ≡ going G p d k (λ replies. granted X t (reply ∷ replies)) w m) where
     abbrev again : Reply → Act (World S) (List CoreValue)

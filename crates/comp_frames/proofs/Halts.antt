@@ -79,7 +79,7 @@ module _ {S : Type 0} (k at : ℕ) where
       ∙ ap (λ ms. with_config (world_with w k at m) k (with_store (w.configs k) (record (w.configs k).store { memories = ms }))) (set_twice (w.configs k).store.memories at m m')
       ∙ world_twice w k (config_with (w.configs k) at m) (config_with (w.configs k) at m')
 
--- a test of an instance, and what comes behind it
+-- a test of an instance, and what comes after it
 pub on_test : {S A B : Type 0} → (k : ℕ) (c : Bool) (a : A) (go : A → Act (World S) B) (w : World S) (n : ℕ) (op : Config ℕ → Option (Local ℕ A)) → op (w.configs k) ≡ also c (Some (gives_in a (w.configs k))) →
     (on k op >> go) w n ≡ pick c (go a w n) (Over [] Trapped)
 unfolding ◌>>◌ on
@@ -107,7 +107,7 @@ within_is m place len le = grind (arith, nat_tests)
 pub keeps_length : (m : Linear) (place : ℕ) (bytes : List ℕ) → place + length bytes ≤ length m.bytes → length (written m place bytes).bytes ≡ length m.bytes
 keeps_length m place bytes le = length_replaced m.bytes place bytes le
 
--- behind a request what is left stays within its room
+-- after a request what is left stays within its room
 pub asks_within : (flats : List FlatItem) (steps : List Step) (m : Linear) (align len : ℕ) (left : Lowered) (new : Linear) → StayWithin (Some (length m.bytes)) [] steps → goes flats steps m ≡ Asks align len left new →
     StayWithin (Some (length m.bytes)) (len ∷ []) left.steps × (length new.bytes ≡ length m.bytes)
 asks_within flats [] m align len left new h e = absurd (cc)

@@ -33,7 +33,7 @@ module _ {S A : Type 0} (h : HostStep S) (d : Nesting) (w : World S) (n : ℕ) w
     unfolding reacts
     host_bad is = below_over w n (reacts h import passed) go _ _ (ap (λ a. answered_by (h.call w.below (call_of import passed)).seen (h.call w.below (call_of import passed)).next (answer_tuple import.ty) a n) is)
 
-  -- nothing is left to do behind a call
+  -- nothing is left to do after a call
   pub host_left : (due : Due) (go : Unit {0} → Act (World S) A) → (below ((hosted h).leave d due) >> go) w n ≡ go tt w n
   unfolding ◌>>◌ below stays
   host_left due go = nothing_before (go tt w n)

@@ -142,7 +142,7 @@ items_within memory store width each rooms (Values v vs) b at k is h =
     both_within memory rooms (store v b at k) (item_steps store width vs b (at + width) (k + requests (store v b at k))) (each rooms v b at k is first)
     (items_within memory store width each (rooms ++ asked (store v b at k)) vs b (at + width) (k + requests (store v b at k)) (as_many rooms k (store v b at k) is) (later memory rooms (asked (store v b at k)) b _ others))
 
--- behind the request of a list
+-- after the request of a list
 list_items : (memory : Option ℕ) (store : PlainValue → Base → ℕ → ℕ → List Step) (item : Plain) →
     ((rooms : List ℕ) (v : PlainValue) (b : Base) (at k : ℕ) → length rooms ≡ k → InRoom memory rooms b (at + size item) → StayWithin memory rooms (store v b at k)) →
     (rooms : List ℕ) (vs : PlainValues) (k : ℕ) (rest : List Step) → length rooms ≡ k → ((more : List ℕ) → StayWithin memory ((rooms ++ count_values vs * size item ∷ []) ++ more) rest) → (c : Bool) →
@@ -169,7 +169,7 @@ list_within memory store item each rooms vs k rest is h = at (nat_lt (count_valu
     at true = list_items memory store item each rooms vs k rest is h (is_number item)
     at false = tt
 
--- the place of a list, behind it
+-- the place of a list, after it
 list_cell : (memory : Option ℕ) (rooms : List ℕ) (b : Base) (at k len n : ℕ) → length rooms ≡ k → InRoom memory rooms b (at + 8) → (more : List ℕ) → StayWithin memory ((rooms ++ len ∷ []) ++ more) (place_and_length b at k n)
 list_cell memory rooms b at k len n is h more =
     cell_within memory ((rooms ++ len ∷ []) ++ more) b at k n (let longer = length-append (rooms ++ len ∷ []) more in let one = one_more rooms k len is in omega arith)

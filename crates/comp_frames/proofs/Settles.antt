@@ -44,7 +44,7 @@ place_settled target given behind Target offset = omega arith
 place_settled target given behind (Answer k) offset = ap (λ n. n + offset) (known_or_later given behind k (nat_lt k (length given)) refl) ∙ place_after target given behind k offset (nat_lt k (length given))
 
 module _ {S : Type 0} (G : Group) (p : Ports S) (run : Run S) (d : Nesting) (k : ℕ) (options : Options) where
-  -- what is put at a place, and then the steps behind it
+  -- what is put at a place, and then the steps after it
   puts : ℕ → List ℕ → ℕ → List ℕ → List Step → List FlatItem → Act (World S) (List ℕ)
   puts at bytes target answers steps flats = (on k (writes options at bytes) >> λ _. stores G p run d k options target answers steps) >> λ all. gives (map (flat_word all) flats)
 

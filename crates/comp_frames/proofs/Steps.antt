@@ -1,4 +1,4 @@
--- Acts one after the other, with what is left brought behind each of them.
+-- Acts one after the other, with what is left brought after each of them.
 use Rattle.std.proofs.Common.{◌≡◌, ℕ, List, [], ◌∷◌, Option, Some, None, Bool, true, false, refl, sym, ◌∙◌, ap}
 use Rattle.std.specs.Prelude.{◌==◌}
 use Rattle.core_store.specs.declared.value.CoreValue.{CoreValue}
@@ -20,7 +20,7 @@ use Rattle.comp_frames.specs.Left.{goes_granted}
 use Rattle.comp_frames.specs.Frames.{Asker, Caller, FromOutside, FromCode, Rest, is_left, goes_back, is_answered, has_served, is_stored, ends_in}
 use Rattle.comp_frames.specs.Laws.{is_called, calls_lifted, asks_target, destroys, drops_own, drops_taken, CallsGoBack, CallsFromOutside, StoringGoesOn, LeavesCalls}
 
--- with what comes behind two acts
+-- with what comes after two acts
 then_both : {W A B C D : Type 0} → (x : Act W A) (y : A → Act W B) (f : A → B → Act W C) (g : C → Act W D) → ((x >> λ a. y a >> f a) >> g) ≡ (x >> λ a. y a >> λ b. f a b >> g)
 then_both x y f g = then_then x (λ a. y a >> f a) g ∙ then_alike x _ _ (λ a. then_then (y a) (f a) g)
 
@@ -47,7 +47,7 @@ module _ {S : Type 0} (G : Group) (h : HostStep S) (d : Nesting) where
 
   -- ---- lifted functions
 
-  -- a lifted function is called, and `more` comes behind its answer
+  -- a lifted function is called, and `more` comes after its answer
   module _ (k : ℕ) (back : List CoreValue → Rest G P d) (caller : Caller) (e : Nesting) (callee : ℕ) (lifting : Lifting) (more : Answer → Rest G P d)
       (same : (q : Passed ℕ) (results : List CoreValue) → more (record { passed = q; due = Served callee lifting results }) ≡ is_answered G P d k back caller (deeper e) (record { passed = q; due = Served callee lifting results })) where
     abbrev answer : Passed ℕ → List CoreValue → Answer
@@ -191,7 +191,7 @@ module _ {S : Type 0} (G : Group) (h : HostStep S) (d : Nesting) where
   from_outside : (e : Nesting) (answer : Answer) → Rest G P d
   from_outside e answer = leaves G P run e answer.due >> λ _. gives (Some answer.passed.value)
 
-  -- nothing is left to do behind a call of the host
+  -- nothing is left to do after a call of the host
   left_host : {A : Type 0} → (e : Nesting) (due : Due) (x : Act (World S) A) → (below ((hosted h).leave e due) >> λ _. x) ≡ x
   left_host e due x = λ i w n. host_left h e w n due (λ _. x) i
 

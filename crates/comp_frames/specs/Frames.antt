@@ -31,7 +31,7 @@ pub data Caller : Type 0 where
   FromOutside : Caller
   FromCode : (asker : Asker) → Caller
 
--- a call of a lifted function of an instance, in which so many calls are in progress
+-- a call of a lifted function of an instance, in which that many calls are in progress
 pub record Service : Type 0 where
   pub instance : ℕ
   pub lifting : Lifting
@@ -60,7 +60,7 @@ pub data Purpose : Type 0 where
   Starts : Purpose
   -- the core function of a lifted function
   Serves : (service : Service) → Purpose
-  -- `realloc`, with what was asked for and what is to be stored behind that
+  -- `realloc`, with what was asked for and what is to be stored after that
   Grants : (storing : Storing) (align len : ℕ) (left : Lowered) → Purpose
   -- a post-return
   Returns : (back : Back) → Purpose
@@ -86,7 +86,7 @@ module _ {S : Type 0} (G : Group) (p : Ports S) (d : Nesting) where
   abbrev pub Rest : Type 0
   Rest = Act (World S) (Option PlainValue)
 
-  -- an answered call is left, where so many calls were in progress in its function
+  -- an answered call is left, where that many calls were in progress in its function
   abbrev pub is_left : Nesting → Due → Act (World S) (Unit {0})
   is_left e Nothing = gives tt
   is_left e (Below due) = below (p.leave e due)

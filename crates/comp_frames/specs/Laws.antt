@@ -25,7 +25,7 @@ use Rattle.comp_frames.specs.Frames.{Asker, Caller, FromOutside, FromCode, Param
 module _ {S : Type 0} (G : Group) (h : HostStep S) (d : Nesting) where
   -- what is done by code of the instance k is asked of these, and goes back to it
   module _ (k : ℕ) (back : List CoreValue → Rest G (hosted h) d) where
-    -- parameters are lowered into the instance that is called, in which so many calls are in progress, and its function runs
+    -- parameters are lowered into the instance that is called, in which that many calls are in progress, and its function runs
     abbrev pub is_called : Caller → Nesting → ℕ → Lifting → Passed ℕ → Rest G (hosted h) d
     is_called caller e callee lifting passed =
         on callee (adds_handles (borrowed G plainly callee) (handles_of (params_tuple lifting.ty) passed)) >> λ indexes.

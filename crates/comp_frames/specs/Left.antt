@@ -29,11 +29,11 @@ module _ {S : Type 0} (G : Group) (p : Ports S) (run : Run S) (d : Nesting) (k :
   abbrev pub does_left : Lowered → Act (World S) (List ℕ)
   does_left left = finishes 0 [] left
 
-  -- the same behind a request, with what realloc answered to it
+  -- the same after a request, with what realloc answered to it
   abbrev pub goes_granted : (align len : ℕ) → Lowered → List ℕ → Act (World S) (List ℕ)
   goes_granted align len left results = on k (is_granted options align len results) >> λ at. does_left (answered at left)
 
-  -- the same behind what is due
+  -- the same after what is due
   abbrev pub does_due : Due → Lowered → Option ℕ → Act (World S) (List ℕ)
   does_due Nothing left answer = does_left left
   does_due (Given place align len) left answer = on k (has_place options align len place) >> λ _. does_left left

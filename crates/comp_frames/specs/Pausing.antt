@@ -15,7 +15,7 @@ use Rattle.comp_frames.specs.Running.{IsRest, stored, running, driving, going}
 
 module _ {S : Type 0} (G : Group) (p : Ports S) (d : Nesting) (k : ℕ) where
   -- This act is what is left of core code of the instance k that the machine runs: of a call that began in `first`, these replies
-  -- were used and so many steps taken.
+  -- were used and that many steps taken.
   pub record IsRunBy (m : Machine) (s : State) (act : Act (World S) (List CoreValue)) : Type 0 where
     pub first : State
     pub function : ℕ
@@ -25,7 +25,7 @@ module _ {S : Type 0} (G : Group) (p : Ports S) (d : Nesting) (k : ℕ) where
     pub follows : Follows first function args used taken m s
     pub is : act ≡ with_more taken (driving G p d k function args first used)
 
-  -- a question is answered by a canonical call, where so many calls are in progress, and then
+  -- a question is answered by a canonical call, where that many calls are in progress, and then
   abbrev pub asks : (number : ℕ) (args : List CoreValue) (now : ℕ) → (Reply → Act (World S) (List CoreValue)) → Act (World S) (List CoreValue)
   asks number args now resume =
       begins_call (at_depth d now) >> λ _.

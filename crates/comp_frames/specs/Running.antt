@@ -12,7 +12,7 @@ use Rattle.comp_worlds.specs.Locals.{with_store}
 use Rattle.comp_worlds.specs.Calls.{with_config, Pause, core_end, Run, answers_if, leaves, drops_given, goes_on, drives, runs, deep_enough}
 use Rattle.comp_worlds.specs.Observed.{Call, without_handles}
 
--- what core code does with the replies that it is still given, in so many steps more
+-- what core code does with the replies that it is still given, in that many steps more
 abbrev pub Rest : Type 0
 Rest = List Reply → ℕ → Outcome
 
@@ -37,7 +37,7 @@ module _ {S : Type 0} (G : Group) (p : Ports S) where
   abbrev pub driving : Nesting → ℕ → ℕ → List CoreValue → State → List Reply → Act (World S) (List CoreValue)
   driving d k f args store replies = deep_enough (λ fuel. drives G p fuel d k f args store replies)
 
-  -- core code from where it stands, its questions being at most so many
+  -- core code from where it stands, its questions being at most that many
   abbrev pub goes_to : (fuel : ℕ) → Nesting → ℕ → Rest → Act (World S) (List CoreValue)
   goes_to zero d k X = spent
   goes_to (suc fuel) d k X = comes_to k X >> goes_on G p (running) (λ reply. goes_to fuel d k (λ replies. X (reply ∷ replies))) d k

@@ -23,7 +23,7 @@ GoesOn =
 abbrev pub HasRoom : Type 0
 HasRoom = (memory place : ℕ) (ty : Plain) (v : PlainValue) → IsRoomy memory (at_plan place ty v).due (at_plan place ty v).left × IsRoomy memory (flat_plan ty v).due (flat_plan ty v).left × IsRoomy memory (spill_plan ty v).due (spill_plan ty v).left
 
--- behind a request what is left stays within a memory that is as long, or longer
+-- after a request what is left stays within a memory that is as long, or longer
 abbrev pub KeepsRoom : Type 0
 KeepsRoom =
     (due : Due) (left after : Lowered) (answer : Option ℕ) (align len grown : ℕ) (m new : Linear) → IsRoomy (length m.bytes) due left → goes_on due left answer m ≡ Asks align len after new → length m.bytes ≤ grown →

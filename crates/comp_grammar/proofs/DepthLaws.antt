@@ -1,4 +1,4 @@
--- A spelling in which at most so many components stand in one another is a spelling of a component that is at most so deep.
+-- A spelling in which at most that many components stand in one another is a spelling of a component that is at most so deep.
 use Rattle.std.proofs.Common.{◌≡◌, ℕ, zero, suc, ◌+◌, ◌≤◌, Bool, true, false, eqb, ltb, List, [], ◌∷◌, length, refl, sym, ap, subst, ◌∙◌, arith}
 use Rattle.std.specs.Prelude.{max}
 use Rattle.std.specs.List.{AllByRecursion}

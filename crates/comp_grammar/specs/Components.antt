@@ -94,7 +94,7 @@ placed_module = spanned beside core_module
 unfoldable pub placed : Format Tree → Format (Span × Tree)
 placed inner = spanned beside inner
 
--- a nested component, behind the id, which is spelled as inner says
+-- a nested component, after the id, which is spelled as inner says
 unfoldable pub nested_section : Format Tree → Format Part
 nested_section inner = image (λ p. Nested p.0 p.1) nested_in (sized (placed inner))
 
@@ -143,14 +143,14 @@ preamble = 0 ∷ 0x61 ∷ 0x73 ∷ 0x6D ∷ 0x0D ∷ 0 ∷ 1 ∷ 0 ∷ []
 abbrev pub too_nested : Format Tree
 too_nested = record { Spells = λ at t text. ⊥; read = λ p. Err TooNested; Fits = λ t. ⊥; write = λ t. [] }
 
--- the sections behind the preamble, to the end of the bytes
+-- the sections after the preamble, to the end of the bytes
 unfoldable pub all_sections : Format Tree → Format Tree
 all_sections inner = to_the_end (sections inner) End parts_of
 
 abbrev pub component_over : Format Tree → Format Tree
 component_over inner = image (λ p. p.1) (λ t. (tt, t)) (both (fixed {A = Unit {0}} preamble tt) (all_sections inner))
 
--- Components of which at most so many stand in one another.
+-- Components of which at most that many stand in one another.
 unfoldable pub component : ℕ → Format Tree
 component zero = too_nested
 component (suc depth) = component_over (component depth)

@@ -70,8 +70,8 @@ declaration = tagged declaration_tag (λ b.
 
 -- ---- the items of a section
 
--- What is due at a place in a section: so many of its own definitions, and of each instance type that is open there, the innermost
--- first, so many declarations, which are not 0.
+-- What is due at a place in a section: that many of its own definitions, and of each instance type that is open there, the innermost
+-- first, that many declarations, which are not 0.
 pub record Due : Type 0 where
   pub types : ℕ
   pub open_types : List ℕ
@@ -123,6 +123,6 @@ led_by count form = record {
   write = λ a. u32_format.write (count a) ++ (form (count a)).write a;
 }
 
--- a number of definitions, and so many
+-- a number of definitions, and that many
 unfoldable pub type_items : Format (List TypeItem)
 type_items = led_by (own_types []) (λ types. until type_walk (all_due types))

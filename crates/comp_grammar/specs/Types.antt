@@ -184,7 +184,7 @@ abbrev pub destructor_in : TypeDef → Maybe ℕ
 destructor_in (defs.Resource f) = f
 destructor_in _ = None
 
--- definitions of tag 6D to 72, behind the tag
+-- definitions of tag 6D to 72, after the tag
 unfoldable pub aggregate_def : ℕ → Format TypeDef
 aggregate_def b =
     choose (b == 0x72) (image defs.Record fields_in (vec label_type)) (

@@ -38,7 +38,7 @@ appended_twice : (es : Givens) (name : Name) (item : Given) (gs : Givens) → ap
 appended_twice Nothing name item gs = refl
 appended_twice (Giving n i rest) name item gs = ap (Giving n i) (appended_twice rest name item gs)
 
--- ---- lists with more behind
+-- ---- lists with more after
 
 slice_within : {A : Type 0} → (xs ys : List A) (k : ℕ) (x : A) → slice_get xs k ≡ Some x → slice_get (xs ++ ys) k ≡ Some x
 slice_within [] ys k x is = absurd (let q : None ≡ Some x = is in cc)
@@ -78,7 +78,7 @@ keeps_all xs k x is = is
 keeps_more : {A : Type 0} → (xs ys : List A) → Keeps xs (xs ++ ys)
 keeps_more xs ys k x is = slice_within xs ys k x is
 
--- X: what the first instance exports. The alias stands at its index, and the rest behind it.
+-- X: what the first instance exports. The alias stands at its index, and the rest after it.
 abbrev pub AtSort : Givens → List (Option Target) → List Givens → (ℕ → ℕ → Type 0) → ℕ → ℕ → Name → Sort → Type 0
 AtSort X fs is rest f i name sorts.Func = ((t : Target) × (find name X ≡ Some (GivenFunc t)) × (slice_get fs f ≡ Some (Some t))) × rest (f + 1) i
 AtSort X fs is rest f i name sorts.Instance = ((items : Givens) × (find name X ≡ Some (GivenInstance items)) × (slice_get is i ≡ Some items)) × rest f (i + 1)
@@ -145,7 +145,7 @@ module _ (X : Givens) where
         ),
       )
 
-  -- what is to come is aliased behind whatever is there
+  -- what is to come is aliased after whatever is there
   abbrev Later : ℕ → List Handed → Type 0
   Later k es = (m : Making) → slice_get m.instances k ≡ Some X → All es m (link (items_at k es) m)
 
@@ -223,7 +223,7 @@ module _ (X : Givens) where
   nothing_more Nothing = refl
   nothing_more (Giving name item rest) = ap (Giving name item) (nothing_more rest)
 
-  -- what is to come is exported behind whatever is there
+  -- what is to come is exported after whatever is there
   abbrev Later_made : Scope → List Handed → Type 0
   Later_made scope es = (s : Space) (f i t : ℕ) (m : Making) → At X m.functions m.instances es f i → AllMade es m (link (exports_plan s scope f i t es) m)
 

@@ -17,7 +17,7 @@ use Rattle.comp_inside.specs.Later.{later, pair_later}
 use Rattle.comp_inside.specs.Linked.{Each}
 use Rattle.comp_inside.proofs.Numbers.{partner_later, without_later}
 
--- ---- one renaming behind another, of the resources that are named
+-- ---- one renaming after another, of the resources that are named
 
 each_first : (P : ℕ → Type 0) (xs ys : List ℕ) → Each P (xs ++ ys) → Each P xs
 each_first P [] ys h = tt

@@ -1,4 +1,4 @@
--- What a plan makes stands behind what was made before.
+-- What a plan makes stands after what was made before.
 use Rattle.std.proofs.Common.{◌≡◌, ◌+◌, ◌≤◌, Option, Some, None, refl, sym, subst, arith}
 use Rattle.std.specs.Prelude.{slice_get}
 use Rattle.std.specs.Option.{option_and_then}

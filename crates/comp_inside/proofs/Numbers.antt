@@ -10,7 +10,7 @@ use Rattle.comp_types.specs.Substitution.{partner_in}
 use Rattle.comp_types.specs.GivenResources.{is_among, without, distinct, numbered}
 use Rattle.comp_inside.specs.Later.{later, pair_later}
 
--- what stands at an index, where more stands behind
+-- what stands at an index, where more stands after
 pub got_within : {A B : Type 0} → (f : A → B) (xs : List A) (ys : List B) (i : ℕ) → i < length xs → slice_get (map f xs ++ ys) i ≡ option_map f (slice_get xs i)
 got_within f [] ys i lt = absurd (omega (arith, lt))
 got_within f (x ∷ xs) ys zero lt = refl

@@ -93,7 +93,7 @@ link_followed : (p q : Plan) (m : Making) → link (followed p q) m ≡ link q (
 link_followed End q m = refl
 link_followed (Then item p) q m = link_followed p q (link_item item m)
 
--- behind the one instance of the wrapping component
+-- after the one instance of the wrapping component
 abbrev pub behind_one : Standing
 behind_one = record { instances = 1; before = record { next_instance = 0; next_resource = 0; stages = Begins ∷ []; canons = []; owners = [] }; import = Theirs }
 

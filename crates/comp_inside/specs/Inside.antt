@@ -6,7 +6,7 @@ use Rattle.comp_worlds.specs.Parts.{target_to, func_to, owner_to, stages_to}
 use Rattle.comp_link.specs.Plans.{Plan}
 use Rattle.comp_link.specs.Linking.{Given, Givens, GivenFunc, GivenInstance, GivenResource, GivenType, Nothing, Giving, Placed, Owned, Whole, Making, link}
 
--- where a plan is carried out: behind so many instances, what was made before, and where its imports lead
+-- where a plan is carried out: after that many instances, what was made before, and where its imports lead
 pub record Standing : Type 0 where
   pub instances : ℕ
   pub before : Whole
@@ -35,7 +35,7 @@ placed_in at p = record { instance = place at p.instance; number = p.number; can
 abbrev pub owned_in : Standing → Owned → Owned
 owned_in at o = record { resource = o.resource; owner = owner_to (place at) o.owner }
 
--- behind what was made before
+-- after what was made before
 abbrev pub whole_in : Standing → Whole → Whole
 whole_in at w = record {
   next_instance = place at w.next_instance;

@@ -79,7 +79,7 @@ abbrev mutual
   plan_later k End = End
   plan_later k (Then item rest) = Then (planned_later k item) (plan_later k rest)
 
--- ---- no outer alias leads out of the component, where so many scopes are the component's own
+-- ---- no outer alias leads out of the component, where that many scopes are the component's own
 
 abbrev mutual
   pub Declares : ℕ → Declaration → Type 0

@@ -12,7 +12,7 @@ use Rattle.comp_link.specs.Linking.{Given, Givens, GivenFunc, GivenInstance, Giv
 use Rattle.comp_inside.specs.Renaming.{lifting_with}
 use Rattle.comp_inside.specs.Later.{plan_later, StaysWhole}
 
--- Where a plan is carried out: behind so many instances, and at which number each of its own stands; what was made before; where its
+-- Where a plan is carried out: after that many instances, and at which number each of its own stands; what was made before; where its
 -- imports lead; how much later the numbers of its index spaces are; and what the numbers of the group's resources become.
 pub record Standing : Type 0 where
   pub instances : ℕ
@@ -22,7 +22,7 @@ pub record Standing : Type 0 where
   pub later : ℕ
   pub to : ℕ → ℕ
 
--- so many instances stand one behind the other; numbers behind these may be any
+-- that many instances stand one after the other; numbers after these may be any
 abbrev pub InOrder : Standing → ℕ → Type 0
 InOrder at n = (k : ℕ) → k < n → at.place k ≡ at.instances + k
 
@@ -57,7 +57,7 @@ owned_in at o = record { resource = at.to o.resource; owner = owner_to at.place 
 abbrev pub pair_in : Standing → ℕ × ℕ → ℕ × ℕ
 pair_in at pair = (at.later + pair.0, at.to pair.1)
 
--- behind what was made before
+-- after what was made before
 abbrev pub whole_in : Standing → Whole → Whole
 whole_in at w = record {
   next_instance = at.instances + w.next_instance;
@@ -113,7 +113,7 @@ abbrev pub OwnBrought : List (ℕ × ℕ) → List (ℕ × ℕ) → Type 0
 OwnBrought pairs [] = Unit {0}
 OwnBrought pairs (own ∷ rest) = IsBrought pairs own.0 × OwnBrought pairs rest
 
--- and resources are numbered one behind the other there too
+-- and resources are numbered one after the other there too
 abbrev mutual
   pub ItemKnows : (ℕ → ℕ) → Planned → Making → Type 0
   ItemKnows to (OfComponent component own args) m =

@@ -36,7 +36,7 @@ exports_from f i t (e ∷ es) = elim e.sort [
   | sorts.Type ↦ export_at e t ∷ exports_from f i (t + 1) es
 ]
 
--- the sections that hand these on; the aliased instances stand behind the one instance
+-- the sections that hand these on; the aliased instances stand after the one instance
 abbrev pub handing : List Handed → Tree
 handing es = More (Aliases (map alias_of es)) (More (Exports (exports_from 0 1 0 es)) End)
 

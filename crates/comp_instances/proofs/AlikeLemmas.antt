@@ -29,7 +29,7 @@ alike-same xs ys e = λ r. ap (λ ps. partner_of ps r) e
 pub alike-then : (xs ys zs : Pairs) → FindAlike xs ys → FindAlike ys zs → FindAlike xs zs
 alike-then xs ys zs h k = λ r. h r ∙ k r
 
--- more pairs behind both
+-- more pairs after both
 pub alike-append : (xs ys zs : Pairs) → FindAlike xs ys → FindAlike (xs ++ zs) (ys ++ zs)
 alike-append xs ys zs h = λ r. found-append xs zs r ∙ (ap (λ o. either o (partner_of zs r)) (h r) ∙ sym (found-append ys zs r))
 

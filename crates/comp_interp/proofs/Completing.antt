@@ -25,7 +25,7 @@ items_from ms cs [] at item e = absurd (cc)
 items_from ms cs (x ∷ xs) zero item e = let same : x ≡ item = cc in ap (λ i. followed (plan_item ms cs i) (plan_items ms cs xs)) same
 items_from ms cs (x ∷ xs) (suc at) item e = let next : suc at + 1 ≡ suc (at + 1) = omega arith in rw next (items_from ms cs xs at item e)
 
--- the innermost plan goes on behind an item
+-- the innermost plan goes on after an item
 pub left_behind : (linked : Linked) (old new : Level) (item : PlanItem) → slice_get (part_items linked old.part) old.at ≡ Some item → new.part ≡ old.part → new.at ≡ old.at + 1 →
     plan_left linked old ≡ followed (plan_item linked.modules (named_below linked (part_limit linked old.part)) item) (plan_left linked new)
 left_behind linked old new item e p z =

@@ -84,7 +84,7 @@ module _ {S : Type 0} (h : HostStep S) (before : List Givens) (made : List (Name
 
 -- ---- an instance more
 
--- one behind the others
+-- one after the others
 by_place : {P : Type 0} → (is : List Instance) (i : Instance) (k : ℕ) (of : Option Instance → P) → of (Some i) ≡ of None → of (slice_get (is ++ i ∷ []) k) ≡ of (slice_get is k)
 by_place is i k of same = by_number k (length is)
     (λ e. ap (λ n. of (slice_get (is ++ i ∷ []) n)) e ∙ ap of (push_here is i) ∙ same ∙ sym (ap of (slice_get_past is k (omega (arith, e)))))

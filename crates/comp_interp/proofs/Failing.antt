@@ -27,7 +27,7 @@ use Rattle.instance_making.specs.Shown.{Stands}
 use Rattle.comp_interp.specs.Gathered.{row_at, scene_at, Gathers, stages_act, Came, Makes}
 
 module _ {S : Type 0} (h : HostStep S) where
-  -- of want of memory nothing is said
+  -- nothing is said where memory runs out
   pub out_of_memory : (stages : List Stage) (old new : Moment S) (stop : Stop) → stop ≡ stops.NoMemory → (G : Group) → Ends h G (so_far old (stages_act h G stages)) new stop
   out_of_memory stages old new stop e = λ G. subst (λ s. Ends h G (so_far old (stages_act h G stages)) new s) (sym e) tt
 

@@ -37,7 +37,7 @@ use Rattle.comp_interp.proofs.Completing.{left_grows}
 
 -- ---- resources of imports
 
--- numbers one behind the other have owners
+-- numbers one after the other have owners
 owned_from : (a b : ℕ) (os : List Owned) → AreFrom a os b → (r : ℕ) → a ≤ r → r < b → owner_in os r ≡ None → ⊥
 owned_from a b [] from r lo hi none = omega (arith, from, lo, hi)
 owned_from a b (o ∷ os) from r lo hi none = go (nat_eq o.resource r) refl none (nat_lt a r) refl (λ le n. owned_from (a + 1) b os from.1 r le hi n)

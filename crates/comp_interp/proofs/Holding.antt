@@ -43,7 +43,7 @@ module _ {S : Type 0} (before : List Givens) (old new : Moment S) (listed : List
   abbrev first_scene : Scene
   first_scene = scene_of empty_store
 
-  -- its store comes behind the others
+  -- its store comes after the others
   pub stores_more : scenes_of new.instances ≡ scenes_of old.instances ++ first_scene ∷ []
   stores_more = same_lists (scenes_of new.instances) (scenes_of old.instances ++ first_scene ∷ []) (λ k. by_number k w.next_instance
       (λ e.
@@ -88,7 +88,7 @@ entered_grows w items = record {
   instances = omega arith;
 }
 
--- ---- a component begins to be made: the level in which it will be held waits, with its plan behind the component
+-- ---- a component begins to be made: the level in which it will be held waits, with its plan after the component
 
 module _ {S : Type 0} (linked : Linked) (listed listed' : List (Named Given)) (hs : List Level) (l holder inner : Level) (m new : Moment S) (b : Between linked listed hs l m)
     (part : holder.part ≡ l.part) (first : holder.first ≡ l.first) (making : holder.making ≡ l.making) (plan : Plan) (own : List (ℕ × ℕ)) (args : List NamedArg)

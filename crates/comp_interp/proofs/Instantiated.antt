@@ -1,4 +1,4 @@
--- What instantiating a module answers, and how a component in the component begins to be made, behind the step that each takes.
+-- What instantiating a module answers, and how a component in the component begins to be made, after the step that each takes.
 use Rattle.std.proofs.Common.{◌≡◌, ◌∙◌, ap, sym, refl, subst, ℕ, ◌+◌, List, [], ◌∷◌, set, Option, Some, None, Result, Ok, Err, IsErrAnd, slice_get}
 use Rattle.wasm_ast.specs.declared.module.Module.{Module}
 use Rattle.wasm_ast.specs.declared.component.CoreArg.{CoreArg}

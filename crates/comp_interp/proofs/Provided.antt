@@ -20,7 +20,7 @@ use Rattle.comp_interp.proofs.Gathering.{some_same}
 use Rattle.comp_interp.proofs.Lists.{is_itself}
 use Rattle.comp_interp.proofs.Standing.{provided_stands, owned_stands}
 
--- a row has no canonical function behind its last one
+-- a row has no canonical function after its last one
 pub none_behind : (rows : List (Vec Canon Global)) (k n : ℕ) → row_at rows k ≡ Some n → canon_known rows k n ≡ None
 none_behind rows k n e = go (slice_get rows k) refl
   where

@@ -30,7 +30,7 @@ module _ (rows : List (Vec Canon Global)) (k : ℕ) (row row' : Vec Canon Global
   was : (n : ℕ) → canon_in w k n ≡ option_map func_of (slice_get row.items n)
   was n = sym (same k n) ∙ ap (λ o. in_row o n) found
 
-  -- no other number, so nothing is found behind
+  -- no other number, so nothing is found after
   not_there : (b c : Bool) (x : Option Func) → (b && c) ≡ false → or_else x (cond (b && c) (Some (func_of canon)) None) ≡ x
   not_there b c x e = ap (λ d. or_else x (cond d (Some (func_of canon)) None)) e ∙ or_none x
 

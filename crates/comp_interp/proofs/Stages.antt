@@ -49,7 +49,7 @@ module _ {S : Type 0} (h : HostStep S) (G : Group) where
       ∙ so_far_then a (stages_act h G ys) (λ (u : Unit {0}). stages_act h G zs)
       ∙ ap (λ (o : Out (World S) (Unit {0})). then_do o (λ (u : Unit {0}). stages_act h G zs)) over
 
-  -- what ended the run ends it, whatever would come behind
+  -- what ended the run ends it, whatever would come after
   pub ends_still : (ys zs : List Stage) (a new : Moment S) (stop : Stop) → Ends h G (so_far a (stages_act h G ys)) new stop → Ends h G (so_far a (stages_act h G (ys ++ zs))) new stop
   ends_still ys zs a new stops.Trapped e = over_still ys zs a new.kept.seen Trapped e
   ends_still ys zs a new stops.ScriptEnded e = over_still ys zs a new.kept.seen ScriptEnded e

@@ -35,7 +35,7 @@ no_outside m instance at [] place number ty e = none-some (Outside ty number) e
 no_outside m instance at (b ∷ bs) zero number ty e = absurd (cc)
 no_outside m instance at (b ∷ bs) (suc place) number ty e = no_outside m instance (at + 1) bs place number ty e
 
--- found in front, or behind
+-- found in front, or after
 in_two : {A : Type 0} → {P : Type 0} → (xs ys : List A) (n : ℕ) (x : A) → slice_get (xs ++ ys) n ≡ Some x → (slice_get xs n ≡ Some x → P) → ((m : ℕ) → n ≡ length xs + m → slice_get ys m ≡ Some x → P) → P
 in_two [] ys n x e front behind = behind n (omega arith) e
 in_two (z ∷ xs) ys zero x e front behind = front e

@@ -1,4 +1,4 @@
--- What is known of a plan is known of its next item, and of what is left behind it.
+-- What is known of a plan is known of its next item, and of what is left after it.
 use Rattle.std.proofs.Common.{◌≡◌, ◌∙◌, ap, sym, refl, ℕ, zero, suc, ◌<◌, ◌≤◌, List, [], ◌∷◌, length, Option, Some, arith, slice_get}
 use Rattle.std.specs.Option.{option_map}
 use Rattle.wasm_ast.specs.Boxed.{Held as HeldValue}
@@ -62,7 +62,7 @@ pub component_plan : (linked : Linked) (limit number first : ℕ) (args : _) (c 
 component_plan linked limit number first args c lt at =
     ap (λ o. if_some (λ (x : PlannedComponent). OfComponent x.plan (numbered x.own first) (args_named args)) o) (component_named linked limit number c lt at)
 
--- it is there, since no plan names components behind all
+-- it is there, since no plan names components after all
 pub component_there : (linked : Linked) (limit number : ℕ) → number < limit → limit ≤ length linked.components → (c : ComponentPlan) × (slice_get linked.components number ≡ Some c)
 component_there linked limit number lt le = go linked.components number (omega (arith, lt, le))
   where

@@ -48,7 +48,7 @@ abbrev pub scene_at : List Instance → ℕ → Option Scene
 scene_at instances k = slice_get (scenes_of instances) k
 
 module _ {S : Type 0} where
-  -- the instance that is made has so many canonical functions, and a store of the items that its plan counts
+  -- the instance that is made has that many canonical functions, and a store of the items that its plan counts
   pub record HasOwn (m : Moment S) (g : Making) : Type 0 where
     pub canons : row_at m.group.canons.items g.instance ≡ Some g.canons
     pub store : scene_at m.instances g.instance ≡ Some (scene_of g.shadow)

@@ -10,7 +10,7 @@ use Rattle.instance_making.specs.declared.given.Given.TheVariants.{Func, Instanc
 abbrev pub is_hash : ℕ → Bool
 is_hash byte = byte == 35
 
--- what stands before the first `#` of a name, and what behind it; where it has none, all stands behind
+-- what stands before the first `#` of a name, and what after it; where it has none, all stands after
 abbrev pub cut : Name → Name × Name
 cut name = if nat_lt (position_or_len is_hash name) (length name) then (before_first is_hash name, after_first is_hash name) else ([], name)
 

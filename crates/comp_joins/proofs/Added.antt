@@ -83,7 +83,7 @@ module _ (b : Bool) (base : ℕ) (P : ℕ → Type 0) where
       some_type_out s (slice_get s.types i) (and_some_entry s.exports name (item_at s sorts.Type i)) h (every_get (λ (e : TypeEntry). KindNames P s.next e.kind) s.types i h.kinds)
       (some_entry_more s.next s.exports name (item_at s sorts.Type i) h.out (item_known P s sorts.Type i h))
 
--- ---- where more is known: P before, Q behind, once the new numbers are
+-- ---- where more is known: P before, Q after, once the new numbers are
 
 abbrev pub Adds : (b : Bool) (base : ℕ) (P Q : ℕ → Type 0) → Space → Space → List ℕ → Type 0
 Adds b base P Q s t numbers = Wider P Q s.next t.next → ((r : ℕ) → Q r → r < t.next) → Each Q numbers → Knows b base P s → Knows b base Q t

@@ -1,4 +1,4 @@
--- No two resources get one number, and those that are defined one behind the other stay so.
+-- No two resources get one number, and those that are defined one after the other stay so.
 use Rattle.std.proofs.Common.{◌≡◌, ◌⊎◌, inl, inr, ℕ, ◌+◌, ◌-◌, ◌≤◌, ◌<◌, nat_lt, cond, List, Bool, true, false, Option, Some, None, refl, sym, ◌∙◌, ap, subst, arith}
 use Rattle.std.proofs.lemmas.Bool.{ltb-true, ltb-false, lt-ltb}
 use Rattle.comp_types.specs.Substitution.{partner_of}

@@ -33,7 +33,7 @@ partner_gives P (x ∷ xs) ys r h k = go (nat_eq x.0 r) refl h (λ rest. partner
     go false e (inl same) later = absurd (eqb-false x.0 r e same)
     go false e (inr rest) later = later rest
 
--- and of what has none, it is the one in the pairs behind
+-- and of what has none, it is the one in the pairs after
 pub partner_or : (P : ℕ → Type 0) (xs ys : List (ℕ × ℕ)) (r : ℕ) → EachGives P xs → P (partner_in ys r) → P (partner_in (xs ++ ys) r)
 partner_or P [] ys r k h = h
 partner_or P (x ∷ xs) ys r k h = go (nat_eq x.0 r) (partner_or P xs ys r k.1 h)

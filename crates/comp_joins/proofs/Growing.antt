@@ -74,7 +74,7 @@ owns m resource destructor = record {
   instances = omega arith;
 }
 
--- an instance more, behind a stage
+-- an instance more, after a stage
 enters : (m : Making) (given : _) → Grows m.whole (begun (and_stage m.whole Begins) given).whole
 enters m given = record {
   stages = Begins ∷ [];

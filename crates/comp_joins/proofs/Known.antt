@@ -161,7 +161,7 @@ module _ (J : ℕ → Type 0) (base : ℕ) where
 
   -- ---- each definition
 
-  -- what is known behind a plan, which knew what it names
+  -- what is known after a plan, which knew what it names
   abbrev Stepped : Plan → Making → Space → Type 0
   Stepped plan m t = Known J base (link plan m).resources t × PlanKnows (λ r. r) plan m
 
@@ -298,7 +298,7 @@ module _ (J : ℕ → Type 0) (base : ℕ) where
 
 -- ---- whole components
 
--- a plan made so far, and the scope behind it
+-- a plan made so far, and the scope after it
 record Reached (J : ℕ → Type 0) (base : ℕ) (imports : Entries) (plan : Plan) (m : Making) (behind : Scope) (s : Space) : Type 0 where
   known : Stepped J base plan m s
   made : Fits imports (link plan m) s

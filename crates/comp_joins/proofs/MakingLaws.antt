@@ -46,7 +46,7 @@ one_more s t f g h =
     ∙ ap (λ (i : Items). record i { functions = i.functions + 1 }) h
     ∙ ap (λ n. record (items_of t) { functions = n }) (sym (length_push t.functions g))
 
--- with so many more of each kind
+-- with that many more of each kind
 abbrev and_items : Module → Items → Items
 and_items m i = record {
   functions = i.functions + length m.code;

@@ -1,5 +1,5 @@
--- Where the instances of the two parts stand in the whole: so many of the first behind the whole's own, and then those of the second.
--- Numbers behind these stand for nothing, and are kept apart.
+-- Where the instances of the two parts stand in the whole: that many of the first after the whole's own, and then those of the second.
+-- Numbers after these stand for nothing, and are kept apart.
 use Rattle.std.proofs.Common.{◌≡◌, ◌⊎◌, inl, inr, ℕ, ◌+◌, ◌≤◌, ◌<◌, nat_lt, cond, Bool, true, false, refl, ap, subst, arith}
 use Rattle.std.proofs.lemmas.Bool.{ltb-true, ltb-false, lt-ltb}
 

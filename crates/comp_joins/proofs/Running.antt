@@ -44,7 +44,7 @@ module _ {S : Type 0} (G : Group) (p : Ports S) where
     abbrev behind : Pause → Act (World S) (List CoreValue)
     behind = goes_on G p (run_at fuel) (again_at fuel d k f args store replies) d k
 
-    -- the canonical call that answers a question, and what is behind it
+    -- the canonical call that answers a question, and what is after it
     asked : (number : ℕ) (xs : List CoreValue) (t : State) (left : ℕ) → eval store f args replies n ≡ Asks number xs t left → AsMany store t → Kept w (then_do (core_end w k n (Asks number xs t left)) behind)
     asked number xs t left e ended =
         let d' : Nesting = at_depth d t.nesting in

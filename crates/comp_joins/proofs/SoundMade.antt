@@ -96,7 +96,7 @@ names_after around outside' scope s d scopes h = record {
 
 -- ---- whole components
 
--- a plan made so far, and the scope behind it
+-- a plan made so far, and the scope after it
 record Reaches (imports : Entries) (plan : Plan) (m : Making) (behind : Scope) (s : Space) : Type 0 where
   sound : IsSoundPlan plan m
   made : Fits imports (link plan m) s

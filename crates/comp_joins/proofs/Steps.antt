@@ -1,4 +1,4 @@
--- Each definition of a valid component plans a sound step, behind which core items fit as before.
+-- Each definition of a valid component plans a sound step, after which core items fit as before.
 use Rattle.std.proofs.Common.{◌≡◌, ◌∙◌, ℕ, List, [], ◌∷◌, ◌++◌, length, true, Option, Some, None, refl, sym, ap, subst}
 use Rattle.std.proofs.lemmas.Bool.{false≢true, and_parts}
 use Rattle.std.specs.Prelude.{nat_lt, slice_get}

@@ -6,7 +6,7 @@ use Rattle.comp_worlds.specs.Groups.{Begins}
 use Rattle.comp_link.specs.Plans.{Plan, Planned, End, Then, OfComponent, ItemOf, Imports, Exports}
 use Rattle.comp_link.specs.Linking.{Given, Givens, GivenFunc, GivenInstance, GivenResource, GivenType, find, item_in, Making, begun, and_stage, given_at, givens_of, link_item, link}
 
--- as far as so many names lead; where nothing is found, the other may find what `Beyond` says
+-- as far as that many names lead; where nothing is found, the other may find what `Beyond` says
 abbrev pub AlikeTo : (Option Given → Type 0) → ℕ → Option Given → Option Given → Type 0
 AlikeTo Beyond zero o o' = Unit {0}
 AlikeTo Beyond (suc d) None o' = Beyond o'

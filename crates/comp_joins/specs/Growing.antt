@@ -4,7 +4,7 @@ use Rattle.comp_worlds.specs.Groups.{Stage}
 use Rattle.comp_link.specs.Plans.{Plan, Planned}
 use Rattle.comp_link.specs.Linking.{Placed, Owned, Whole, Making, link_item, link}
 
--- resources from one number to another, one behind the other
+-- resources from one number to another, one after the other
 abbrev pub AreFrom : ℕ → List Owned → ℕ → Type 0
 AreFrom first [] next = first ≡ next
 AreFrom first (o ∷ os) next = (o.resource ≡ first) × AreFrom (first + 1) os next

@@ -12,7 +12,7 @@ use Rattle.comp_joins.specs.Joining.{JoinOnly, Joint, instance_of, joining, with
 abbrev pub handing_behind : (instance functions instances types : ℕ) → List Handed → List Part
 handing_behind k f i t es = Aliases (map (alias_at k) es) ∷ Exports (exports_from f i t es) ∷ []
 
--- Its sections name alone, export nothing before, and hand on what the second's instance exports, which stands behind the others.
+-- Its sections name alone, export nothing before, and hand on what the second's instance exports, which stands after the others.
 pub record HandsOn (j : Joint) (first second : Tree) (types : ℕ) (es : List Handed) : Type 0 where
   pub front : JoinOnly no_scope root j.front
   pub between : JoinOnly (one_scope j first second) (after_part [] (with_first j first second) (instance_of 0 j.first_args)) j.between
@@ -20,7 +20,7 @@ pub record HandsOn (j : Joint) (first second : Tree) (types : ℕ) (es : List Ha
   pub behind : j.behind ≡ handing_behind (length (made_between j first second).instances) (length (made_between j first second).functions) (length (made_between j first second).instances + 1) types es
   pub are : AreExports (made_second j first second).exports es
 
--- So it fits behind: each function is exported as the second exports it.
+-- So it fits after: each function is exported as the second exports it.
 pub record FitsBehind (j : Joint) (first second : Tree) : Type 0 where
   pub behind : JoinOnly (both_scope j first second) (behind_second j first second) j.behind
   pub exports : (interface name : Name) → target_in (exported (linked (joining j first second)).exports interface name) ≡ target_in (exported (made_second j first second).exports interface name)

@@ -47,7 +47,7 @@ abbrev pub JoinOnly : Scope → Space → List Part → Type 0
 JoinOnly scope s [] = Unit {0}
 JoinOnly scope s (part ∷ parts) = AllName (plan_part [] [] s scope part).plan × ((plan_part [] [] s scope part).scope ≡ scope) × JoinOnly scope (after_part [] s part) parts
 
--- in front of other sections; the index spaces behind them; and what is made by them
+-- in front of other sections; the index spaces after them; and what is made by them
 abbrev pub in_front : List Part → Tree → Tree
 in_front [] tree = tree
 in_front (part ∷ parts) tree = Section part (in_front parts tree)
@@ -62,7 +62,7 @@ made_by scope s (part ∷ parts) m = made_by scope (after_part [] s part) parts 
 
 -- ---- the form
 
--- what stands in front of the first component, between the two, and behind; and the arguments of the two instances
+-- what stands in front of the first component, between the two, and after; and the arguments of the two instances
 pub record Joint : Type 0 where
   pub front : List Part
   pub first_span : Span
@@ -86,7 +86,7 @@ module _ (j : Joint) (first second : Tree) where
       (Section (instance_of 1 j.second_args)
       (in_front j.behind NoParts))))))
 
-  -- the index spaces before the first component, behind it, and behind its instance; and so of the second
+  -- the index spaces before the first component, after it, and after its instance; and so of the second
   abbrev pub before_first : Space
   before_first = spaces_behind root j.front
 
@@ -225,7 +225,7 @@ over_host whole first from = record {
 abbrev pub Meets : Group → (ℕ → ℕ) → Import → Type 0
 Meets G to f = (target : Target) × (G.exports f.interface f.function ≡ Some target) × (type_of target ≡ func_with to f.ty)
 
--- the first number behind those of the component's imports, and behind all that it defines
+-- the first number after those of the component's imports, and after all that it defines
 abbrev pub first_own : Tree → ℕ
 first_own tree = behind_known (all_known [] (imports_of tree))
 
@@ -240,7 +240,7 @@ IsKnown (k ∷ ks) r = (k.number ≡ r) ⊎ IsKnown ks r
 abbrev pub known_by : Tree → List Known
 known_by tree = all_known [] (imports_of tree)
 
--- What the first defines has the numbers behind those of the whole's imports, and what the second defines has numbers behind these.
+-- What the first defines has the numbers after those of the whole's imports, and what the second defines has numbers after these.
 -- Resources that the second imports have the numbers of those that meet them.
 pub record Agree (whole first second : Tree) (from to : ℕ → ℕ) : Type 0 where
   pub first_stays : StaysWhole 1 first

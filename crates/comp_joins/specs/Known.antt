@@ -8,7 +8,7 @@ use Rattle.comp_link.specs.Linking.{Making, link, linked}
 use Rattle.comp_link.specs.Sections.{DefinesTypes}
 use Rattle.comp_inside.specs.Linked.{Standing, InOrder, making_in, PlanKnows, unmade}
 
--- numbers one behind the other, from the first on and in front of the last, become such numbers
+-- numbers one after the other, from the first on and in front of the last, become such numbers
 abbrev pub StayInOrder : (ℕ → ℕ) → ℕ → ℕ → Type 0
 StayInOrder to first last = (r : ℕ) → first ≤ r → r < last → to (r + 1) ≡ to r + 1
 

@@ -9,12 +9,12 @@ use Rattle.comp_link.specs.Linking.{group_of}
 use Rattle.comp_link.specs.Sections.{DefinesTypes}
 use Rattle.comp_joins.specs.Joining.{first_own, behind_own, IsKnown, known_by, over_host, Meets, Agree}
 
--- a number that no resource has stands behind all of these
+-- a number that no resource has stands after all of these
 abbrev pub partner_or : Option ℕ → ℕ → ℕ
 partner_or None far = far
 partner_or (Some g) far = g
 
--- A resource of an import has its partner; the component's own, and the number behind them, follow from `start` on.
+-- A resource of an import has its partner; the component's own, and the number after them, follow from `start` on.
 abbrev pub numbered : List (ℕ × ℕ) → (own behind start : ℕ) → ℕ → ℕ
 numbered pairs own behind start r =
     if nat_lt r own then partner_or (partner_of pairs r) (start + behind + 1 + r) else if nat_lt r (behind + 1) then start + (r - own) else start + behind + 1 + r
@@ -26,7 +26,7 @@ pub record ArePartners (pairs : List (ℕ × ℕ)) (own start : ℕ) : Type 0 wh
   pub once : (r s g : ℕ) → partner_of pairs r ≡ Some g → partner_of pairs s ≡ Some g → r ≡ s
 
 module _ (whole first second : Tree) (firsts seconds : List (ℕ × ℕ)) where
-  -- the first's own behind the whole's imports, and the second's behind these
+  -- the first's own after the whole's imports, and the second's after these
   abbrev pub from : ℕ → ℕ
   from = numbered firsts (first_own first) (behind_own first) (first_own whole)
 

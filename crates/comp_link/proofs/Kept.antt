@@ -57,7 +57,7 @@ neither : (p q : Bool) → not (p || q) ≡ true → (p ≡ false) × (not q ≡
 neither true q h = absurd (false≢true h)
 neither false q h = (refl, h)
 
--- a name like none before it is found behind them
+-- a name like none before it is found after them
 pub found_new : (entries : Entries) (name : Name) (item : Item) → is_new_in entries name ≡ true → look_up name (and_entry entries name item) ≡ Some item
 found_new End name item h = at_test (same_name name name) (name-same name)
   where

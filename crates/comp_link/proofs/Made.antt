@@ -294,7 +294,7 @@ module _ (imports : Entries) where
   defined_fits around scope (AnImport i) m s plans v defines within h = import_fits around i m s v within h
   defined_fits around scope (AnExport e) m s plans v defines within h = export_fits around e m s v h
 
--- ---- the scope behind a definition
+-- ---- the scope after a definition
 
 pub module_scope : (scope : Scope) (o : Option Module) → (and_module scope o).components ≡ scope.components
 module_scope scope None = refl
@@ -342,7 +342,7 @@ module _ (R : Plan → NestedComponent → Type 0) where
 
 -- ---- whole components
 
--- a plan made so far, and the scope behind it
+-- a plan made so far, and the scope after it
 record Reaches (imports : Entries) (plan : Plan) (m : Making) (behind : Scope) (s : Space) : Type 0 where
   made : Fits imports (link plan m) s
   scope : ScopeFits behind s

@@ -23,7 +23,7 @@ use Rattle.comp_link.specs.Sections.{IsDefined, AreDefined, DefinesIn, DefinesTy
 
 -- ---- a section of types
 
--- behind what the open instance types still declare, types are defined
+-- after what the open instance types still declare, types are defined
 abbrev Behind : List ℕ → Declarations → Type 0
 Behind [] ds = AreDefined ds
 Behind (n ∷ open_types) ds = Behind open_types (behind n ds)

@@ -9,7 +9,7 @@ use Rattle.comp_worlds.specs.Related.{OwnsNone, Opens}
 use Rattle.comp_link.specs.Linking.{all_known, behind_known, group_of}
 use Rattle.comp_link.specs.Components.{component_seen, AreCalls}
 
--- the number is not behind those of the resources of the component's imports
+-- the number is not after those of the resources of the component's imports
 abbrev pub is_of_imports : Tree → ℕ → Bool
 is_of_imports tree r = nat_lt r (behind_known (all_known [] (after_tree [] root tree).imports))
 

@@ -1,5 +1,5 @@
 -- The group of instances that a plan makes. Instances get numbers as they are made, and resources as they are defined: those of the
--- outermost imports keep the numbers of the component's type, and the others get the numbers behind these. Which places of its store an
+-- outermost imports keep the numbers of the component's type, and the others get the numbers after these. Which places of its store an
 -- instance's core functions have follows from the modules alone, since what runs meanwhile adds nothing: `shadow` is a store with as
 -- many items.
 use Rattle.std.specs.Prelude.{ℕ, ◌+◌, ◌&&◌, nat_eq, max, if◌then◌else◌, List, [], ◌∷◌, ◌++◌, length, slice_get, slice_index_or, Option, Some, None}
@@ -312,7 +312,7 @@ abbrev mutual
   all_known interface NoEntries = []
   all_known interface (Entry name item rest) = known interface name item ++ all_known interface rest
 
--- the first number behind all of these
+-- the first number after all of these
 abbrev pub behind_known : List Known → ℕ
 behind_known [] = 0
 behind_known (k ∷ ks) = max (k.number + 1) (behind_known ks)

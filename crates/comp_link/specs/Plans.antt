@@ -162,7 +162,7 @@ abbrev pub scope_after : List Scope → Scope → Definition → Scope
 scope_after outside scope (AnAlias (aliases.Outer sort count index)) = and_outer scope sort (slice_get (scope ∷ outside) count) index
 scope_after outside scope d = scope
 
--- a plan, and the scope behind it
+-- a plan, and the scope after it
 pub record Reached : Type 0 where
   pub plan : Plan
   pub scope : Scope

@@ -1,4 +1,4 @@
--- A draft with one item more, and with one component more behind those that are planned.
+-- A draft with one item more, and with one component more after those that are planned.
 use Rattle.std.proofs.Common.{◌≡◌, ◌∙◌, ap, sym, subst, List, [], ◌∷◌, ◌++◌, map, Option}
 use Rattle.std.proofs.lemmas.List.{append_assoc}
 use Rattle.wasm_ast.specs.Boxed.{Held}

@@ -1,4 +1,4 @@
--- The first definition of a section of types is that of the first items, and the others are those of the items behind.
+-- The first definition of a section of types is that of the first items, and the others are those of the items after.
 use Rattle.std.proofs.Common.{◌≡◌, ◌∙◌, ◌+◌, ◌-◌, ◌<◌, ap, sym, refl, ℕ, zero, suc, List, [], ◌∷◌, take, drop, arith}
 use Rattle.std.specs.Prelude.{unwrap_or}
 use Rattle.wasm_ast.specs.declared.component.TypeDef.{TypeDef}
@@ -21,7 +21,7 @@ pub destructor_told : (def : TypeDef) → resource_destructor def ≡ destructor
 destructor_told (defs.Resource destructor) = refl
 destructor_told _ = refl
 
--- ---- so many definitions, and so many more
+-- ---- that many definitions, and that many more
 
 behind_none : (n : ℕ) → behind n Done ≡ Done
 behind_none zero = refl

@@ -9,7 +9,7 @@ modules_behind : (xs ys : List Section) → modules_in (plain_sections (xs ++ ys
 modules_behind [] ys = refl
 modules_behind (x ∷ xs) ys = ap (λ ms. modules_in_part (plain_section x) ++ ms) (modules_behind xs ys) ∙ sym (append_assoc (modules_in_part (plain_section x)) (modules_in (plain_sections xs)) (modules_in (plain_sections ys)))
 
--- those of what stands behind come first
+-- those of what stands after come first
 pub modules_reversed : (xs ys : List Section) → reverse (modules_in (plain_sections (xs ++ ys))) ≡ reverse (modules_in (plain_sections ys)) ++ reverse (modules_in (plain_sections xs))
 modules_reversed xs ys = ap reverse (modules_behind xs ys) ∙ reverse-append (modules_in (plain_sections xs)) (modules_in (plain_sections ys))
 

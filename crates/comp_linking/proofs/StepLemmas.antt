@@ -1,4 +1,4 @@
--- A definition that is valid and is judged breaks no rule; then the planner is behind it.
+-- A definition that is valid and is judged breaks no rule; then the planner is after it.
 use Rattle.std.proofs.Common.{◌≡◌, sym, subst, ℕ, List, ◌++◌, Option, Some, None}
 use Rattle.wasm_ast.specs.Boxed.{Held}
 use Rattle.wasm_ast.specs.declared.module.Module.{Module}

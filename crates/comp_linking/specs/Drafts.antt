@@ -32,7 +32,7 @@ pub record NamesComponents (cs : List PlannedComponent) (scope : Scope) (known :
   pub plans : map (plan_at cs) numbers ≡ map (λ (p : Plan). Some p) scope.components
   pub owns : map (own_at cs) numbers ≡ map (λ (c : NestedComponent). Some c.own) known
 
--- whatever components come behind
+-- whatever components come after
 pub record IsDraft (ms : List (Held Module)) (cs : List PlannedComponent) (scope : Scope) (known : List NestedComponent) (plan : Plan) (draft : Draft) : Type 0 where
   pub modules : NamesModules ms scope draft.modules.items
   pub components : (more : List PlannedComponent) → NamesComponents (cs ++ more) scope known draft.components.items

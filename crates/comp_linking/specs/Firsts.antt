@@ -10,12 +10,12 @@ use Rattle.comp_link.specs.Plans.{Plan, NewResource, if_some, of_type}
 use Rattle.comp_linking.specs.declared.planner.Planner.{Planner}
 use Rattle.comp_linking.specs.Goes.{Plans}
 
--- how many declarations stand behind an item
+-- how many declarations stand after an item
 abbrev pub declared_by : TypeItem → ℕ
 declared_by (items.Define (defs.Instance n)) = n
 declared_by _ = 0
 
--- how many items the first so many definitions take, with what they declare
+-- how many items the first that many definitions take, with what they declare
 abbrev pub taken : ℕ → List TypeItem → ℕ
 taken zero xs = 0
 taken (suc n) [] = 0

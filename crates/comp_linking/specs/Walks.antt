@@ -43,7 +43,7 @@ at_all outer a (d ∷ ds) = at_all outer (at_after outer a d) ds
 abbrev pub at_entered : At → At
 at_entered a = record { space = entered a.space; scope = no_scope; plan = End }
 
--- behind a component in this one, whose end that is
+-- after a component in this one, whose end that is
 abbrev pub at_nested : At → At → At
 at_nested a inner = record a { space = and_nested a.space inner.space; scope = and_plan a.scope (Some inner.plan) }
 

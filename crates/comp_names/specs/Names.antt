@@ -6,7 +6,7 @@ use Rattle.comp_names.specs.declared.names.Annotation.{Annotation}
 use Rattle.comp_names.specs.declared.names.Annotation.TheVariants.{Constructor, Method, Static}
 use Rattle.comp_names.specs.Labels.{is_label, is_lower, is_upper, is_digit}
 
--- what stands before the first such byte, and what behind it
+-- what stands before the first such byte, and what after it
 abbrev pub cut : ℕ → List ℕ → Option (List ℕ × List ℕ)
 cut byte text = option_map (λ place. (take place text, drop (place + 1) text)) (position (λ b. b == byte) text)
 
@@ -15,7 +15,7 @@ abbrev pub parts_with : ℕ → List ℕ → Option (List ℕ × List ℕ) → L
 parts_with joiner text None = text ∷ []
 parts_with joiner text (Some p) = p.0 ∷ slice_split (λ b. b == joiner) p.1
 
--- what stands behind a prefix
+-- what stands after a prefix
 abbrev pub behind : List ℕ → List ℕ → Option (List ℕ)
 behind prefix text = if bytes_eq (take (length prefix) text) prefix then Some (drop (length prefix) text) else None
 

@@ -26,7 +26,7 @@ pub record IsFront (first : Tree) (f : Front) : Type 0 where
   pub spelled : SpellsBare 0 (plain_sections f.sections.items) f.bytes.items
   pub components : components_in (plain_sections f.sections.items) ≡ first ∷ []
 
--- the whole with the second component in it, which has so many bytes
+-- the whole with the second component in it, which has that many bytes
 pub record IsAssembled (first second : Tree) (size : ℕ) (a : Assembled) : Type 0 where
   pub spelled : (bytes : List ℕ) → length bytes ≡ size → SpellsBare 0 second bytes → SpellsBare 0 (plain a.whole) (a.front.items ++ (bytes ++ a.back.items))
   pub components : components_in (plain a.whole) ≡ first ∷ second ∷ []

@@ -106,7 +106,7 @@ pub fn front_of(
     })
 }
 
-/// The whole, with the second component in it, which has so many bytes.
+/// The whole, with the second component in it, which has that many bytes.
 pub fn assemble(
     alloc: Global,
     front: Front,

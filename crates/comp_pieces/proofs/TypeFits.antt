@@ -196,7 +196,7 @@ opened_some k = ap (λ (b : Bool). if b then [] else (suc k ∷ [])) (not_zero k
 declared_some : (k : ℕ) → declared (suc (suc k) ∷ []) ≡ suc k ∷ []
 declared_some k = ap (λ (b : Bool). if b then [] else ((suc (suc k) - 1) ∷ [])) (not_one k) ∙ ap (λ (n : ℕ). n ∷ []) (one_less (suc k))
 
--- what is open behind one that is declared
+-- what is open after one that is declared
 open_behind : (item : TypeItem) (k : ℕ) → IsDeclared item → open_after (suc (suc k) ∷ []) item ≡ suc k ∷ []
 open_behind item k h = opened_none (declarations_of item) (declared (suc (suc k) ∷ [])) h.none ∙ declared_some k
 

@@ -28,11 +28,11 @@ abbrev pub with_sections : Tree → List Section → Tree
 with_sections t [] = t
 with_sections t (s ∷ ss) = with_sections (add t (plain_section s)) ss
 
--- Behind the bytes of whatever component these bytes spell it with these sections too.
+-- After the bytes of whatever component these bytes spell it with these sections too.
 abbrev pub SpellMore : List Section → List ℕ → Type 0
 SpellMore sections bytes = (t : Tree) → (before : List ℕ) → SpellsBare 0 t before → SpellsBare 0 (with_sections t sections) (before ++ bytes)
 
--- Sections were added behind those that were there, and behind the bytes those that spell them. None holds a component.
+-- Sections were added after those that were there, and after the bytes those that spell them. None holds a component.
 pub record Extends (old_sections new_sections : List Section) (old new : List ℕ) : Type 0 where
   pub sections : List Section
   pub bytes : List ℕ

@@ -23,7 +23,7 @@ whole_run body = run (sections inside) (length body) End 0 8 body
 exact_inside : AreExact (sections inside)
 exact_inside = exact_sections inside (exact_component 99)
 
--- a spelling in which at most so many components stand in one another
+-- a spelling in which at most that many components stand in one another
 abbrev pub Shallow : Tree → List ℕ → Type 0
 Shallow t text = (component most_deep).Spells 0 t text
 
@@ -49,7 +49,7 @@ pub from_parts : (t : Tree) (text : List ℕ) → Spelled t text → Shallow t t
 unfolding component all_sections
 from_parts t text s = ((tt, t), refl {a = t}, (preamble, s.0, (refl {a = tt}, refl {a = preamble}), s.2, s.1))
 
--- behind the preamble stands one body
+-- after the preamble stands one body
 body_is : (body other : List ℕ) → preamble ++ body ≡ preamble ++ other → body ≡ other
 body_is body other e = sym (drop_at preamble body 8 refl) ∙ ap (drop 8) e ∙ drop_at preamble other 8 refl
 
@@ -187,7 +187,7 @@ no_front bytes (Err d) c h e more split =
     let again = (exact_fixed {A = Unit {0}} preamble tt).again tt preamble 0 more (refl {a = tt}, refl {a = preamble}) in
     err_not_ok (taken bytes) (tt, record { at = 0 + length preamble; rest = more }) d (ap taken split ∙ again) e
 
--- a run from behind the preamble is the whole run
+-- a run from after the preamble is the whole run
 pub from_start : (body : List ℕ) (r : Run Tree) (at : ℕ) → at ≡ 8 → run (sections inside) (length body) End 0 at body ≡ r → whole_run body ≡ r
 from_start body r at far h = ap (λ (n : ℕ). run (sections inside) (length body) End 0 n body) (sym far) ∙ h
 

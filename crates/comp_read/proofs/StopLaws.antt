@@ -1,4 +1,4 @@
--- Reading sections stops in the section behind those that are spelled. The laws hold of each stop that only a section gives.
+-- Reading sections stops in the section after those that are spelled. The laws hold of each stop that only a section gives.
 use Rattle.std.proofs.Common.{◌≡◌, ℕ, zero, suc, ◌+◌, ◌≤◌, Bool, true, false, cond, List, [], ◌∷◌, ◌++◌, length, Result, Ok, Err, ◌⊎◌, refl, sym, ap, subst, ◌∙◌, append_assoc, arith, inl, inr}
 use Rattle.std.proofs.lemmas.List.{length-append}
 use Rattle.wasm_format.specs.declared.stop.Stop.{Stop}
@@ -30,7 +30,7 @@ part_err : {S P : Type 0} (good : ℕ) (r : Result (P × Place) Stop) (f : P × 
 part_err good (Ok x) f d e = inr (x, refl, e)
 part_err good (Err c) f d e = inl (ap (λ (y : Stop). Err y) (same_err c d e))
 
--- a run that stopped so did it in the section behind those that the bytes spell
+-- a run that stopped so did it in the section after those that the bytes spell
 pub run_stopped : {S P : Type 0} (G : Sections S P) → AreExact G → (stop : Stop) → IsOfSection G stop → (fuel : ℕ) (s : S) (good at : ℕ) (rest : List ℕ) → (run G fuel s good at rest).outcome ≡ Err stop
     → (parts : List P) × (text more : List ℕ) × SectionsSpell G s at parts text × (rest ≡ text ++ more) × ((G.form (built G s parts)).read (after at text more) ≡ Err stop)
 unfolding run
@@ -69,7 +69,7 @@ stop_here G stop of fuel s good at [] le h = absurd (of.not_at_end s at h)
 stop_here G stop of zero s good at (b ∷ rest) le h = absurd (omega (arith, le))
 stop_here G stop of (suc fuel) s good at (b ∷ rest) le h = rw h refl
 
--- a stop behind sections that are spelled is met
+-- a stop after sections that are spelled is met
 pub run_stop : {S P : Type 0} (G : Sections S P) → AreExact G → (stop : Stop) → IsOfSection G stop → (parts : List P) (fuel : ℕ) (s : S) (good at : ℕ) (rest text more : List ℕ) → length rest ≤ fuel → SectionsSpell G s at parts text → rest ≡ text ++ more
     → (G.form (built G s parts)).read (after at text more) ≡ Err stop → (run G fuel s good at rest).outcome ≡ Err stop
 run_stop G g stop of [] fuel s good at rest text more le h e t =

@@ -16,7 +16,7 @@ use Rattle.comp_read.specs.declared.reading.CompReadFault.TheVariants.{Malformed
 abbrev pub inside : Format Tree
 inside = component 99
 
--- Behind the preamble and sections that the bytes spell, reading the next section stops so.
+-- After the preamble and sections that the bytes spell, reading the next section stops so.
 abbrev pub StopsAt : Stop → List ℕ → Type 0
 StopsAt stop text = (parts : List Part) × (front more : List ℕ) × (text ≡ preamble ++ (front ++ more)) × SectionsSpell (sections inside) End 8 parts front
     × ((section inside).read (record { at = 8 + length front; rest = more }) ≡ Err stop)
@@ -37,7 +37,7 @@ most_deep = 100
 abbrev pub SpellsReadable : Tree → List ℕ → Type 0
 SpellsReadable t text = SpellsComponent t text × (depth_of t ≤ most_deep)
 
--- So many bytes at the front of the text are a component, and no more are; or none are, and the number is 0.
+-- That many bytes at the front of the text are a component, and no more are; or none are, and the number is 0.
 abbrev pub IsLongest : ℕ → List ℕ → Type 0
 IsLongest at text = ((at ≡ 0) ⊎ ((t : Tree) × SpellsReadable t (take at text))) × ((n : ℕ) (t : Tree) → n ≤ length text → SpellsReadable t (take n text) → n ≤ at)
 

@@ -1,5 +1,5 @@
 //! Rows as lines: what a row is about, a colon, a component as `spelling` has it, ` => `, and the answer. What it is about may be
-//! missing. A line behind `# ` says what the next ones share.
+//! missing. A line after `# ` says what the next ones share.
 
 use crate::spelling::component_of;
 use crate::{joining, parts, plans, reading, running, validity, writing};

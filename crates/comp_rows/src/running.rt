@@ -80,7 +80,7 @@ fn components_are_run(rt: HostRuntime) -> Result<(), Fail> {
     hold(&rt, rt.alloc(), Asked::Running, ROWS)
 }
 
-/// What stands behind the size of a code section counts, of all modules at any depth.
+/// What stands after the size of a code section counts, of all modules at any depth.
 const SIZES: &str = "\
 nothing: whole 0061736d0d000100 => 0
 a function: 01220061736d010000000105016000017f03020100070501016600000a0601040041070b0204010000000607010000010001660705014000007908060100000000000b0701000166010000 => 6

@@ -1,4 +1,4 @@
-//! How rows spell components: hexadecimal digits are its sections; behind `whole` they are all of its bytes, and behind `around` and a
+//! How rows spell components: hexadecimal digits are its sections; after `whole` they are all of its bytes, and after `around` and a
 //! number the bytes that as many components hold, the one in the other. `types` and a number is a section of as many instance types
 //! in one another, around a `bool`, and `front` and a number as many bytes at the front of the component of `SEVEN`.
 
@@ -22,7 +22,7 @@ fn digits(alloc: Global, text: &str) -> Result<Vec<u8>, Fail> {
     Ok(hex::decode(alloc, text.as_bytes())?)
 }
 
-/// What a component begins with, and behind it these bytes.
+/// What a component begins with, and after it these bytes.
 fn begun(alloc: Global, behind: &[u8]) -> Result<Vec<u8>, Fail> {
     let mut bytes = digits(alloc, "0061736d0d000100")?;
     bytes.extend_from_slice(behind)?;

@@ -9,12 +9,12 @@ pub fn said(alloc: Global, words: &str) -> Result<String, Fail> {
     Ok(String::from_str(alloc, words)?)
 }
 
-/// A value behind words, as it is printed for debugging.
+/// A value after words, as it is printed for debugging.
 pub fn shown<T: Debug>(alloc: Global, before: &str, value: &T) -> Result<String, Fail> {
     Ok(format!(in alloc; "{before}{value:?}")?)
 }
 
-/// A name behind words.
+/// A name after words.
 pub fn named(alloc: Global, before: &str, name: &str) -> Result<String, Fail> {
     let mut words = String::from_str(alloc, before)?;
     words.push_str(name)?;
@@ -28,7 +28,7 @@ pub fn broken_rule(alloc: Global, rule: u32, section: u32) -> Result<String, Fai
     shown(alloc, words.as_str(), &section)
 }
 
-/// Adds words and a value behind a text.
+/// Adds words and a value after a text.
 pub fn put<T: Debug>(
     alloc: Global,
     text: &mut String,

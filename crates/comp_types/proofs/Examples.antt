@@ -123,7 +123,7 @@ too_deep_function = refl
 
 -- ---- instance types
 
--- a repeated name, and behind it an index that passes its space
+-- a repeated name, and after it an index that passes its space
 name_then_index : BreaksComponent (only (Types (items.Define (defs.Instance 3) ∷ items.Export (codes "a") descs.Resource ∷ items.Export (codes "A") descs.Resource ∷ items.Export (codes "b") (descs.Func 9) ∷ []))) 15 0
 name_then_index = inl (refl, inl (inl (inr (all_hold _ _ _ refl tt tt, inl (least_fails _ _ _ 15 refl tt tt)))))
 

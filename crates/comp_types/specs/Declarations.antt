@@ -1,4 +1,4 @@
--- The types that a section defines, as trees: what an instance type declares stands in it, and no longer behind it.
+-- The types that a section defines, as trees: what an instance type declares stands in it, and no longer after it.
 use Rattle.std.specs.Prelude.{ℕ, zero, suc, List, [], ◌∷◌}
 use Rattle.wasm_ast.specs.declared.component.ExternDesc.{ExternDesc}
 use Rattle.wasm_ast.specs.declared.component.TypeAlias.{TypeAlias}
@@ -29,7 +29,7 @@ behind zero ds = ds
 behind (suc n) Done = Done
 behind (suc n) (Then d ds) = behind n ds
 
--- an instance type takes in so many of the declarations behind it
+-- an instance type takes in that many of the declarations after it
 abbrev pub defined : TypeDef → Declarations → Declarations
 defined (defs.Instance n) rest = Then (AnInstanceType (first_of n rest)) (behind n rest)
 defined d rest = Then (ATypeDef d) rest

@@ -41,7 +41,7 @@ abbrev pub names : Entries → List Name
 names End = []
 names (More name _ rest) = name ∷ names rest
 
--- one more behind the others
+-- one more after the others
 abbrev pub and_entry : Entries → Name → Item → Entries
 and_entry End name item = More name item End
 and_entry (More n i rest) name item = More n i (and_entry rest name item)

@@ -283,7 +283,7 @@ alias_names_export s _ = true
 -- ---- rule 8: "outer aliases" stay in the components around, and no resource crosses the border of a component that way; what a
 -- component imports names no resource of its own
 
--- the border of a component lies within so many scopes
+-- the border of a component lies within that many scopes
 abbrev pub leaves_component : List Space → ℕ → Bool
 leaves_component scopes count = list_any (λ (scope : Space). scope.is_component) (take count scopes)
 

@@ -11,7 +11,7 @@ use std::rc::Rc;
 use virt_base::{Items, NoMemory, Text};
 
 /// What a component imports or exports, or an instance holds, under a name (Component Model, Explainer.md, "Type
-/// Definitions"). What is behind it is shared, so that a type costs no more for being named often.
+/// Definitions"). What it points to is shared, so that a type costs no more for being named often.
 #[derive(Debug, Drop)]
 #[cycle(items)]
 pub enum ItemType {
@@ -310,7 +310,7 @@ impl TypeItem {
         }
     }
 
-    /// An equal type, which shares what is behind it: the only want is that of one owner more.
+    /// An equal type, which shares what it points to, and fails only where one owner more can't be counted.
     pub fn copy(&self) -> Result<TypeItem, NoMemory>
         ensures { IfOk result (λ copy. kind_of copy ≡ kind_of self.now) }
     {
@@ -389,7 +389,7 @@ impl ItemType {
         }
     }
 
-    /// An equal item, which shares what is behind it: the only want is that of one owner more.
+    /// An equal item, which shares what it points to, and fails only where one owner more can't be counted.
     pub fn copy(&self) -> Result<ItemType, NoMemory>
         ensures { IfOk result (λ copy. item_of copy ≡ item_of self.now) }
     {

@@ -1,4 +1,4 @@
--- A component more, and the number of the next resource behind it.
+-- A component more, and the number of the next resource after it.
 use Rattle.std.proofs.Common.{◌≡◌, ℕ}
 use Rattle.comp_types.specs.Spaces.{Space, NestedComponent}
 use Rattle.comp_types.specs.Added.{and_component}

@@ -78,7 +78,7 @@ ends whole n counts x y rule (t ∷ around) s h rest k = end_in whole n counts y
 pub step_end : (whole : Scopes → Option ℕ → Type 0) (n : ℕ) (counts : List ℕ) (x y : Scopes) (rule : Option ℕ) → Leads whole (n ∷ counts) Done x → HasClosed x y rule → Step whole counts Done y rule
 step_end whole n counts x y rule l k = ends whole n counts x y rule l.around l.inner l.stand l.rest k
 
--- ---- one step behind another
+-- ---- one step after another
 
 join_leads : (whole : Scopes → Option ℕ → Type 0) (counts new : List ℕ) (ds all : Declarations) (x y : Scopes) (l : Leads whole counts all x) → Leads (Rest counts l.around l.inner all) new ds y → Leads whole new ds y
 join_leads whole counts new ds all x y l k = record { around = k.around; inner = k.inner; stand = k.stand; rest = λ z answer h. l.rest z answer (k.rest z answer h) }

@@ -10,7 +10,7 @@ use Rattle.comp_defining.specs.Around.{StandAll}
 use Rattle.comp_validate.specs.declared.components.Broken.{Broken}
 use Rattle.comp_validate.specs.Judged.{JudgedPart, JudgedTree}
 
--- so many sections further on
+-- that many sections further on
 abbrev pub later : ℕ → Option Broken → Option Broken
 later n None = None
 later n (Some b) = Some (record b { section = b.section + n })

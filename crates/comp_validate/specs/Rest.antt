@@ -1,4 +1,4 @@
--- What is still to be judged of a section of types while instance types are open: each has so many declarations left, and then it is
+-- What is still to be judged of a section of types while instance types are open: each has that many declarations left, and then it is
 -- closed. `whole` is what is to be said of the whole section, of the scopes at its end and the answer.
 use Rattle.std.specs.Prelude.{◌≡◌, ℕ, List, [], ◌∷◌, Option, Some, None, IsTrue, ◌⊎◌, ⊤}
 use Rattle.wasm_ast.specs.declared.component.TypeItem.{TypeItem}
@@ -28,7 +28,7 @@ alone (items.Define d) = ATypeDef d
 alone (items.Alias a) = ATypeAlias a
 alone (items.Export name desc) = ATypeExport name desc
 
--- how many declarations stand behind an instance type
+-- how many declarations stand after an instance type
 abbrev pub item_count : TypeItem → Option ℕ
 item_count (items.Define d) = declaration_count d
 item_count (items.Alias a) = None

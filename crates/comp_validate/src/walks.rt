@@ -8,7 +8,7 @@ use wasm_ast::{
     Alias, ComponentExport, ComponentImport, ExternDesc, Instance, OuterSort, TypeAlias,
 };
 
-/// What is made anew takes memory, some hundreds of bytes an entry: it counts as so many that are walked over.
+/// What is made anew takes memory, some hundreds of bytes an entry: it counts as that many that are walked over.
 const ANEW: u64 = 64;
 
 /// What making these anew counts as.

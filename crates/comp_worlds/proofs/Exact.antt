@@ -89,7 +89,7 @@ unfolding ◌>>◌ takes_step
 loose_step b s Q go go' w v h zero lt = refl
 loose_step b s Q go go' w v h (suc n) lt = equals_before (s + suc n) (s + n) Q [] [] (go tt w n) (go' tt v n) refl (omega arith) (h n (omega arith))
 
--- with so many steps more
+-- with that many steps more
 pub loose_more : {W V A B : Type 0} → (b b' used : ℕ) (Q : W → A → V → B → Type 0) (x : Act W A) (y : Act V B) (w : W) (v : V) → used + b ≤ b' → Exact b' Q (x w) (y v) → Loose b used Q (with_more used x w) (with_more used y v)
 unfolding with_more
 loose_more b b' used Q x y w v le h n lt = h (used + n) (omega arith)

@@ -161,7 +161,7 @@ module _ {W A V B : Type 0} (D : ℕ) (P : W → A → V → B → Type 0) where
       at z g zero n k le = absurd (omega arith)
       at z g (suc D') n k le = g D' n k (omega arith)
 
-  -- with so many steps more
+  -- with that many steps more
   pub similar_more : (used : ℕ) (x : ℕ → Act W A) (y : ℕ → Act V B) (w : W) (v : V) → Similar D P (λ d. x d w) (λ d. y d v) → Similar D P (λ d. with_more used (x d) w) (λ d. with_more used (y d) v)
   unfolding with_more
   similar_more used x y w v h = record {

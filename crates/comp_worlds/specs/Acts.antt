@@ -1,4 +1,4 @@
--- What is done to a world in at most so many steps. (This project's own: CanonicalABI.md gives its functions as Python generators.)
+-- What is done to a world in at most that many steps. (This project's own: CanonicalABI.md gives its functions as Python generators.)
 use Rattle.std.specs.Prelude.{◌≡◌, ℕ, zero, suc, ◌+◌, List, [], ◌∷◌, ◌++◌}
 use Rattle.host_port.specs.Calls.{PlainObservation, Trapped as ItTrapped, ScriptEnded as ItsScriptEnded, BadAnswer as ItsBadAnswer, Spent as IsSpent, TooDeep as IsTooDeep}
 
@@ -68,7 +68,7 @@ unfoldable pub takes_step : {W : Type 0} → Act W (Unit {0})
 takes_step w zero = Spent []
 takes_step w (suc n) = Next [] n w tt
 
--- in so many steps more
+-- in that many steps more
 unfoldable pub with_more : {W A : Type 0} → ℕ → Act W A → Act W A
 with_more used x w n = x w (used + n)
 

@@ -48,7 +48,7 @@ below_end w (Spent o) = Spent o
 unfoldable pub below : {S A : Type 0} → Act S A → Act (World S) A
 below x w n = below_end w (x w.below n)
 
--- core code stands at its end, or at a question, in which so many calls are in progress, and for which so many steps were used
+-- core code stands at its end, or at a question, in which that many calls are in progress, and for which that many steps were used
 pub data Pause : Type 0 where
   Finished : (results : List CoreValue) → Pause
   Question : (number : ℕ) (args : List CoreValue) (nesting used : ℕ) → Pause
@@ -83,7 +83,7 @@ finds_room d w n = if_room (has_room d) w n
 abbrev pub begins_call : {W : Type 0} → Nesting → Act W (Unit {0})
 begins_call d = takes_step >> λ _. finds_room d
 
--- ---- 2. canonical calls. `run` runs a core function of an instance, where so many calls are in progress
+-- ---- 2. canonical calls. `run` runs a core function of an instance, where that many calls are in progress
 
 abbrev pub Run : Type 0 → Type 0
 Run S = Nesting → ℕ → ℕ → List CoreValue → Act (World S) (List CoreValue)
@@ -117,7 +117,7 @@ during d Nothing = d
 during d (Served k lifting results) = deeper d
 during d (Below due) = during d due
 
--- where the result goes, if it goes through memory: the parameter behind the others
+-- where the result goes, if it goes through memory: the parameter after the others
 abbrev pub place_in : PlainFunc → List ℕ → ℕ
 place_in ty args = slice_index args (length (core_params ty))
 

@@ -12,7 +12,7 @@ use Rattle.comp_worlds.specs.Passing.{Passed}
 
 -- ---- the nesting of calls
 
--- How many core calls and canonical calls are in progress, of so many at most. Without a limit they are not counted, so that what
+-- How many core calls and canonical calls are in progress, of that many at most. Without a limit they are not counted, so that what
 -- nests differently but has no limit is in one state.
 pub data Nesting : Type 0 where
   Endless : Nesting
@@ -32,7 +32,7 @@ abbrev pub at_depth : Nesting → ℕ → Nesting
 at_depth Endless now = Endless
 at_depth (Nested most was) now = Nested most now
 
--- a store in which so many calls are in progress
+-- a store in which that many calls are in progress
 abbrev pub store_at : Nesting → State → State
 store_at Endless s = record s { nesting = 0; deepest = None }
 store_at (Nested most now) s = record s { nesting = now; deepest = Some most }

@@ -11,7 +11,7 @@ use Rattle.comp_worlds.specs.Groups.{Nesting, Endless, Nested, Target, type_of, 
 use Rattle.comp_worlds.specs.Calls.{below, runs, deep_enough, leaves, answers_if, group, is_made, at_rest}
 use Rattle.comp_worlds.specs.Hosts.{hosted}
 
--- ---- groups over a host, each over those behind it
+-- ---- groups over a host, each over those after it
 
 abbrev pub State : List Group → Type 0 → Type 0
 State [] S = S
@@ -25,7 +25,7 @@ abbrev pub first_state : {S : Type 0} → (groups : List Group) → S → State 
 first_state [] s = s
 first_state (G ∷ Gs) s = record { configs = λ k. at_rest; below = first_state Gs s }
 
--- groups are made, those behind first
+-- groups are made, those after first
 abbrev pub are_made : {S : Type 0} → Nesting → (groups : List Group) → Ports S → Act (State groups S) (Unit {0})
 are_made d [] p = gives tt
 are_made d (G ∷ Gs) p = below (are_made d Gs p) >> λ _. is_made G (stack Gs p) d

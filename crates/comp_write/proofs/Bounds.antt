@@ -10,7 +10,7 @@ use Rattle.comp_grammar.specs.Components.{parts_of, component, SpellsComponent}
 use Rattle.comp_grammar.proofs.DepthLaws.{deeper, spelled_once}
 use Rattle.comp_write.specs.Copying.{bare, SpellsBare, cut, LiesIn, IsCopyable, MayWrite}
 
--- The bytes, which stand at this offset, are a spelling of the component, up to the places where its parts stand; at most so many
+-- The bytes, which stand at this offset, are a spelling of the component, up to the places where its parts stand; at most that many
 -- components stand in one another.
 abbrev pub SpellsWithin : ℕ → ℕ → Tree → List ℕ → Type 0
 SpellsWithin depth at t text = (u : Tree) × (component depth).Spells at u text × (bare u ≡ bare t)

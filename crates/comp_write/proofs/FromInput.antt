@@ -17,7 +17,7 @@ use Rattle.comp_write.specs.Copying.{cut, LiesIn, MayWrite}
 use Rattle.comp_write.proofs.Bounds.{CopiesWithin, WritesWithin, may_at_any}
 use Rattle.comp_grammar.proofs.BuiltLaws.{built_is, parts_built}
 
--- the part of an input behind a front and a size
+-- the part of an input after a front and a size
 stands : (source front size y more : List ℕ) (at : ℕ) → source ≡ front ++ ((size ++ y) ++ more) → at ≡ length front → length source < 2 ^ 32
     → LiesIn (span_of {A = Unit {0}} (at + length size) (at + length size + length y) tt) source × (cut (span_of {A = Unit {0}} (at + length size) (at + length size + length y) tt) source ≡ y)
 stands source front size y more at e far small =
@@ -31,7 +31,7 @@ stands source front size y more at e far small =
       ap (λ (n : ℕ). take n (drop from source)) count ∙ ap (take (length y)) behind ∙ take_at y more (length y) refl,
     )
 
--- What is spelled behind a front of the input is copied from there.
+-- What is spelled after a front of the input is copied from there.
 pub record GivesCopy (depth : ℕ) (F : Format Part) : Type 0 where
   pub gives : (source front text more : List ℕ) (at : ℕ) (p : Part) → source ≡ front ++ (text ++ more) → at ≡ length front → length source < 2 ^ 32 → F.Spells at p text → CopiesWithin depth source p
 

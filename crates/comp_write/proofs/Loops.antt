@@ -44,7 +44,7 @@ pub one_item : (open_now : List ℕ) (old all : List ℕ) (items : List TypeItem
 one_item open_now old all items i x lt e h =
     append_assoc old ((choose (is_none_open open_now) definition declaration).write x) (items_bytes (open_after open_now x) (drop (i + 1) items)) ∙ ap (λ (l : List TypeItem). old ++ items_bytes open_now l) (sym (next items i x lt e)) ∙ h
 
--- the number of own definitions behind an item
+-- the number of own definitions after an item
 pub one_counted : (open_now : List ℕ) (n total : ℕ) (items : List TypeItem) (i : ℕ) (x : TypeItem) → i < length items → x ≡ get_or items i x → n + own_types open_now (drop i items) ≡ total
     → n + cond (is_none_open open_now) 1 0 + own_types (open_after open_now x) (drop (i + 1) items) ≡ total
 one_counted open_now n total items i x lt e h =

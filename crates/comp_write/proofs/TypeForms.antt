@@ -64,7 +64,7 @@ pub items_written : (items : List TypeItem) → type_items.write items ≡ u32_f
 unfolding type_items
 items_written items = ap (λ (z : List ℕ). u32_format.write (own_types [] items) ++ z) (all_written items (all_due (own_types [] items)))
 
--- a count, and items behind it
+-- a count, and items after it
 pub section_written : (old mid new bytes : List ℕ) (n : ℕ) (items : List TypeItem) → n ≡ own_types [] items → bytes ≡ items_bytes [] items → mid ≡ old ++ shortest_unsigned 4 n → new ≡ mid ++ bytes → new ≡ old ++ type_items.write items
 unfolding u32_format
 section_written old mid new bytes n items count is first last =

@@ -31,7 +31,7 @@ goes_on s t u a b = record {
 pub file_stays : (name : List ℕ) (s t : FilesState) → t.held ≡ s.held → t.held.file name ≡ s.held.file name
 file_stays name s t stays = ap (λ (h : Held). h.file name) stays
 
--- why a file did not do that was read behind another
+-- why a file did not do that was read after another
 pub earlier : (name what : List ℕ) (limit : ℕ) (Refuses : List ℕ → Refusal → Type 0) (s t u : FilesState) (e : Unready) → Goes s t → t.held ≡ s.held
     → Cause name what limit Refuses t u e → Cause name what limit Refuses s u e
 earlier name what limit Refuses s t u (FileFault kept) goes stays h = record {
@@ -52,7 +52,7 @@ earlier name what limit Refuses s t u (Refused refusal) goes stays (inr (inr h))
   there = λ told. sym (file_stays name s t stays) ∙ h.there (goes.told ∙ told);
 }))
 
--- behind a component that does
+-- after a component that does
 module _ {A B : Type 0} (what : List ℕ) (limit : ℕ) (Refuses : List ℕ → Refusal → Type 0) (Has : A → Type 0) (Ready : B → Type 0) (Fits : Fitting) (component script : List ℕ) (s t : FilesState)
     (a : A) (f : FetchesAs component what limit Refuses Has s t (Ok a)) (bytes : List ℕ) (tree : Tree) (here : s.told ≡ true → s.held.file component ≡ Some bytes) (fits : Fits bytes tree) where
   -- the script's file is there
@@ -86,7 +86,7 @@ module _ {A B : Type 0} (what : List ℕ) (limit : ℕ) (Refuses : List ℕ → 
         (second.0 ∙ first.0, tt);
   }
 
--- a script that was read behind another file
+-- a script that was read after another file
 script_before : (exports : Entries) (name : List ℕ) (s t : FilesState) (script : Scripted) → Goes s t → t.held ≡ s.held → HasScript exports name t script → HasScript exports name s script
 script_before exports name s t script goes stays h = record {
   bytes = h.bytes;
@@ -96,7 +96,7 @@ script_before exports name s t script goes stays h = record {
   there = λ told. sym (file_stays name s t stays) ∙ h.there (goes.told ∙ told);
 }
 
--- why a listed component or its script did not do that were read behind another file
+-- why a listed component or its script did not do that were read after another file
 pub listed_earlier : (component script : List ℕ) (s t u : FilesState) (e : Unready) → Goes s t → t.held ≡ s.held → ListedCause component script t u e → ListedCause component script s u e
 listed_earlier component script s t u e goes stays (inl h) = inl (earlier component (bytes_name Run) (bytes_limit Run) (IsApplicationRefusal Run) s t u e goes stays h)
 listed_earlier component script s t u e goes stays (inr h) = inr (

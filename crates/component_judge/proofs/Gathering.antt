@@ -12,7 +12,7 @@ entries_cut : (entries : List InstanceEntry) (i : ℕ) (e : InstanceEntry) → i
     → entries_of (drop i entries) ≡ More e.name (item_of e.ty) (entries_of (drop (i + 1) entries))
 entries_cut entries i e h is = ap entries_of (drop_more entries i e h ∙ ap (λ y. y ∷ drop (i + 1) entries) (sym is))
 
--- one more behind those so far
+-- one more after those so far
 joined : (old new one later whole : Exports) → new ≡ old ++ one → old ++ (one ++ later) ≡ whole → new ++ later ≡ whole
 joined old new one later whole pushed is = ap (λ xs. xs ++ later) pushed ∙ (append_assoc old one later ∙ is)
 

@@ -16,7 +16,7 @@ use Rattle.comp_read.specs.declared.reading.CompReadFault.TheVariants.{Malformed
 exact_inside : AreExact (sections inside)
 exact_inside = exact_sections inside (exact_component 99)
 
--- behind the preamble stands one body
+-- after the preamble stands one body
 body_is : (body other : List ℕ) → preamble ++ body ≡ preamble ++ other → body ≡ other
 body_is body other e = sym (drop_at preamble body 8 refl) ∙ ap (drop 8) e ∙ drop_at preamble other 8 refl
 

@@ -98,7 +98,7 @@ Judges bytes (Err refusal) = IsRefusal bytes refusal
 abbrev pub HasOneVerdict : Type 0
 HasOneVerdict = (bytes : List ℕ) (tree : Tree) (refusal : Refusal) → IsRunnable bytes tree → refusal ≢ NoMemory → IsRefusal bytes refusal → ⊥
 
--- of two refusals beside want of memory both are the same
+-- of two refusals beside that memory ran out both are the same
 abbrev pub HasOneRefusal : (List ℕ → Refusal → Type 0) → Type 0
 HasOneRefusal Refuses = (bytes : List ℕ) (a b : Refusal) → a ≢ NoMemory → b ≢ NoMemory → Refuses bytes a → Refuses bytes b → a ≡ b
 
@@ -113,7 +113,7 @@ abbrev pub JudgesSound : Purpose → List ℕ → Result Judged Refusal → Type
 JudgesSound purpose bytes (Ok j) = IsSound purpose bytes (plain j.component) × (component_signature j.ty ≡ type_of (plain j.component))
 JudgesSound purpose bytes (Err refusal) = IsRefusalBy purpose IsNeverAtFault bytes refusal
 
--- of so many bytes
+-- of that many bytes
 abbrev pub HasFewBytes : Purpose → ℕ → Result (Unit {0}) Refusal → Type 0
 HasFewBytes purpose len r = IsWithin (bytes_name purpose) (bytes_limit purpose) len r
 

@@ -5,7 +5,7 @@ use Rattle.component_judge.specs.declared.limits.Purpose.TheVariants.{Virt, Run}
 use Rattle.component_judge.specs.declared.refusal.Refusal.{Refusal}
 use Rattle.component_judge.specs.declared.refusal.Refusal.TheVariants.{OverLimit, NoMemory}
 
--- A component has at most so many bytes,
+-- A component has at most that many bytes,
 abbrev pub bytes_limit : Purpose → ℕ
 bytes_limit Virt = 33554432
 bytes_limit Run = 201326592
@@ -15,12 +15,12 @@ abbrev pub bytes_name : Purpose → List ℕ
 bytes_name Virt = codes "application-bytes"
 bytes_name Run = codes "component-bytes"
 
--- and its code sections have at most so many together, where they are limited.
+-- and its code sections have at most that many together, where they are limited.
 abbrev pub code_limit : Purpose → Option ℕ
 code_limit Virt = None
 code_limit Run = Some 67108864
 
--- A script has at most so many bytes.
+-- A script has at most that many bytes.
 abbrev pub script_limit : ℕ
 script_limit = 67108864
 

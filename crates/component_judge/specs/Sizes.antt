@@ -1,4 +1,4 @@
--- How many bytes of code a component holds: those behind the size of each section 10 (WebAssembly Core 2.0, section 5.5.13) of its
+-- How many bytes of code a component holds: those after the size of each section 10 (WebAssembly Core 2.0, section 5.5.13) of its
 -- modules and of the modules of the components in it.
 use Rattle.std.specs.Prelude.{ℕ, ◌≡◌, ◌+◌, ◌-◌, ◌^◌, zero, suc, min, ◌==◌, nat_le, nat_lt, List, [], ◌∷◌, length, take, drop, Option, Some, None, Result, Ok, Err, if◌then◌else◌}
 use Rattle.virt_base.specs.Place.{Place, place}
@@ -10,7 +10,7 @@ use Rattle.comp_grammar.specs.Trees.{Part, Tree, CoreModule, Nested, End, More}
 
 -- ---- sections of a module
 
--- a section: its number, its size, and what stands behind it
+-- a section: its number, its size, and what stands after it
 abbrev pub Head : Type 0
 Head = ℕ × ℕ × Place
 
@@ -34,12 +34,12 @@ abbrev pub counted : Option Head → (Place → ℕ) → ℕ
 counted None later = 0
 counted (Some h) later = code_size h.0 h.1 + later h.2
 
--- the bytes of the code sections among at most so many
+-- the bytes of the code sections among at most that many
 unfoldable pub code_behind : ℕ → Place → ℕ
 code_behind zero p = 0
 code_behind (suc n) p = counted (section_at p) (λ q. code_behind n q)
 
--- of a module: its sections stand behind a preamble of eight bytes
+-- of a module: its sections stand after a preamble of eight bytes
 abbrev pub module_code : List ℕ → ℕ
 module_code bytes = code_behind (length bytes) (record { at = 8; rest = drop 8 bytes })
 

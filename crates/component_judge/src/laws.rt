@@ -3,7 +3,7 @@
 ghost use Rattle.component_judge.specs.Components.{HasOneRefusal, HasOneVerdict, IsRefusal};
 ghost use Rattle.component_judge.specs.Applications.{ListingIsOne, HasOneListing};
 
-/// The law that bytes call for one refusal at most, besides want of memory, whatever they are read for. It does nothing when it runs.
+/// The law that bytes call for one refusal at most, besides that memory ran out, whatever they are read for. It does nothing when it runs.
 pub fn one_refusal_of_bytes()
     ensures alone { HasOneRefusal IsRefusal }
     ensures listed { ListingIsOne }

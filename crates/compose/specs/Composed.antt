@@ -19,7 +19,7 @@ pub record IsAdapter (policy : Policy) (uses : List ListedUse) (adapter : Tree) 
   pub valid : IsValidComponent adapter
   pub imports : AreNeeded policy uses (type_of adapter).imports
 
--- The bytes before and behind an application of so many bytes, which imports these interfaces and exports these entries, make an
+-- The bytes before and after an application of that many bytes, which imports these interfaces and exports these entries, make an
 -- output of it under the policy.
 pub record IsComposed (policy : Policy) (app : Tree) (uses : List ListedUse) (exported : Entries) (size : ℕ) (c : Composed) : Type 0 where
   pub output : Tree

@@ -18,7 +18,7 @@ abbrev pub NoElse : Option (List Operand) → List Operand → Type 0
 NoElse None rs = Unit {0}
 NoElse (Some ps) rs = ps ≡ rs
 
--- what stands behind the sequence of a level
+-- what stands after the sequence of a level
 abbrev pub After : Context → Labels → Level → (List Instr → Type 0) → List Instr → Type 0
 After c labels l K rest =
     ((more : List Instr) × (rest ≡ code.End ∷ more) × NoElse l.other l.results × K more)

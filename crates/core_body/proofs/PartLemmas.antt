@@ -99,7 +99,7 @@ same-sym text i j n h k l = sym (h k l)
 same-trans : (text : List ℕ) (i j m n : ℕ) → Same text i j n → Same text j m n → Same text i m n
 same-trans text i j m n f g k l = f k l ∙ g k l
 
--- a name that two lists have behind so many has stood there before
+-- a name that two lists have after that many has stood there before
 name-behind : (names : List ℕ) (a b i j : ℕ) → OneName (drop a names) (drop b names) i j → OneName names names (a + i) (b + j)
 name-behind names a b i j (n, e, f) = (n, sym (get-drop a names i (a + i) refl) ∙ e, sym (get-drop b names j (b + j) refl) ∙ f)
 
@@ -133,7 +133,7 @@ follows-more ws xs ys zs new p before here i q e =
       | inr h ↦ subst (λ n. FourNames ws xs ys zs q n) (sym h.0) (subst (λ n. FourNames ws xs ys zs n (length new)) h.1 here)
     ]
 
--- what is put behind the text lies there, and the rest stays
+-- what is put after the text lies there, and the rest stays
 pub lies-behind : (text : List ℕ) (types : List CoreType) → Lies (text ++ map letter types) (length text) types
 lies-behind text types k t e = get-back text (map letter types) (length text + k) k refl ∙ get-letter types k t e
 

@@ -172,7 +172,7 @@ abbrev pub block_conditions : BlockType → List Condition
 block_conditions (Index n) = TypeAt n ∷ []
 block_conditions _ = []
 
--- the conditions of an instruction with so many labels around it
+-- the conditions of an instruction with that many labels around it
 abbrev pub conditions : ℕ → Instr → List Condition
 conditions labels (code.Plain o) = op_conditions o
 conditions labels (code.Block t) = block_conditions t
@@ -194,7 +194,7 @@ abbrev pub place_conditions : Bool → Instr → List Condition
 place_conditions true i = declared_conditions i
 place_conditions false i = Constant i ∷ []
 
--- how many labels there are behind an instruction
+-- how many labels there are after an instruction
 abbrev pub labels_behind : ℕ → Instr → ℕ
 labels_behind n (code.Block t) = n + 1
 labels_behind n (code.Loop t) = n + 1

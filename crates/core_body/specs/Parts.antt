@@ -66,7 +66,7 @@ place_in places (Only t) = None
 place_in places (Params n) = params_place (slice_get places n)
 place_in places (Results n) = results_place (slice_get places n)
 
--- a place is so far behind one that there is
+-- a place is so far after one that there is
 abbrev pub IsBehind : Option ℕ → ℕ → ℕ → Type 0
 IsBehind start at i = (p : ℕ) × (start ≡ Some p) × (i ≡ p + at)
 
@@ -74,6 +74,6 @@ IsBehind start at i = (p : ℕ) × (start ≡ Some p) × (i ≡ p + at)
 abbrev pub Indexes : List CoreFunc → Parts → Type 0
 Indexes types parts = (text : List ℕ) × AreLevels text parts.levels.items × AreLaid text types parts.places.items
 
--- so many types are the same from places of two lists on
+-- that many types are the same from places of two lists on
 abbrev pub SameTypes : List CoreType → ℕ → List CoreType → ℕ → ℕ → Type 0
 SameTypes xs i ys j len = (k : ℕ) → k < len → slice_get xs (i + k) ≡ slice_get ys (j + k)

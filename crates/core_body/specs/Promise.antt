@@ -25,7 +25,7 @@ abbrev pub GoesOn : Tree → Type 0
 GoesOn (Leaf i) = MayGoOn i
 GoesOn _ = Unit {0}
 
--- of the values held, the instruction takes the first, whose types are right; the rest of the sequence is typed behind it
+-- of the values held, the instruction takes the first, whose types are right; the rest of the sequence is typed after it
 pub record Finds (c : Context) (labels : Labels) (t : Tree) (ts : Trees) (held : List CoreType) (after : List Operand) : Type 0 where
   pub takes : List CoreType
   pub rest : List CoreType

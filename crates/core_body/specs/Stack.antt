@@ -18,7 +18,7 @@ level_of c s = pieces_of c (reverse (drop s.height s.pieces.items))
 abbrev pub below_of : Stack → List Piece
 below_of s = take s.height s.pieces.items
 
--- the level's operands below so many pieces, and from a place down
+-- the level's operands below that many pieces, and from a place down
 abbrev pub down_from : Context → Stack → ℕ → List Operand
 down_from c s at = pieces_of c (reverse (drop s.height (take at s.pieces.items)))
 

@@ -31,14 +31,14 @@ pub struct Places {
     pub results: Option<usize>,
 }
 
-/// All long lists behind one another are the text, of which the levels tell what is the same.
+/// All long lists after one another are the text, of which the levels tell what is the same.
 #[derive(Drop)]
 pub struct Parts {
     pub places: Vec<Places>,
     pub levels: Vec<Level>,
 }
 
-/// Names at four places, each a size behind the one before.
+/// Names at four places, each a size after the one before.
 #[derive(Clone, Copy)]
 struct Quarters<'a> {
     first: &'a [u32],
@@ -83,7 +83,7 @@ fn key_at(q: &Quarters<'_>, i: usize) -> u128 {
     high | low
 }
 
-/// Each place with its key, those of one key behind one another.
+/// Each place with its key, those of one key after one another.
 fn sorted_keys(alloc: Global, q: &Quarters<'_>) -> Result<Vec<(u128, u32)>, NoMemory> {
     let mut keyed = Vec::new(alloc);
     for at in 0..q.fourth.len() {
@@ -133,7 +133,7 @@ fn four_times(alloc: Global, q: &Quarters<'_>) -> Result<Vec<u32>, NoMemory>
     Ok(new)
 }
 
-/// The names behind so many.
+/// The names after that many.
 fn behind(names: &[u32], count: usize) -> &[u32]
     ensures { result.now ≡ drop count names.now }
 {
@@ -237,7 +237,7 @@ fn known_place(
     }
 }
 
-/// Puts a list behind the text, if it is long and not there.
+/// Puts a list after the text, if it is long and not there.
 fn lay(
     alloc: Global,
     text: &mut Vec<u32>,

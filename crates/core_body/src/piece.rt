@@ -103,7 +103,7 @@ fn bite_one(scope: &Scope<'_>, found: Operand, due: Run) -> Option<Met>
     }
 }
 
-/// Whether what is left of a run behind its first types, and of the types due behind theirs, is the same.
+/// Whether what is left of a run after its first types, and of the types due after theirs, is the same.
 fn same_ends(
     scope: &Scope<'_>,
     run: Run,

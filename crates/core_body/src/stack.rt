@@ -183,7 +183,7 @@ impl Stack {
         Walk::Left(Rest { at, part: met.part })
     }
 
-    /// Takes off all but so many pieces.
+    /// Takes off all but that many pieces.
     fn cut(&mut self, scope: &Scope<'_>, at: usize)
         requires { self.old.height ≤ at }
         ensures level { level_of (context_of scope.now) self.new ≡ down_from (context_of scope.now) self.old at }

@@ -505,7 +505,7 @@ fn step(
     }
 }
 
-/// What an instruction leads to; none goes on behind the end, or behind one that was refused.
+/// What an instruction leads to; none goes on after the end, or after one that was refused.
 pub fn advance(
     scope: &Scope<'_>,
     alloc: Global,

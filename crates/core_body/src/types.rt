@@ -67,7 +67,7 @@ impl<'a> TypeLists<'a> {
         self.numbers.as_slice()
     }
 
-    /// Whether so many types from two places of lists on are known for the same, in a few steps.
+    /// Whether that many types from two places of lists on are known for the same, in a few steps.
     pub fn same_slices(
         &self,
         a: Source,

@@ -30,7 +30,7 @@ leaf_ends c labels (code.CallIndirect ty table) ps rs rest ends t e = ap (option
 closed : (rest : List Instr) (ends : List Bool) → ends_of rest ≡ Some ends → ends_of (code.End ∷ rest) ≡ Some (false ∷ ends)
 closed rest ends e = ap (option_and_then (opened Closer)) e
 
--- typed code leaves open what is open behind it
+-- typed code leaves open what is open after it
 pub spelled_ends : (c : Context) (t : Trees) (labels : Labels) (before after : List Operand) (rest : List Instr) (ends : List Bool) → Typed c labels t before after → ends_of rest ≡ Some ends → ends_of (spell t rest) ≡ Some ends
 spelled_ends c Nil labels before after rest ends d e = e
 spelled_ends c (Cons (Leaf i) ts) labels before after rest ends d e =

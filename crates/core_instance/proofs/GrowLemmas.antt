@@ -7,7 +7,7 @@ use Rattle.core_store.specs.declared.value.CoreValue.{CoreValue}
 use Rattle.core_store.specs.Table.{Entries}
 use Rattle.core_store.specs.State.{State}
 
--- what was made of so many items, behind what was there, and what is made of one more
+-- what was made of that many items, after what was there, and what is made of one more
 pub made_more : {A B : Type 0} (f : A → B) (xs : List B) (ys : List A) (i : ℕ) (d : A) → i < length ys → (xs ++ map f (take i ys)) ++ f (get_or ys i d) ∷ [] ≡ xs ++ map f (take (i + 1) ys)
 made_more f xs ys i d less =
     append_assoc xs (map f (take i ys)) (f (get_or ys i d) ∷ []) ∙ ap (λ zs. xs ++ zs) (sym (map_more f ys i d less))

@@ -32,7 +32,7 @@ leaves_as one due t (Err faults.NoMemory) fault is h go = tt
 
 -- ---- lists
 
--- the item at a place, and what is behind it
+-- the item at a place, and what is after it
 pub found : {X : Type 0} (xs : List X) (k : ℕ) (y : X) (ys : List X) (d : X) → drop k xs ≡ y ∷ ys → (k < length xs) × (get_or xs k d ≡ y) × (drop (k + 1) xs ≡ ys)
 found [] zero y ys d e = absurd cc
 found [] (suc k) y ys d e = absurd cc
@@ -54,7 +54,7 @@ rest_is xs i x less is = drop_more xs i x less ∙ ap (λ (y : _). y ∷ drop (i
 
 -- ---- element segments
 
--- after so many segments: the others lead where all lead, and stand in the store
+-- after that many segments: the others lead where all lead, and stand in the store
 pub record ElementsGo (v : CoreSpaces) (names : Names) (s : State) (first : ℕ) (segments : List Elements) (t : State) (i : ℕ) : Type 0 where
   pub goes : apply_elements v names t (first + i) (drop i segments) ≡ apply_elements v names s first segments
   pub count : length t.elements ≡ length s.elements
@@ -109,7 +109,7 @@ elements_begin v names s first segments held =
 
 -- ---- data segments
 
--- after so many segments: the others lead where all lead, and stand in the store
+-- after that many segments: the others lead where all lead, and stand in the store
 pub record SegmentsGo (v : CoreSpaces) (names : Names) (s : State) (first : ℕ) (segments : List Data) (t : State) (i : ℕ) : Type 0 where
   pub goes : apply_segments v names t (first + i) (drop i segments) ≡ apply_segments v names s first segments
   pub count : length t.segments ≡ length s.segments

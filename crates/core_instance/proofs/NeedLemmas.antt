@@ -47,7 +47,7 @@ needs c n (i ∷ is) h =
     let more = place_conditions true i ++ code_conditions true (labels_behind n i) is in
     (need c n i (met_first c (conditions n i) more h), needs c (labels_behind n i) is (met_behind c (place_conditions true i) _ (met_behind c (conditions n i) more h)))
 
--- behind a sequence
+-- after a sequence
 pub needs_behind : (c : Context) (t : Trees) (rest : List Instr) → EachNeeds c (spell t rest) → EachNeeds c rest
 needs_behind c Nil rest h = h
 needs_behind c (Cons (Leaf i) ts) rest h = needs_behind c ts rest h.1

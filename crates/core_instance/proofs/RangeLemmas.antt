@@ -35,7 +35,7 @@ pub get_range : (from count i : ℕ) → i < count → slice_get (range_with_len
 get_range from count i lt =
     slice_get-get_or (range_with_len from count) i 0 (omega (arith, lt, length-range_with_len from count)) ∙ ap Some (get_or-range_with_len from count i 0 lt)
 
--- one place more behind those that are there
+-- one place more after those that are there
 pub places_more : (places now next : List ℕ) (from n at : ℕ) → now ≡ places ++ range_with_len from n → at ≡ from + n → next ≡ now ++ at ∷ [] → next ≡ places ++ range_with_len from (n + 1)
 places_more places now next from n at e f h =
     h ∙ (ap (λ (xs : List ℕ). xs ++ at ∷ []) e ∙ (append_assoc places (range_with_len from n) (at ∷ []) ∙ (ap (λ (k : ℕ). places ++ (range_with_len from n ++ k ∷ [])) f ∙ ap (λ (xs : List ℕ). places ++ xs) (range_more from n))))

@@ -17,7 +17,7 @@ use Rattle.core_instance.specs.declared.external.Extern.{Extern}
 use Rattle.core_instance.specs.Spaces.{places_of}
 use Rattle.core_instance.specs.Instantiation.{and_next, without_element, without_segment, with_refs, with_bytes, write_element, write_segment, apply_element, apply_data, apply_elements, apply_segments, names_of, allocated, instantiated}
 
--- the store behind it, or the one in which it traps, has this scene
+-- the store after it, or the one in which it traps, has this scene
 abbrev pub Has : Scene → Result State State → Type 0
 Has w (Ok t) = scene_of t ≡ w
 Has w (Err t) = scene_of t ≡ w

@@ -1,4 +1,4 @@
--- What writing a segment keeps: how many items there are, and the segments behind it.
+-- What writing a segment keeps: how many items there are, and the segments after it.
 use Rattle.std.proofs.Common.{◌≡◌, ℕ, ◌+◌, [], length, drop, Bool, true, false, cond, nat_le, Option, Some, None, Result, Ok, Err, refl, subst, arith}
 use Rattle.std.proofs.lemmas.List.{length-set, drop-set-lt}
 use Rattle.wasm_ast.specs.declared.module.Elements.{Elements}

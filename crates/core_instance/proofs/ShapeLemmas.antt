@@ -26,7 +26,7 @@ use Rattle.core_instance.specs.Sound.{Suits, AllMet}
 pub length_operands : (ts : List CoreType) → length (operands ts) ≡ length ts
 length_operands ts = length-reverse (map (λ t. Known t) ts) ∙ length-map ts (λ t. Known t)
 
--- so many operands before and after
+-- that many operands before and after
 pub record Counts (ps rs : List Operand) (before after : ℕ) : Type 0 where
   pub before_is : length ps ≡ before
   pub after_is : length rs ≡ after

@@ -53,7 +53,7 @@ each_takes labels ls l (m ∷ ms) h t zero n e =
     subst (λ x. Reaches ls x (length l)) same first
 each_takes labels ls l (m ∷ ms) h t (suc k) n e = each_takes labels ls l ms h t.1 k n e
 
--- an index behind the list stands for the last one
+-- an index after the list stands for the last one
 chosen : (R : ℕ → Type 0) (ns : List ℕ) (d v : ℕ) → R d → ((k n : ℕ) → slice_get ns k ≡ Some n → R n) → R (slice_index_or ns v d)
 chosen R [] d v r each = r
 chosen R (n ∷ ns) d zero r each = each zero n refl

@@ -37,7 +37,7 @@ leaf_placed c labels (code.CallIndirect ty table) ps rs qs t = refl
 abbrev part : Seq → Seq → Part
 part here other = record { here = here; other = other }
 
--- typed code stands before what is left behind it
+-- typed code stands before what is left after it
 spelled_parts : (c : Context) (t : Trees) (labels : Labels) (before after : List Operand) (rest : List Instr) (here other : Seq) (qs : List Part) →
     Typed c labels t before after → parts rest ≡ part here other ∷ qs → parts (spell t rest) ≡ part (seq t here) other ∷ qs
 spelled_parts c Nil labels before after rest here other qs d e = e

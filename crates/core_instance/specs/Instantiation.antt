@@ -53,7 +53,7 @@ names_of s m imports = record {
   functions = (places_of s m imports).functions;
 }
 
--- what the names lead to is there in a store with so many functions
+-- what the names lead to is there in a store with that many functions
 abbrev pub AreNames : ℕ → Names → Type 0
 AreNames functions names = All (IsStoreValue functions) names.globals × All (λ at. at < functions) names.functions
 
@@ -71,7 +71,7 @@ allocated s m imports = record {
   deepest = s.deepest;
 }
 
--- ---- segments: the store behind them, or the store in which one traps
+-- ---- segments: the store after them, or the store in which one traps
 
 abbrev pub and_next : Result State State → (State → Result State State) → Result State State
 and_next (Ok s) f = f s
@@ -126,7 +126,7 @@ abbrev pub apply_segments : CoreSpaces → Names → State → ℕ → List Data
 apply_segments v names s k [] = Ok s
 apply_segments v names s k (d ∷ ds) = and_next (apply_data v names s k d) (λ t. apply_segments v names t (k + 1) ds)
 
--- What a call answers, which left the store t, where the store behind it is this, or the store in which it traps.
+-- What a call answers, which left the store t, where the store after it is this, or the store in which it traps.
 abbrev pub Leaves : Result State State → State → Result (Unit {0}) TrapType → Type 0
 Leaves due t (Ok done) = due ≡ Ok t
 Leaves due t (Err trap) = due ≡ Err t

@@ -47,7 +47,7 @@ imported_places imports = record {
   elements = [];
 }
 
--- behind them the places of the module's own items, when they are added to this store
+-- after them the places of the module's own items, when they are added to this store
 abbrev pub places_of : State → Module → List Extern → CoreSpaces
 places_of s m imports = record {
   types = [];
@@ -59,7 +59,7 @@ places_of s m imports = record {
   elements = range_with_len (length s.elements) (length m.elements);
 }
 
--- the place behind an index. In a valid module it is there; 0 stands for one that is not
+-- the place after an index. In a valid module it is there; 0 stands for one that is not
 abbrev pub place_at : List ℕ → ℕ → ℕ
 place_at places n = slice_index_or places n 0
 

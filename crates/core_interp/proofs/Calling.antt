@@ -37,7 +37,7 @@ pub entered_goes : (w : Scene) (sp : CoreSpaces) (code : List Instr) (qs : List 
 entered_goes w sp code qs a cs s rs f n g e =
     ap (λ o. after (conts w code cs qs a.callers) (then_do o (exec go (first qs).here))) (go_enter f n (config_of a sp s rs) ∙ ap (λ (k : Option StoreFunc). entered go k n (config_of a sp s rs)) e)
 
--- a function of a module is entered, from function `own`, where `to` is the place behind the call
+-- a function of a module is entered, from function `own`, where `to` is the place after the call
 pub inside_goes : (own f to i : ℕ) (ty : CoreFunc) (locals : List CoreType) (body : List Instr) (qs : List Part) (a : Stacked) (cs : List Control) (s : State) (rs : List Reply) (n : ℕ) → slice_get s.functions f ≡ Some (Inside ty i locals body) → can_enter s ≡ true → parts (drop to (code_at (scene_of s) own)) ≡ qs → enters (scene_of s) (spaces_at (scene_of s) own) (code_at (scene_of s) own) qs a cs s rs f n ≡ goes_with (scene_of s) (spaces_of s.instances i) body (parts (drop 0 body)) (opened (length ty.params) (length locals) a) (Called own to (length ty.results) ∷ cs) (entered_store s) rs n
 inside_goes own f to i ty locals body qs a cs s rs n e shallow at =
     let w = scene_of s in

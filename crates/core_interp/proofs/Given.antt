@@ -159,7 +159,7 @@ some_entry m s r ys e few = subst (λ cs. calls cs ≤ s.nesting) (popped m.cont
 pub held_some : (a : Stacked) (c : Held) (hs : List Held) → a.callers ≡ c ∷ hs → 0 < length a.callers
 held_some a c hs e = let n = ap length e in omega arith
 
--- a return, where the rest X is led behind the call
+-- a return, where the rest X is led after the call
 returned_to : (X : List Reply → ℕ → Out) (s t : State) (g to r : ℕ) (a b : Stacked) (ys : List Control) → (can : CanReturn (scene_of s) r g to a (reverse ys)) → ((c : Held) (hs : List Held) → a.callers ≡ c ∷ hs → b ≡ closed r a c hs) → t ≡ left_store s → calls (reverse ys) + 1 ≤ s.nesting → ((rs : List Reply) (n : ℕ) → X rs n ≡ goes_at (scene_of s) g to (closed r a can.held can.others) (reverse ys) (left_store s) rs n) → LeadsTo X g to b (reverse ys) t
 returned_to X s t g to r a b ys can closes left few move =
     let same = closes can.held can.others can.callers in

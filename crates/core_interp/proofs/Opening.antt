@@ -19,7 +19,7 @@ use Rattle.core_store.specs.Fine.{Frame, Fine, IsBlock}
 use Rattle.core_interp.specs.Valid.{arities, Stands, IsReady}
 use Rattle.core_interp.proofs.Moves.{conts_later, stands_later, block_after, loop_after}
 
--- a block begins: `to` is the place behind its end
+-- a block begins: `to` is the place after its end
 pub block_goes : (w : Scene) (sp : CoreSpaces) (code : List Instr) (t : BlockType) (to : ℕ) (qs : List Part) (a : Stacked) (cs : List Control) (s : State) (rs : List Reply) (n : ℕ) → parts (drop to code) ≡ later qs → goes_with w sp code (placed (Block t) qs) a cs s rs (suc n) ≡ goes_with w sp code qs a (Label to (block_results sp t) (length a.operands - block_params sp t) ∷ cs) s rs n
 block_goes w sp code t to qs a cs s rs n e =
     let h = length a.operands - block_params sp t in

@@ -79,7 +79,7 @@ pub record AsksFor (X : List Reply → ℕ → Out) (callee : ℕ) (m : Running)
   pub ready : (results : List CoreValue) → length results ≡ length ty.results → ReadyAt (scene_of s) m.function m.at (answered ty m.slots results) (progress m)
   pub counted : calls (progress m) ≤ s.nesting
 
--- the configuration behind the outermost call, of so many results
+-- the configuration after the outermost call, of that many results
 abbrev pub ended : ℕ → Stacked → State → List Reply → Config
 ended r a s rs = record { stack = take r a.operands ++ []; locals = []; spaces = bare; store = s; replies = rs }
 
@@ -102,11 +102,11 @@ IsCounted End = ⊥
 IsCounted Else = ⊥
 IsCounted i = Unit {0}
 
--- X with so many steps more
+-- X with that many steps more
 abbrev pub ahead : (List Reply → ℕ → Out) → ℕ → List Reply → ℕ → Out
 ahead X b rs n = X rs (b + n)
 
--- where the rest of a run, X, leads behind the steps that were taken, with b steps left in the budget
+-- where the rest of a run, X, leads after the steps that were taken, with b steps left in the budget
 abbrev pub RunLeads : (List Reply → ℕ → Out) → ℕ → Flow → Running → State → Type 0
 RunLeads X b On m s = ((rs : List Reply) (n : ℕ) → X rs n ≡ goes m s rs n) × Ready m s
 RunLeads X b (Ended r) m s = (r ≤ length m.slots.operands) × ((rs : List Reply) (n : ℕ) → X rs n ≡ Next n (ended r m.slots s rs))
@@ -116,7 +116,7 @@ RunLeads X b Deep m s = (rs : List Reply) (n : ℕ) → X rs n ≡ Over (deep n)
 RunLeads X b Exhausted m s =
     (b ≡ 0) × ((rs : List Reply) → X rs 0 ≡ Over Spent) × ((rs : List Reply) (n : ℕ) → X rs n ≡ goes m s rs n) × Ready m s
 
--- a run that traps does so behind its last step: with one less it is spent
+-- a run that traps does so after its last step: with one less it is spent
 abbrev pub TrapsBehind : (List Reply → ℕ → Out) → ℕ → Flow → Type 0
 TrapsBehind X taken Failed = (0 < taken) × ((rs : List Reply) → X rs (taken - 1) ≡ Over Spent)
 TrapsBehind X taken w = Unit {0}
@@ -154,7 +154,7 @@ abbrev pub Stops : Flow → Type 0
 Stops On = ⊥
 Stops w = Unit {0}
 
--- what is left behind the instruction at hand
+-- what is left after the instruction at hand
 abbrev pub next_parts : Running → State → List Part
 next_parts m s = parts (drop (m.at + 1) (code_at (scene_of s) m.function))
 

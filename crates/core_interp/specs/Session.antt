@@ -61,7 +61,7 @@ pub record CanRun (m : Machine) (s : State) : Type 0 where
 abbrev pub awaited : Machine → ℕ
 awaited m = m.awaits
 
--- an answer to the question of a machine that has so many results: the store only grew in between, and the calls that were begun came back
+-- an answer to the question of a machine that has that many results: the store only grew in between, and the calls that were begun came back
 pub record IsAnswer (count : ℕ) (s : State) (r : Reply) : Type 0 where
   pub results : length r.results ≡ count
   pub back : CameBack s r.store
@@ -73,7 +73,7 @@ answered_slots a results = with_operands a (reverse (words results) ++ drop (len
 abbrev pub resumed : Machine → List CoreValue → Machine
 resumed m results = record m { running = record m.running { slots = answered_slots m.running.slots results } }
 
--- a machine has room for so many results of the call that it asked for
+-- a machine has room for that many results of the call that it asked for
 pub record IsAwaited (m : Machine) (count : ℕ) : Type 0 where
   pub due : count ≡ awaited m
   pub room : count ≤ length m.running.slots.operands
@@ -86,11 +86,11 @@ pub record Asked (number : ℕ) (args : List CoreValue) (m : Machine) (s : State
   pub typed : HaveTypes ty.params args
   pub awaited : IsAwaited m (length ty.results)
 
--- X with so many steps more
+-- X with that many steps more
 abbrev pub granted : (List Reply → ℕ → Outcome) → ℕ → List Reply → ℕ → Outcome
 granted X taken rs n = X rs (taken + n)
 
--- where a pause leads, X being the rest of the run behind the steps that were taken, with b steps left in the budget
+-- where a pause leads, X being the rest of the run after the steps that were taken, with b steps left in the budget
 abbrev pub PauseLeads : (List Reply → ℕ → Outcome) → ℕ → Pause → Machine → State → Type 0
 PauseLeads X b (pauses.Done values) m s = ((rs : List Reply) (n : ℕ) → X rs n ≡ Done values s n) × HaveTypes (results_due m s) values
 PauseLeads X b pauses.Trapped m s = (rs : List Reply) (n : ℕ) → X rs n ≡ Trapped
@@ -103,12 +103,12 @@ PauseLeads X b pauses.Spent m s =
     (b ≡ 0) × ((rs : List Reply) → X rs 0 ≡ Spent) × ((rs : List Reply) (n : ℕ) → X rs n ≡ goes_on m s rs n) × ((t : State) → CameBack s t → CanRun m t)
 PauseLeads X b pauses.TooDeep m s = (0 < b) × ((rs : List Reply) (n : ℕ) → X rs n ≡ deep n)
 
--- a machine that traps does so behind its last step: with one less it is spent
+-- a machine that traps does so after its last step: with one less it is spent
 abbrev pub PauseTraps : (List Reply → ℕ → Outcome) → ℕ → Pause → Type 0
 PauseTraps X taken pauses.Trapped = (0 < taken) × ((rs : List Reply) → X rs (taken - 1) ≡ Spent)
 PauseTraps X taken p = Unit {0}
 
--- This call, of which these replies are used and so many steps are taken, is at this machine and store: with so many steps more
+-- This call, of which these replies are used and that many steps are taken, is at this machine and store: with that many steps more
 -- it goes on as the machine does. The store only grew since the call began, and came back for each question that was answered.
 pub record Follows (first : State) (f : ℕ) (args : List CoreValue) (used : List Reply) (taken : ℕ) (m : Machine) (s : State) : Type 0 where
   pub can : CanRun m s
@@ -117,7 +117,7 @@ pub record Follows (first : State) (f : ℕ) (args : List CoreValue) (used : Lis
   pub grew : Grew first s
   pub due : results_due m s ≡ results_at (scene_of first) f
 
--- what a pause says of the call, of which so many steps are taken, with so many left in the budget
+-- what a pause says of the call, of which that many steps are taken, with that many left in the budget
 abbrev pub Says : State → ℕ → List CoreValue → List Reply → ℕ → ℕ → Pause → Machine → State → Type 0
 Says first f args used taken left (pauses.Done values) m s =
     ((rs : List Reply) (n : ℕ) → eval first f args (used ++ rs) (taken + n) ≡ Done values s n)
@@ -143,7 +143,7 @@ pub record Pauses (old : Machine) (s : State) (before : ℕ) (pause : Pause) (ne
   pub says : (first : State) (f : ℕ) (args : List CoreValue) (used : List Reply) (taken : ℕ) →
       Follows first f args used taken old s → Says first f args used (taken + (before - after)) after pause new t
 
--- a function that takes so many arguments
+-- a function that takes that many arguments
 abbrev pub IsCallable : Option StoreFunc → ℕ → Type 0
 IsCallable None n = ⊥
 IsCallable (Some g) n = n ≡ params_of g

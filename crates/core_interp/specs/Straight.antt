@@ -22,7 +22,7 @@ pub record Came (m : Running) (s : State) (a : ℕ) (k : Running) (t : State) (b
 abbrev pub is_total : ℕ → Bool
 is_total op = not (is_from_to 0x6D 0x70 op || is_from_to 0x7F 0x82 op)
 
--- a numeric instruction takes so many operands of a type
+-- a numeric instruction takes that many operands of a type
 abbrev pub Takes : ℕ → CoreType → Option Numeric → Type 0
 Takes count ty None = ⊥
 Takes count ty (Some n) = (n.params ≡ count) × (n.from ≡ ty)

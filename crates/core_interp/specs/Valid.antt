@@ -1,4 +1,4 @@
--- What is in progress: what is left behind each block, loop and call has its operands too.
+-- What is in progress: what is left after each block, loop and call has its operands too.
 use Rattle.std.specs.Prelude.{ℕ, ◌≡◌, ◌+◌, ◌-◌, ◌≤◌, List, [], ◌∷◌, drop, length, slice_get}
 use Rattle.wasm_ast.specs.declared.instr.Instr.{Instr}
 use Rattle.core_store.specs.Tree.{Part, first, later, parts}
@@ -16,7 +16,7 @@ arities (Called f to r ∷ cs) = r ∷ []
 arities (Entry r ∷ cs) = r ∷ []
 
 -- A piece that stands on `floor` operands and ends with `ends` more is followed by what is in progress:
--- behind its end, and from where a branch to its label goes on.
+-- after its end, and from where a branch to its label goes on.
 abbrev pub Stands : Scene → Frame → List Instr → List Control → List Part → List Held → ℕ → ℕ → Type 0
 Stands w fr code [] ps hs floor ends = ⊥
 Stands w fr code (Label to a h ∷ cs) ps hs floor ends =

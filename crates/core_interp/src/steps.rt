@@ -216,7 +216,7 @@ impl Running {
         }
     }
 
-    // A straight run, and the instruction behind it.
+    // A straight run, and the instruction after it.
     #[inline(always)]
     fn stretch(
         &mut self,

@@ -24,7 +24,7 @@ length_content (b ∷ bs) k = grind (arith, k)
 pub length_shown : (bs : List ℕ) (p : Content) → content bs ≡ p → IsKept bs → length p.bytes ≡ 65536
 length_shown bs p e k = rw (← e) (length_content bs k)
 
--- so many bytes of a page that is not made
+-- that many bytes of a page that is not made
 pub zeros_range : (n from len : ℕ) → from + len ≤ n → take len (drop from (zeros n)) ≡ replicate len 0
 unfolding zeros
 zeros_range n from len le = ap (take len) (drop-replicate from n 0) ∙ take-replicate len (n - from) 0 (omega arith)

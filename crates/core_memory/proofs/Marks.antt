@@ -11,7 +11,7 @@ use Rattle.core_memory.specs.Pages.{Ready, bytes_in, made_in, IsPaged}
 use Rattle.core_memory.proofs.Parts.{replaced_none}
 use Rattle.core_memory.proofs.Sequence.{same_bytes, same_made, set_made, made_at, length_made_in, paged_set}
 
--- so many pages from the first on are made
+-- that many pages from the first on are made
 abbrev marked : List Bool → ℕ → ℕ → List Bool
 marked m a n = replaced m a (replicate n true)
 

@@ -17,7 +17,7 @@ zeros_part : (n off len : ℕ) → off + len ≤ n → take len (drop off (zeros
 unfolding zeros
 zeros_part n off len le = part n off len le
 
--- a piece of a page that is made, behind others
+-- a piece of a page that is made, after others
 pub piece_made : (ps : List Content) (at len n : ℕ) (p : Content) (page old new : List ℕ) → IsPaged ps → at / 65536 < length ps → at % 65536 + len ≤ 65536 → p ≡ get_or ps (at / 65536) p →
     page ≡ p.bytes → n ≡ len → new ≡ old ++ take n (drop (at % 65536) page) → new ≡ old ++ take len (drop at (bytes_in ps))
 piece_made ps at len n p page old new w lt le here shown same is =

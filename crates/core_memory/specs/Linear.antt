@@ -15,15 +15,15 @@ pub record Linear : Type 0 where
   pub made : List Bool
   pub max : Option ℕ
 
--- so many pages of zeros
+-- that many pages of zeros
 abbrev pub fresh : ℕ → Option ℕ → Linear
 fresh pages max = record { bytes = zeros (65536 * pages); made = replicate pages false; max = max }
 
--- the integer of so many bytes at a place, or a trap past the end
+-- the integer of that many bytes at a place, or a trap past the end
 abbrev pub loaded : Linear → ℕ → ℕ → Result ℕ TrapType
 loaded m at width = if nat_le (at + width) (length m.bytes) then Ok (number (take width (drop at m.bytes))) else Err (record {})
 
--- on how many pages so many bytes lie, of which there is one at least
+-- on how many pages that many bytes lie, of which there is one at least
 abbrev pub pages_of : ℕ → ℕ → ℕ
 pages_of at len = (at + len - 1) / 65536 + 1 - at / 65536
 
@@ -35,7 +35,7 @@ touched made at len = if len == 0 then made else replaced made (at / 65536) (rep
 abbrev pub written : Linear → ℕ → List ℕ → Linear
 written m at new = record { bytes = replaced m.bytes at new; made = touched m.made at (length new); max = m.max }
 
--- Of so many pages from the first on, some were made, and one of them had not been.
+-- Of that many pages from the first on, some were made, and one of them had not been.
 pub record MakesSome (old new : List Bool) (first count : ℕ) : Type 0 where
   pub some : (n : ℕ) × (n < count) × (new ≡ replaced old first (replicate n true)) × (slice_index_or old (first + n) false ≡ false)
 

@@ -1,7 +1,7 @@
 -- A page of a memory: 65,536 bytes (WebAssembly Core 2.0, section 4.2.8).
 use Rattle.std.specs.Prelude.{ℕ, ◌≡◌, ◌==◌, ◌||◌, true, false, Bool, List, [], ◌∷◌, length, replicate}
 
--- so many bytes of 0
+-- that many bytes of 0
 unfoldable pub zeros : ℕ → List ℕ
 zeros n = replicate n 0
 

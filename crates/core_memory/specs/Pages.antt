@@ -30,6 +30,6 @@ pub record IsMemory (ps : List Content) : Type 0 where
   pub paged : IsPaged ps
   pub few : length ps < 2 ^ 32
 
--- the pages on which so many bytes lie are made
+-- the pages on which that many bytes lie are made
 pub record Ready (made : List Bool) (at len : ℕ) : Type 0 where
   pub each : (place : ℕ) → at ≤ place → place < at + len → slice_index_or made (place / 65536) false ≡ true

@@ -6,6 +6,6 @@ use Rattle.std.specs.List.{splice}
 abbrev pub replaced : {X : Type 0} → List X → ℕ → List X → List X
 replaced xs at new = splice xs at (at + length new) new
 
--- so many times one item
+-- that many times one item
 unfoldable pub repeated : {X : Type 0} → ℕ → X → List X
 repeated n x = replicate n x

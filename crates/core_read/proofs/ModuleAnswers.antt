@@ -33,7 +33,7 @@ pub from_parts : (m : Module) (text : List ℕ) → Spelled m text → SpellsMod
 unfolding core_module all_sections
 from_parts m text s = ((tt, s.1), s.4, (preamble, s.0, (refl {a = tt}, refl {a = preamble}), s.3, s.2))
 
--- behind the preamble stands one body
+-- after the preamble stands one body
 body_is : (body other : List ℕ) → preamble ++ body ≡ preamble ++ other → body ≡ other
 body_is body other e = sym (drop_at preamble body 8 refl) ∙ ap (drop 8) e ∙ drop_at preamble other 8 refl
 

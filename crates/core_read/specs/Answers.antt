@@ -9,13 +9,13 @@ use Rattle.format_causes.specs.Causes.{Cause}
 use Rattle.core_read.specs.declared.reading.ReadFault.{ReadFault}
 use Rattle.core_read.specs.declared.reading.ReadFault.TheVariants.{Malformed, Unsupported, NoMemory}
 
--- Behind the preamble and sections that the bytes spell, reading the next section meets this byte at this offset, a tag that the
+-- After the preamble and sections that the bytes spell, reading the next section meets this byte at this offset, a tag that the
 -- table of its place lacks.
 abbrev pub MeetsTag : ℕ → ℕ → List ℕ → Type 0
 MeetsTag at byte text = (parts : List CoreSection) × (front more : List ℕ) × (text ≡ preamble ++ (front ++ more)) × SectionsSpell sections no_sections 8 parts front
     × ((section (built sections no_sections parts)).read (record { at = 8 + length front; rest = more }) ≡ Err (stops.Unsupported at byte))
 
--- So many bytes at the front of the text are a module, and no more are; or none are, and the number is 0.
+-- That many bytes at the front of the text are a module, and no more are; or none are, and the number is 0.
 abbrev pub IsLongest : ℕ → List ℕ → Type 0
 IsLongest at text = ((at ≡ 0) ⊎ ((m : Module) × SpellsModule m (take at text))) × ((n : ℕ) (m : Module) → n ≤ length text → SpellsModule m (take n text) → n ≤ at)
 

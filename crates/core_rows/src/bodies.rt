@@ -52,7 +52,7 @@ fn code_in_words(alloc: Global, opcodes: &str) -> Result<String, Fail> {
     }
 }
 
-/// A body of blocks in one another (WebAssembly Core 2.0, section 5.4.1): how long it is, and where its blocks lead, behind their
+/// A body of blocks in one another (WebAssembly Core 2.0, section 5.4.1): how long it is, and where its blocks lead, after their
 /// ends, and an `if` to its else part, or to its end where it has none.
 const NESTED: &str = "\
 0203040105010b0b04010b0b0b => ((13, 13), (12, 8, 7), (Jump { other: 5, behind: 7 }, Jump { other: 10, behind: 11 }))";

@@ -79,7 +79,7 @@ fn digits_of(word: &str) -> &str {
     word
 }
 
-/// The bytes of words. Each is a piece or hexadecimal digits, and behind a `*` how often they stand.
+/// The bytes of words. Each is a piece or hexadecimal digits, and after a `*` how often they stand.
 pub fn bytes_of(alloc: Global, words: &str) -> Result<Vec<u8>, Fail> {
     let mut all = Vec::new(alloc);
     for word in words.split_whitespace() {

@@ -185,7 +185,7 @@ start 010401600000030201000a10010e02ffffffff0f7fffffffff0f7e0b => None
 0061736d010000000105016000017f03020100070501016600000a0601040041 => Some(Malformed(15))
 0061736d010000000105016000017f03020100070501016600000a060104004107 => Some(Malformed(15))";
 
-/// Blocks in one another, a long body, many labels, and counts that nothing stands behind.
+/// Blocks in one another, a long body, many labels, and counts that nothing stands after.
 const LARGE: &str = "\
 one 0ae6a71201e2a71200 0240*100000 0b*100001 => None
 one 0a87bab7030182bab70300 41001a*2400000 0b => None

@@ -20,7 +20,7 @@ fn compare(rt: &impl Abort, found: &str, wanted: &str, row: &str) {
     assert_eq!(rt; found, wanted, "{row}");
 }
 
-/// Each line is a row, with what is asked, and what is wanted behind ` => `; or it begins with `# ` and says what the next rows
+/// Each line is a row, with what is asked, and what is wanted after ` => `; or it begins with `# ` and says what the next rows
 /// are.
 pub fn hold<F: FnMut(Global, &str) -> Result<String, Fail>>(
     rt: &impl Abort,

@@ -21,7 +21,7 @@ use std::test::Fail;
 use virt_base::{CoreType, Items, NoMemory};
 use wasm_ast::CoreFunc;
 
-/// Whether there is a function of so many parameters at a place of the store.
+/// Whether there is a function of that many parameters at a place of the store.
 fn is_callable(store: &Store, at: u32, count: usize) -> bool
     ensures { IsTrue result → IsCallable (slice_get store.now.functions at) count }
 {
@@ -84,7 +84,7 @@ pub fn embedders(alloc: Global) -> Result<Store, NoMemory>
     Ok(store)
 }
 
-/// The values of words at the types of a function's parameters; and of the words behind them each as an i32.
+/// The values of words at the types of a function's parameters; and of the words after them each as an i32.
 fn typed(
     alloc: Global,
     store: &Store,

@@ -9,7 +9,7 @@ use std::alloc::Global;
 use std::test::Fail;
 use virt_base::Items;
 
-/// A module without imports, so many steps, and the arguments of its first export; and how the call ends, and what is left of the
+/// A module without imports, that many steps, and the arguments of its first export; and how the call ends, and what is left of the
 /// steps. With one step less it stops before the last.
 const ROWS: &str = "\
 # 1, then 13 a turn, 4 in the last, and 1
@@ -102,7 +102,7 @@ entries 4 1048575 => (Spent, 0)
 entries 5 1048576 => (Done(Items { items: [I32(0)] }), 0)
 entries 4 1048576 => (Spent, 0)";
 
-/// Modules that ask the embedder's function 9, with what it answers behind the arguments; and what they ask with, and how the call
+/// Modules that ask the embedder's function 9, with what it answers after the arguments; and what they ask with, and how the call
 /// goes on, with the calls in progress.
 const ASKING: &str = "\
 asking 2 0 => ((9, Items { items: [I64(18446744073709551614)] }, 0), (Done(Items { items: [I32(6)] }), 0), 0)

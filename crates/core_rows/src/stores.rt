@@ -71,8 +71,8 @@ impl Scene {
         })
     }
 
-    /// Adds what begins with this letter: a memory or a table of so many pages or null references, a global with this i64, four
-    /// bytes, so many null references, an instance, or the embedder's function of this number.
+    /// Adds what begins with this letter: a memory or a table of that many pages or null references, a global with this i64, four
+    /// bytes, that many null references, an instance, or the embedder's function of this number.
     fn add(&mut self, alloc: Global, kind: u8, number: u64) -> Result<String, Fail> {
         let at = match kind {
             b'm' => {
@@ -225,7 +225,7 @@ impl Scene {
     }
 }
 
-/// Calls on a store: what is added, and what is done to the memory at a place, or behind `table_` to the table, each by a word with
+/// Calls on a store: what is added, and what is done to the memory at a place, or after `table_` to the table, each by a word with
 /// a letter of its own: `put` is `store_at`, `null` sets to null, `extend` grows and `length` is the size.
 const CALLS: &str = "\
 add_segment 0 => 0

@@ -22,7 +22,7 @@ get_more [] ys i x e = absurd (cc)
 get_more (y ∷ xs) ys zero x e = e
 get_more (y ∷ xs) ys (suc i) x e = get_more xs ys i x e
 
--- an item of a longer list stands in the first part, or so far behind it
+-- an item of a longer list stands in the first part, or so far after it
 get_cases : {X : Type 0} (R : ℕ → X → Type 0) (xs ys : List X) (i : ℕ) (x : X) →
     ((k : ℕ) → slice_get xs k ≡ Some x → R k x) → ((k : ℕ) → slice_get ys k ≡ Some x → R (length xs + k) x) → slice_get (xs ++ ys) i ≡ Some x → R i x
 get_cases R [] ys i x old new e = subst (λ k. R k x) (omega arith) (new i e)

@@ -13,7 +13,7 @@ use Rattle.core_store.specs.Jumps.{JumpsFrom, Matches}
 use Rattle.core_store.specs.Brackets.{IsPlainEnd, Opens, shape_of, opened, ends_of, flags}
 use Rattle.core_store.specs.declared.brackets.Shape.TheVariants.{Opener, Middle, Closer, Inner}
 
--- an instruction and what is behind it
+-- an instruction and what is after it
 drop_suc : (code : List Instr) (at : ℕ) (i : Instr) → slice_get code at ≡ Some i → drop at code ≡ i ∷ drop (suc at) code
 drop_suc [] at i e = absurd (cc)
 drop_suc (x ∷ xs) zero i e = let same : x ≡ i = cc in rw same refl

@@ -16,7 +16,7 @@ shape_of Else = Middle
 shape_of End = Closer
 shape_of i = Inner
 
--- the ends that are left open behind an instruction, each with whether it has an else part already
+-- the ends that are left open after an instruction, each with whether it has an else part already
 abbrev pub opened : Shape → List Bool → Option (List Bool)
 opened Closer ends = Some (false ∷ ends)
 opened Middle [] = None

@@ -32,7 +32,7 @@ pub data Outcome : Type 0 where
   -- a call more is due than the store's limit allows
   TooDeep : Outcome
 
--- how a piece of code ends, with the steps that are left: it goes on behind its end, to a label, or out of its function; or all ends
+-- how a piece of code ends, with the steps that are left: it goes on after its end, to a label, or out of its function; or all ends
 pub data Out : Type 0 where
   Next : (n : ℕ) (c : Config) → Out
   Break : (label n : ℕ) (c : Config) → Out

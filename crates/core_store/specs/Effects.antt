@@ -1,4 +1,4 @@
--- What instructions do to memories and tables (WebAssembly Core 2.0, sections 4.4.6 and 4.4.7): the store behind them, or none where they trap.
+-- What instructions do to memories and tables (WebAssembly Core 2.0, sections 4.4.6 and 4.4.7): the store after them, or none where they trap.
 use Rattle.std.specs.Prelude.{ℕ, ◌+◌, ◌-◌, ◌^◌, ◌&&◌, nat_le, nat_lt, if◌then◌else◌, List, length, take, drop, slice_set, ◌++◌, Option, Some, None}
 use Rattle.core_memory.specs.Replaced.{replaced, repeated}
 use Rattle.core_memory.specs.Linear.{Linear, written, grown, can_grow, size}

@@ -84,7 +84,7 @@ gives (op.TableGrow i) = 1
 gives (op.TableSize i) = 1
 gives (op.TableFill i) = 0
 
--- the index names an item, of which there are so many
+-- the index names an item, of which there are that many
 abbrev pub Place : ℕ → List ℕ → ℕ → Type 0
 Place count space i = (k : ℕ) × (slice_get space i ≡ Some k) × (k < count)
 

@@ -1,4 +1,4 @@
--- What the instructions do that go on to the next (WebAssembly Core 2.0, sections 4.4.1 to 4.4.8): the configuration behind them, or none where they trap.
+-- What the instructions do that go on to the next (WebAssembly Core 2.0, sections 4.4.1 to 4.4.8): the configuration after them, or none where they trap.
 use Rattle.std.specs.Prelude.{ℕ, suc, ◌+◌, ◌%◌, ◌==◌, if◌then◌else◌, List, [], ◌∷◌, length, slice_get, slice_set, Option, Some, None, Result, Ok, Err}
 use Rattle.std.specs.Int.{w32, cast_unsigned}
 use Rattle.virt_base.specs.declared.fault.Trap.{Trap}
@@ -61,7 +61,7 @@ calculate code (Some n) c =
     then on_one c.stack (λ x rest. with_ok (integer code (operand_in n.from x) 0) (λ r. Some (with_stack c (r ∷ rest))))
     else on_two c.stack (λ y x rest. with_ok (integer code (operand_in n.from x) (operand_in n.from y)) (λ r. Some (with_stack c (r ∷ rest))))
 
--- so many bytes are read or written
+-- that many bytes are read or written
 abbrev pub load_bytes : LoadOp → ℕ
 load_bytes loads.I32 = 4
 load_bytes loads.I64 = 8

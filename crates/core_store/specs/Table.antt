@@ -12,7 +12,7 @@ pub record Entries : Type 0 where
   pub refs : List CoreRef
   pub max : Option ℕ
 
--- a reference is null or names one of so many functions
+-- a reference is null or names one of that many functions
 abbrev pub IsRef : ℕ → CoreRef → Type 0
 IsRef functions Null = Unit {0}
 IsRef functions (Func f) = f < functions
@@ -20,7 +20,7 @@ IsRef functions (Func f) = f < functions
 abbrev pub AreRefs : ℕ → List CoreRef → Type 0
 AreRefs functions refs = All (IsRef functions) refs
 
--- so many null references
+-- that many null references
 abbrev pub nulls : ℕ → Option ℕ → Entries
 nulls count max = record { refs = repeated count Null; max = max }
 
@@ -33,7 +33,7 @@ abbrev pub Sets : Entries → Entries → ℕ → CoreRef → Result (Unit {0}) 
 Sets old new at value (Ok done) = (at < length old.refs) × (new ≡ record old { refs = slice_set old.refs at value })
 Sets old new at value (Err trap) = (length old.refs ≤ at) × (new ≡ old)
 
--- What a write of one value to so many elements did.
+-- What a write of one value to that many elements did.
 abbrev pub Fills : Entries → Entries → ℕ → CoreRef → ℕ → Result (Unit {0}) Trap → Type 0
 Fills old new at value len (Ok done) = (at + len ≤ length old.refs) × (new ≡ record old { refs = replaced old.refs at (repeated len value) })
 Fills old new at value len (Err trap) = (length old.refs < at + len) × (new ≡ old)

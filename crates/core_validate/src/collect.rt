@@ -107,7 +107,7 @@ pub fn tables(alloc: Heap, core: &Module) -> Result<Vec<TableType>, NoMemory>
     Ok(list)
 }
 
-/// Adds the types of defined globals behind those of the imported ones.
+/// Adds the types of defined globals after those of the imported ones.
 pub fn add_globals(list: &mut Vec<GlobalType>, globals: &[Global]) -> Result<(), NoMemory>
     ensures { OnOk result (list.new.items ≡ list.old.items ++ map (λ g. g.ty) globals.now) }
 {

@@ -98,7 +98,7 @@ fn import_fault(spaces: &Spaces<'_>, first: bool, item: ImportItem) -> Option<u3
     }
 }
 
-/// Whether there is no memory behind the import either.
+/// Whether there is no memory after the import either.
 fn none_behind(none: bool, item: ImportItem) -> bool
     ensures { (before : ℕ) → none ≡ (before == 0) → result ≡ ((before + length (memories_of item)) == 0) }
 {
@@ -146,7 +146,7 @@ pub fn tables_fault(spaces: &Spaces<'_>, tables: &[TableType]) -> Option<u32>
     None
 }
 
-/// The memories, behind so many imported ones.
+/// The memories, after that many imported ones.
 pub fn memories_fault(spaces: &Spaces<'_>, imported: usize, memories: &[Limits]) -> Option<u32>
     ensures { result ≡ first_fault (context_at spaces.now) (with_earlier (λ before l. AMemory (imported + length before) l) [] memories.now) }
 {

@@ -1,5 +1,5 @@
 -- A module that bytes spell may be written, and in no more bytes: sections that hold nothing are left out, and each other section
--- is written behind the same ones.
+-- is written after the same ones.
 use Rattle.std.proofs.Common.{◌≡◌, ℕ, ◌+◌, ◌≤◌, ◌<◌, true, List, [], ◌∷◌, ◌++◌, length, Option, Some, None, inl, inr, refl, sym, ap, subst, ◌∙◌, arith}
 use Rattle.std.proofs.lemmas.List.{length-append}
 use Rattle.wasm_format.specs.Format.{AreBytes, name, anything, u32_format}
@@ -65,11 +65,11 @@ length_more G s [] part = omega (arith, length-append ((G.form s).write part) []
 length_more G s (p ∷ parts) part =
     omega (arith, length_more G (G.next s p) parts part, length-append ((G.form s).write p) (write_parts G (G.next s p) (parts ++ part ∷ [])), length-append ((G.form s).write p) (write_parts G (G.next s p) parts))
 
--- the state behind the sections that are written for a module
+-- the state after the sections that are written for a module
 abbrev pub rebuilt : Module → Progress
 rebuilt m = built sections no_sections (sections_of m)
 
--- What is written for the module that is found so far is that module, behind no later place, in no more bytes than these.
+-- What is written for the module that is found so far is that module, after no later place, in no more bytes than these.
 pub record Kept (s : Progress) (size : ℕ) : Type 0 where
   pub fits : PartsFit sections no_sections (sections_of s.found)
   pub found : (rebuilt s.found).found ≡ s.found

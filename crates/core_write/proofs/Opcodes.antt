@@ -1,4 +1,4 @@
--- An operation is written as its opcode and what stands behind it, whatever chooses its form.
+-- An operation is written as its opcode and what stands after it, whatever chooses its form.
 use Rattle.std.proofs.Common.{◌≡◌, ℕ, ◌<◌, ◌≤◌, Bool, true, false, eqb, List, [], ◌∷◌, inl, inr, refl, arith}
 use Rattle.std.proofs.lemmas.Bool.{cases_lt, lt-leb, le-ltb, ne_eqb}
 use Rattle.wasm_format.specs.Format.{Format, choose, value, misplaced}
@@ -82,7 +82,7 @@ numeric_high n e =
 eqb_other : (n k : ℕ) → k < n → eqb n k ≡ false
 eqb_other n k h = ne_eqb n k (λ e. omega (arith, h, e))
 
--- what stands behind a numeric opcode
+-- what stands after a numeric opcode
 numeric_form : (n : ℕ) → is_numeric n ≡ true → (instr_of n).write (Plain (Numeric n)) ≡ []
 unfolding instr_of op_of high_op
 numeric_form n e =

@@ -43,7 +43,7 @@ put_section m (kind.DataCount x) = record m { data_count = Some x }
 put_section m (kind.Code x) = record m { code = x }
 put_section m (kind.Segments x) = record m { segments = x }
 
--- what the content must fit, behind the sections of this module
+-- what the content must fit, after the sections of this module
 abbrev pub ContentFits : Module → CoreSection → Type 0
 ContentFits m kind.Custom = ⊥
 ContentFits m (kind.Types x) = (sized (vec core_func)).Fits x
@@ -104,7 +104,7 @@ add_is s (kind.DataCount x) h = refl
 add_is s (kind.Code x) h = refl
 add_is s (kind.Segments x) h = refl
 
--- ---- what fits behind a place in the order
+-- ---- what fits after a place in the order
 
 ranked_by : {A : Type 0} (b : Bool) (F : Format A) (a : A) → (choose b F misplaced).Fits a → F.Fits a × (b ≡ true)
 ranked_by true F a h = (h, refl)
@@ -149,9 +149,9 @@ fits_behind c (kind.DataCount x) h lt f = rw (lt-ltb _ _ lt) ((refl, f), refl)
 fits_behind c (kind.Code x) h lt f = rw (lt-ltb _ _ lt) ((refl, f), refl)
 fits_behind c (kind.Segments x) h lt f = rw (lt-ltb _ _ lt) ((refl, f), ap (λ (z : List ℕ). 11 ∷ z) (counted_bytes c.found.data_count x))
 
--- ---- sections behind all others
+-- ---- sections after all others
 
--- the lists and numbers whose sections stand behind this place are not there
+-- the lists and numbers whose sections stand after this place are not there
 pub record EmptyFrom (r : ℕ) (m : Module) : Type 0 where
   pub types : r < 1 → m.types ≡ []
   pub imports : r < 2 → m.imports ≡ []
@@ -217,7 +217,7 @@ empty_from r m h =
       segments = none_list r 12 kind.Segments m.segments (λ x. refl) s11.1;
     }
 
--- A section behind all others adds its part to what is written, or nothing where its list is empty.
+-- A section after all others adds its part to what is written, or nothing where its list is empty.
 pub grows : (m : Module) (part : CoreSection) (r : ℕ) → EmptyFrom r m → r < rank_of part → (sections_of (put_section m part) ≡ sections_of m ++ part ∷ []) ⊎ (put_section m part ≡ m)
 grows m kind.Custom r e lt = inr refl
 grows m (kind.Types []) r e lt = inr (ap (λ x. record m { types = x }) (sym (e.types lt)))

@@ -71,7 +71,7 @@ pub fn files_of(alloc: Global, contents: Contents, failing: Places) -> Option<Bo
     Box::new(alloc, files).ok()
 }
 
-/// A sink with room for so many bytes, of whose calls those of these numbers fail.
+/// A sink with room for that many bytes, of whose calls those of these numbers fail.
 pub fn sink_of(alloc: Global, room: usize, failing: Places) -> Option<MemSink> {
     let mut sink = MemSink::new(alloc, failing);
     sink.reserve(alloc, room).ok()?;

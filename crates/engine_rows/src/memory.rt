@@ -8,7 +8,7 @@ use outside::{Contents, Entries, Entry, EntryKind, MemFiles, MemSink, Named};
 use std::alloc::Global;
 use virt_base::{Items, NoMemory, Text};
 
-/// Adds an entry of a folder, which is a folder where a `/` stands behind its name.
+/// Adds an entry of a folder, which is a folder where a `/` stands after its name.
 fn add_entry(alloc: Global, word: &str, entries: &mut Entries) -> Result<(), NoMemory> {
     let (name, kind) = match word.strip_suffix("/") {
         Some(name) => (name, EntryKind::Folder),

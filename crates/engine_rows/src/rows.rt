@@ -2,7 +2,7 @@
 //!
 //! A line `# REMARK` begins a block, in which nothing is set. Each other line sets a name: `NAME : TEXT`, or another kind of `bytes_of`, is a
 //! file, `NAME / ENTRIES` a folder, `$ WORDS` are the words of a call. A line that goes on with ` => OUTCOME` is a row: with all that was
-//! set last in its block the call has this outcome, its status and the text that is put, in which `&` ends a line, and behind it what
+//! set last in its block the call has this outcome, its status and the text that is put, in which `&` ends a line, and after it what
 //! OUT holds, as ` o=DIGITS`, if it is there. Both sides are written out as `written_out` has it.
 //!
 //! `within x DIGITS` are digits that an output is searched for where only its length is not compared.

@@ -6,7 +6,7 @@ use std::alloc::Global;
 use std::fs;
 use virt_base::Items;
 
-/// Lines have at most so many bytes together.
+/// Lines have at most that many bytes together.
 const ROOM: usize = 1_048_576;
 
 /// Adds the file that a word names, if it names one.
@@ -47,7 +47,7 @@ fn lines_of(rt: &HostRuntime, name: &str) -> Option<String> {
     fs::read_to_string(rt, path.as_str()).ok()
 }
 
-/// What a row is to come to.
+/// What a row is to give.
 pub fn wanted(rt: &HostRuntime, status: &str, name: &str) -> Option<String> {
     let status = status.parse::<u8>().ok()?;
     joined(rt.alloc(), status, lines_of(rt, name)?.as_str())

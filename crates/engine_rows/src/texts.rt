@@ -3,7 +3,7 @@
 use crate::plug_texts::PLUG_PIECES;
 use std::alloc::Global;
 
-/// What stands in front of a mark, and behind it: nothing where there is no mark.
+/// What stands in front of a mark, and after it: nothing where there is no mark.
 pub fn halves<'a>(text: &'a str, mark: &str) -> (&'a str, &'a str) {
     match text.split_once(mark) {
         Some(halves) => halves,
@@ -90,7 +90,7 @@ fn lines(alloc: Global, text: &str) -> Option<Vec<u8>> {
     Vec::from_slice(alloc, text.as_bytes()).ok()
 }
 
-/// Bytes as a row gives them: `:` is a text, in which `&` ends a line, `x` is digits, `cut` so many of the bytes of digits, and `*` so many
+/// Bytes as a row gives them: `:` is a text, in which `&` ends a line, `x` is digits, `cut` that many of the bytes of digits, and `*` that many
 /// times one byte.
 pub fn bytes_of(alloc: Global, kind: &str, text: &str) -> Option<Vec<u8>> {
     match kind {

@@ -12,7 +12,7 @@ use outside::{Entries, FileFail, Files, WriteFailed};
 use std::alloc::Global;
 use virt_base::{Items, Text};
 
-/// Files that answer so, of which so many writes come to pass before one fails, with their faults counted.
+/// Files that answer so, of which that many writes come to pass before one fails, with their faults counted.
 #[derive(Drop)]
 struct Untold<'a> {
     settings: &'a [&'a str],
@@ -39,7 +39,7 @@ fn within(bytes: Vec<u8>, limit: u64) -> Result<Vec<u8>, FileFail>
     Ok(bytes)
 }
 
-/// A file of so many bytes, each of them where it is not longer than is asked for, fails to be read.
+/// A file of that many bytes, each of them where it is not longer than is asked for, fails to be read.
 fn as_long(len: u64, limit: u64) -> Result<Vec<u8>, FileFail>
     ensures { IsWithin limit result }
 {
@@ -49,7 +49,7 @@ fn as_long(len: u64, limit: u64) -> Result<Vec<u8>, FileFail>
     Err(FileFail::Failed)
 }
 
-/// The bytes that a setting says, or a failure to read so many.
+/// The bytes that a setting says, or a failure to read that many.
 fn bytes_or_length(alloc: Global, to: &str, limit: u64) -> Result<Vec<u8>, FileFail>
     ensures { IsWithin limit result }
 {

@@ -6,7 +6,7 @@ use outside::MemFiles;
 use std::alloc::Global;
 use virt_base::Text;
 
-/// What `virt` writes has at most so many bytes.
+/// What `virt` writes has at most that many bytes.
 pub const ROOM: usize = 2_097_152;
 
 /// The name of what `virt` writes.

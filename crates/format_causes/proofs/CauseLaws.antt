@@ -68,7 +68,7 @@ caused_checked test F f = record {
 
 -- ---- a value, and what it leads
 
--- a value that is not kept, and what stands behind it
+-- a value that is not kept, and what stands after it
 abbrev pub led : {A B : Type 0} → Format A → (A → Format B) → Format B
 led F G = record {
   Spells = λ at b text. (a : _) × (x y : List ℕ) × F.Spells at a x × (G a).Spells (at + length x) b y × (text ≡ x ++ y);
@@ -212,7 +212,7 @@ caused_s33_index = caused_image natural_of pos (checked is_natural s33_format) (
 
 -- ---- a byte that chooses
 
--- The same of what stands behind a byte that chose it. Reading may also stop at that byte, where nothing is spelled.
+-- The same of what stands after a byte that chose it. Reading may also stop at that byte, where nothing is spelled.
 pub record IsCausedBehind {A : Type 0} (b : ℕ) (F : Format A) : Type 0 where
   pub caused_behind_it : (p : Place) (at byte : ℕ) → F.read p ≡ Err (Unsupported at byte) → ((at ≡ p.at - 1) × (byte ≡ b) × ((k : ℕ) (a : A) (text : List ℕ) → F.Spells k a text → ⊥)) ⊎ Cause F p at byte
 

@@ -10,11 +10,11 @@ use Rattle.format_causes.specs.Causes.{IsCaused}
 use Rattle.format_causes.proofs.Steps.{bind_err, ok_is_no_err, not_malformed, test_never, cond_err}
 use Rattle.format_causes.proofs.CauseLaws.{never, led, caused_led, caused_as, caused_image, caused_checked, caused_anything, caused_u32}
 
--- so many items
+-- that many items
 abbrev rows : {A : Type 0} → Format A → ℕ → Format (List A)
 rows F n = record { Spells = λ at items text. (length items ≡ n) × ItemsSpell F at items text; read = read_items F n; Fits = λ items. ⊥; write = λ items. [] }
 
--- an item in front of so many
+-- an item in front of that many
 abbrev in_front : {A : Type 0} → Format A → ℕ → A → Format (List A)
 in_front F n a = image (λ items. a ∷ items) (λ items. items) (rows F n)
 
@@ -36,7 +36,7 @@ caused_vec {A} F exact f =
     caused_as (led u32_format (rows F)) (vec F) (λ p at byte e. e) (λ at items text m s. (items, (length items, s.0, s.1, s.2, (refl {a = length items}, s.3), s.4)))
     (caused_led u32_format (rows F) exact_u32 caused_u32 (caused_rows F exact f))
 
--- so many items, where this many are due
+-- that many items, where this many are due
 abbrev due_rows : {A : Type 0} → ℕ → Format A → ℕ → Format (List A)
 due_rows count F n = record { Spells = λ at items text. (length items ≡ n) × ItemsSpell F at items text; read = λ p. cond (eqb n count) (read_items F n p) (Err Malformed); Fits = λ items. ⊥; write = λ items. [] }
 

@@ -13,7 +13,7 @@ use Rattle.format_causes.proofs.CauseLaws.{cause_as, never, led, caused_led, cau
 
 -- ---- items up to a state that ends them
 
--- at most so many
+-- at most that many
 abbrev until_in : {S P : Type 0} → Sections S P → ℕ → S → Format (List P)
 until_in G fuel s = record { Spells = UntilSpells G s; read = read_until G fuel s; Fits = λ parts. ⊥; write = λ parts. [] }
 
@@ -46,7 +46,7 @@ caused_until G s g f = record { caused = λ p at byte e. (caused_until_in G g f 
 abbrev beside : {S : Type 0} → Place → Result S Stop → Result (S × Place) Stop
 beside p r = r >>= λ t. Ok (t, p)
 
--- at most so many
+-- at most that many
 abbrev reading : {S P : Type 0} → Sections S P → ℕ → ℕ → S → Format S
 reading G fuel good s = record { Spells = SpellsTo G s; read = λ p. beside p (run G fuel s good p.at p.rest).outcome; Fits = λ t. ⊥; write = λ t. [] }
 

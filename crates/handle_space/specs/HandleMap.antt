@@ -15,11 +15,11 @@ pub record HandleMap (R : Type 0) : Type 0 where
   pub entries : List (Option (Entry R))
   pub freed : List ℕ
 
--- So many entries are live at most.
+-- That many entries are live at most.
 abbrev pub most_live : ℕ
 most_live = 268435455
 
--- So many loans of one entry last at once at most.
+-- That many loans of one entry last at once at most.
 abbrev pub most_loans : ℕ
 most_loans = 18446744073709551615
 

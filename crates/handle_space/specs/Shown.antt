@@ -17,13 +17,13 @@ next_in (Some (Free next)) = next
 next_in (Some (Own resource rep lent)) = None
 next_in (Some (Borrow resource rep)) = None
 
--- the indexes of so many cells, from this one on, of which each names the next
+-- the indexes of that many cells, from this one on, of which each names the next
 abbrev pub freed_from : List Cell → Option ℕ → ℕ → List ℕ
 freed_from cells at zero = []
 freed_from cells None (suc count) = []
 freed_from cells (Some at) (suc count) = suc at ∷ freed_from cells (next_in (slice_get cells at)) count
 
--- From this cell on, so many free cells each name the next, and the last names none.
+-- From this cell on, that many free cells each name the next, and the last names none.
 abbrev pub IsChain : List Cell → Option ℕ → ℕ → Type 0
 IsChain cells None zero = Unit {0}
 IsChain cells None (suc count) = ⊥

@@ -31,11 +31,11 @@ module _ {S : Type 0} (h : HostStep S) where
   abbrev pub answer_of : Kept S → PlainCall → PlainAnswer
   answer_of k c = (h.call k.state c).answer
 
-  -- behind a call
+  -- after a call
   abbrev pub reacts : Kept S → PlainCall → Kept S
   reacts k c = record { state = (h.call k.state c).next; seen = k.seen ++ (h.call k.state c).seen }
 
-  -- behind the drop of a handle
+  -- after the drop of a handle
   abbrev pub drops : Kept S → Resource → ℕ → Kept S
   drops k resource id = record { state = (h.drop k.state resource id).next; seen = k.seen ++ (h.drop k.state resource id).seen }
 

@@ -1,7 +1,7 @@
 //! Blocks of rows, and what comes of them.
 //!
 //! A block begins with a line `# REMARK`. A row is `CALL => OUTCOME`, or `drop RESOURCE NUMBER => OUTCOME`, as `calls` has them. The
-//! outcome is what reaches the host underneath, in the lines that `run` prints, and behind it what is answered: a value as JSON, or `done`,
+//! outcome is what reaches the host underneath, in the lines that `run` prints, and after it what is answered: a value as JSON, or `done`,
 //! `trap`, `ended` or `bad`. `: ANSWERS` are answers of the host underneath, as in scripts, with commas between them, and
 //! `@ INTERFACE VERSION` is an import of the application. All other lines are the policy.
 

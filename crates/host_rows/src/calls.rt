@@ -1,7 +1,7 @@
 //! Calls and drops that rows spell.
 //!
 //! A call is a function's name and its arguments, as JSON: `poll [[0]]`; that of a method stands without `[method]`. In front of the name may stand an
-//! interface and `#`: one with its version, which is called as it stands, or the end of its name. Behind the name may stand `=` and another
+//! interface and `#`: one with its version, which is called as it stands, or the end of its name. After the name may stand `=` and another
 //! function, whose types the call has: `wasi:a/b@0.2.0#f=poll [[0]]`.
 
 use crate::interfaces::{function_in, home_of, versioned};

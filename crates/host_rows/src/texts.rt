@@ -3,7 +3,7 @@
 use std::alloc::Global;
 use std::test::Fail;
 
-/// What stands before a mark and behind it: nothing behind it where there is no mark.
+/// What stands before a mark and after it: nothing after it where there is no mark.
 pub fn halves<'a>(text: &'a str, mark: &str) -> (&'a str, &'a str) {
     match text.split_once(mark) {
         Some(halves) => halves,
@@ -11,7 +11,7 @@ pub fn halves<'a>(text: &'a str, mark: &str) -> (&'a str, &'a str) {
     }
 }
 
-/// Adds a piece so many times, each time with the next number from 0 on for a `#`.
+/// Adds a piece that many times, each time with the next number from 0 on for a `#`.
 fn push_times(alloc: Global, all: &mut String, piece: &str, count: u32) -> Result<(), Fail> {
     let (before, behind) = halves(piece, "#");
     for number in 0..count {

@@ -1,4 +1,4 @@
--- Values that are read one after another: those so far, and behind them what the rest gives.
+-- Values that are read one after another: those so far, and after them what the rest gives.
 use Rattle.std.proofs.Common.{◌≡◌, ℕ, pos, ◌+◌, ◌<◌, List, [], ◌∷◌, ◌++◌, length, get_or, drop, refl, ap, sym, ◌∙◌, arith}
 use Rattle.std.specs.Prelude.{Option, Some, None, option_map}
 use Rattle.std.proofs.lemmas.List.{drop_more}

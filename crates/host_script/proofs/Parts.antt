@@ -1,4 +1,4 @@
--- Parts of a script in memory: its keys, and what is left behind one that is taken out.
+-- Parts of a script in memory: its keys, and what is left after one that is taken out.
 use Rattle.std.proofs.Common.{◌≡◌, ◌≢◌, ℕ, List, [], ◌∷◌, ◌+◌, ◌++◌, length, map, refl, ap, sym, ◌∙◌, append_assoc, append-nil, length-append, Bool, true, false, String, string_bytes, Global, nat_cmp, arith}
 use Rattle.std.specs.Prelude.{Option, Some, None, Result, Ok, Err, option_map, cond}
 use Rattle.std.specs.Cmp.Lexicographic.{slice_cmp}

@@ -16,7 +16,7 @@ pub record IsNext (d : Data) (old new : List Token) : Type 0 where
   pub begins : value 125 old ≡ Some (tree, new)
   pub stands : of_json tree ≡ Some d
 
--- an item was taken, and what it gave was put behind what others gave
+-- an item was taken, and what it gave was put after what others gave
 pub record Takes {A : Type 0} (P : A → Data → Type 0) (before after : List A) (old new : List Token) : Type 0 where
   pub given : A
   pub data' : Data

@@ -43,7 +43,7 @@ impl ExportTypes {
         }
     }
 
-    /// Adds a function behind the others. Where memory runs out, nothing changes.
+    /// Adds a function after the others. Where memory runs out, nothing changes.
     pub fn push(&mut self, export: ExportType) -> Result<(), NoMemory>
         ensures ok { OnOk result (self.new ≡ self.old ++ export ∷ []) }
         ensures err { OnErr result (self.new ≡ self.old) }

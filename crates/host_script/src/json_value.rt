@@ -1,4 +1,4 @@
-//! JSON in memory, from the tokens of a reader that goes on behind it. `serde_json` reads whole texts alone, and each such text
+//! JSON in memory, from the tokens of a reader that goes on after it. `serde_json` reads whole texts alone, and each such text
 //! anew fills tables for the places of its tokens, which takes longer than a short text itself.
 
 ghost use Rattle.std.specs.Prelude.{◌≡◌, ◌<◌, ◌==◌, length, slice_index, true, false, Some, IfOk, IsTrue, OnOk, option_map};

@@ -11,7 +11,7 @@ use virt_base::NoMemory;
 pub struct Answers {
     bytes: Vec<u8>,
     lengths: Vec<u32>,
-    /// So many texts were passed.
+    /// That many texts were passed.
     passed: usize,
     /// The first text that is left begins here.
     start: usize,

@@ -35,7 +35,7 @@ pub fn member_in(json: Json) -> Result<(String, Json), ReadValueFault>
     }
 }
 
-/// The value behind `ok` or `err`, which is an object's only member, and whether it is `ok`.
+/// The value after `ok` or `err`, which is an object's only member, and whether it is `ok`.
 pub fn end_in(json: Json) -> Result<(bool, Json), ReadValueFault>
     ensures { Gives (λ end. (number_of_end end.0, untyped (view end.1))) (choice_in ok_or_err (untyped (view json))) result }
 {

@@ -39,7 +39,7 @@ pub record ComponentCause (name : List ℕ) (s t : FilesState) (status : Status)
   pub is : status ≡ unready_as unready
   pub cause : Cause name (bytes_name Virt) (bytes_limit Virt) (IsApplicationRefusal Virt) s t unready
 
--- why there is no report: the policy, then the component, or want of memory
+-- why there is no report: the policy, then the component, or no memory
 abbrev pub NoReport : InspectWords → FilesState → FilesState → Status → Type 0
 NoReport w s t status = AskedCause w.policy s t status
     ⊎ (((policy : Option Policy) × HasAsked w.policy s policy × ComponentCause w.component s t status)
@@ -101,7 +101,7 @@ pub record Inspected (words : List (List ℕ)) (s t : FilesState) (k l : SinkSta
   pub text : List ℕ
   pub why : IsDueFor (inspect_words words) s t due text ⊎ (due ≡ NoMemory)
   pub put : Reports due text k l result
-  -- want of memory puts nothing
+  -- where memory runs out, nothing is put
   pub silent : result ≡ NoMemory → l ≡ k
   pub quiet : s.told ≡ true → s.steady ≡ true → AllThere (inspect_words words) s → t.faults ≡ s.faults
 

@@ -13,7 +13,7 @@ use Rattle.inspect_engine.specs.declared.status.PolicyFault.TheVariants.{NotToml
 use Rattle.inspect_engine.specs.declared.status.Status.{Status}
 use Rattle.inspect_engine.specs.declared.status.Status.TheVariants.{PolicyRefused, ComponentRefused, FileFault, OverLimit, NoMemory}
 
--- A policy has at most so many bytes.
+-- A policy has at most that many bytes.
 abbrev pub policy_limit : ℕ
 policy_limit = 16777216
 

@@ -11,7 +11,7 @@ use policy_toml::read_policy;
 use std::alloc::Global;
 use virt_base::Text;
 
-/// A policy has at most so many bytes.
+/// A policy has at most that many bytes.
 const POLICY_LIMIT: u64 = 16_777_216;
 
 fn refused_for(fault: ReadPolicyFault) -> Status

@@ -12,7 +12,7 @@ pub partner_of-append : (xs ys : List (ℕ × ℕ)) (r : ℕ) → partner_of (xs
 partner_of-append [] ys r = refl
 partner_of-append (x ∷ xs) ys r = ap (λ o. cond (nat_eq r x.0) (Some x.1) o) (partner_of-append xs ys r) ∙ or_if (nat_eq r x.0) x.1 (partner_of xs r) (partner_of ys r)
 
--- the same pairs behind them
+-- the same pairs after them
 pub partners_append : (xs ys zs : List (ℕ × ℕ)) → SamePartners xs ys → SamePartners (xs ++ zs) (ys ++ zs)
 partners_append xs ys zs h = λ r. partner_of-append xs zs r ∙ (ap (λ o. option_or o (partner_of zs r)) (h r) ∙ sym (partner_of-append ys zs r))
 
@@ -20,7 +20,7 @@ pub partners_nil : (xs : List (ℕ × ℕ)) → SamePartners xs (xs ++ [])
 partners_nil [] = λ r. refl
 partners_nil (x ∷ xs) = λ r. ap (λ o. cond (nat_eq r x.0) (Some x.1) o) (partners_nil xs r)
 
--- the first pairs of those that are left go behind those that are there
+-- the first pairs of those that are left go after those that are there
 pub partners_step : (next now one rest all : List (ℕ × ℕ)) → SamePartners next (now ++ one) → SamePartners (now ++ (one ++ rest)) all → SamePartners (next ++ rest) all
 partners_step next now one rest all h k = λ r. partners_append next (now ++ one) rest h r ∙ (ap (λ xs. partner_of xs r) (append_assoc now one rest) ∙ k r)
 

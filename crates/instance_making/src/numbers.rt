@@ -4,7 +4,7 @@ ghost use Rattle.std.specs.Prelude.{◌≡◌, ◌+◌, IfOk};
 
 use virt_base::NoMemory;
 
-/// The number after a number of a resource. No component has so many that there is none, which counts as no memory.
+/// The number after a number of a resource. No component has that many that there is none, which counts as no memory.
 pub fn next_number(number: u32) -> Result<u32, NoMemory>
     ensures { IfOk result (λ next. next ≡ number + 1) }
 {

@@ -24,7 +24,7 @@ use Rattle.core_interp.specs.Session.{Follows, Pauses, IsCallable, resumed, awai
 use Rattle.instance_state.specs.declared.calls.CoreCall.{CoreCall}
 use Rattle.instance_state.specs.Ready.{Runs}
 
--- a call of a function began, in a store where so many calls are in progress
+-- a call of a function began, in a store where that many calls are in progress
 pub record Begun (old : Runs) (function : ℕ) (args : List CoreValue) (nesting : ℕ) (new : Runs) : Type 0 where
   pub machine : Machine
   pub store : new.store ≡ record old.store { nesting = nesting }
@@ -57,7 +57,7 @@ goes_by (pauses.Done values) = false
 goes_by pauses.Trapped = false
 goes_by pauses.TooDeep = false
 
--- A call of a store went to its next pause, behind those outside it.
+-- A call of a store went to its next pause, after those outside it.
 pub record Ran (outer : List CoreCall) (call : CoreCall) (old : State) (before : ℕ) (pause : Pause) (left : List CoreCall) (new : State) (after : ℕ) : Type 0 where
   pub machine : Machine
   pub pauses : Pauses call.machine old before pause machine new after

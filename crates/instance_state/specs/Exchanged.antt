@@ -18,7 +18,7 @@ abbrev pub passing : ValueHandle → Handle ℕ
 passing (values.Own resource number) = Own resource number
 passing (values.Borrow resource number) = Borrow resource number
 
--- The handles were taken or lent: behind other numbers stands for what they stand, and behind other loans which indexes were lent.
+-- The handles were taken or lent: after other numbers stands for what they stand, and after other loans which indexes were lent.
 abbrev pub IsLifted : Option (Lifted ℕ) → HandleMap ℕ → (reps reps' loans loans' : List ℕ) → Type 0
 IsLifted None m reps reps' loans loans' = ⊥
 IsLifted (Some l) m reps reps' loans loans' = (l.map ≡ m) × (reps' ≡ reps ++ reps_in l.handles) × (loans' ≡ loans ++ l.loans)
@@ -28,7 +28,7 @@ Lifts due m reps reps' loans loans' (Ok done) = IsLifted due m reps reps' loans 
 Lifts due m reps reps' loans loans' (Err faults.Trap) = due ≡ None
 Lifts due m reps reps' loans loans' (Err faults.NoMemory) = Unit {0}
 
--- what is due of one handle: for what it stands, whether it is lent, and the map behind it
+-- what is due of one handle: for what it stands, whether it is lent, and the map after it
 pub record One : Type 0 where
   pub handle : Handle ℕ
   pub lent : Bool
@@ -53,7 +53,7 @@ LiftsOne due index m reps reps' loans loans' (Ok done) = IsOne due index m reps 
 LiftsOne due index m reps reps' loans loans' (Err faults.Trap) = due ≡ None
 LiftsOne due index m reps reps' loans loans' (Err faults.NoMemory) = Unit {0}
 
--- The handles were added: behind other numbers stand their indexes.
+-- The handles were added: after other numbers stand their indexes.
 abbrev pub IsLowered : Option (Answered ℕ (List ℕ)) → HandleMap ℕ → (indexes indexes' : List ℕ) → Type 0
 IsLowered None m indexes indexes' = ⊥
 IsLowered (Some a) m indexes indexes' = (a.map ≡ m) × (indexes' ≡ indexes ++ a.answer)

@@ -32,7 +32,7 @@ abbrev pub fault_of : LoadFault → HandleFault
 fault_of loads.Trap = Trap
 fault_of loads.NoMemory = NoMemory
 
--- the value that passes, with its handles by that for which they stand; and behind other loans those of the value
+-- the value that passes, with its handles by that for which they stand; and after other loans those of the value
 abbrev pub IsLiftedAs : Plain → Option (Local ℕ (Args ℕ)) → Config ℕ → (loans loans' : List ℕ) → Value → Type 0
 IsLiftedAs ty None new loans loans' v = ⊥
 IsLiftedAs ty (Some l) new loans loans' v = (l.config ≡ new) × (passed_by ty (plain_value v) ≡ l.answer.passed) × (loans' ≡ loans ++ l.answer.loans)

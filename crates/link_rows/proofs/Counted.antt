@@ -62,7 +62,7 @@ module _ (n m : ℕ) (same : n ≡ m) (given : List (Handle Both)) (o : List Pla
   alike (Some (FlagsType labels)) i = (refl, refl)
   alike (Some (BorrowType r)) i = (refl, refl)
 
--- behind nothing that is seen
+-- after nothing that is seen
 alike_behind : (P : ℕ → Answer → ℕ → Answer → Type 0) (x y : Out ℕ Answer) → Alike P x y → Alike P (seen_before [] x) (seen_before [] y)
 alike_behind P (Next o l w a) (Next o' l' v b) h = h
 alike_behind P (Over o e) (Over o' e') h = h

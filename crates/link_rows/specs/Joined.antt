@@ -25,7 +25,7 @@ both_readers = record {
   stages = Provides 0 (core_type 0 1) 0 ∷ Makes 0 (made_of (code 0 1 (call 0 ∷ []) ∷ [])) None ∷ Provides 1 (core_type 0 1) 0 ∷ Makes 1 (made_of (code 0 1 (call 0 ∷ []) ∷ [])) None ∷ [];
 }
 
--- the first stands at 0, the second at 1, and those that are not there behind them
+-- the first stands at 0, the second at 1, and those that are not there after them
 abbrev pub at_first : ℕ → ℕ
 at_first zero = 0
 at_first (suc k) = suc (suc (k + k))

@@ -28,7 +28,7 @@ call n = Call n
 abbrev pub body : List Instr → List Instr
 body is = is ++ EndOf ∷ []
 
--- a function with so many parameters and results of 32 bits
+-- a function with that many parameters and results of 32 bits
 abbrev pub code : ℕ → ℕ → List Instr → StoreFunc
 code params results is = Inside (record { params = replicate params I32; results = replicate results I32 }) 0 [] (body is)
 

@@ -20,7 +20,7 @@ use Rattle.mount_tree.proofs.Follows.{Follows, follows_start, follows_step, foll
 pub any_memory : {A : Type 0} (due : Run A) (s : FilesState) → Gives due s s (Err NoMemory)
 any_memory due s = follows_memory due due s s (follows_start due s)
 
--- the fault of an entry's name, or want of memory for it
+-- the fault of an entry's name, or no memory for it
 bad_says : (A : Type 0) (name : List ℕ) (fault : TreeFault) → IsFault (BadName name) fault → Says {A = A} (Err (BadName name)) (Err fault)
 bad_says A name NoMemory is = tt
 bad_says A name (BadName n) is = ap Err is
@@ -119,7 +119,7 @@ module _ (folder path : List ℕ) (sofar : Sofar) (entry : Entry) (s : FilesStat
       → outside ≡ inside folder entry.name → inner ≡ below path entry.name → Says (folder_step sofar inner).answer (Err fault) → Enters folder path sofar entry s s (Err fault)
   enter_no_folder fault outside inner good kind named placed h = λ deeper. entry_refused deeper s folder path sofar entry fault outside inner good kind named placed h
 
--- one entry of a mount, with what is in it so many levels deep
+-- one entry of a mount, with what is in it that many levels deep
 abbrev pub entry_step : ℕ → List ℕ → List ℕ → Held → Sofar → Entry → Run Sofar
 entry_step levels folder path held sofar entry = entry_due (mount_due levels held) held folder path sofar entry
 

@@ -53,7 +53,7 @@ module _ (name : List ℕ) (used : ℕ) (s t : FilesState) where
   read_ok bytes few h =
       gives_file (Ok bytes) (Ok bytes.items) h (λ told. ap (content_by name used) (h.answer told) ∙ fits used bytes.items (omega (arith, few, h.within)))
 
--- the fault of a name, or want of memory for it
+-- the fault of a name, or no memory for it
 fault_answers : {A : Type 0} (due : Run A) (name : List ℕ) (s t : FilesState) (fault : TreeFault) → IsFault (FileFault name) fault
     → Answers due s t (Err (FileFault name)) → Answers due s t (Err fault)
 fault_answers due name s t (FileFault n) is h = subst (λ f. Answers due s t (Err f)) is h

@@ -17,7 +17,7 @@ truth : (b : Bool) → (b ≡ true) ⊎ (b ≡ false)
 truth true = inl refl
 truth false = inr refl
 
--- What a search has learned: names before what is left are less, and names behind it greater.
+-- What a search has learned: names before what is left are less, and names after it greater.
 abbrev Learned : (ℕ → List ℕ) → ℕ → ℕ → List ℕ → Search → Type 0
 Learned name from to part (Among low high) = (from ≤ low) × (high ≤ to) × ((i : ℕ) → from ≤ i → i < low → compared name part i ≡ Less) × ((i : ℕ) → high ≤ i → i < to → compared name part i ≡ Greater)
 Learned name from to part (Found at) = (from ≤ at) × (at < to) × (name at ≡ part)

@@ -30,7 +30,7 @@ length-by : (b : Bool) (there : List Entry) (e : Entry) → length (cond b (ther
 length-by true there e = length-append there (e ∷ [])
 length-by false there e = omega arith
 
--- the count with a path keeps its limit behind it
+-- the count with a path keeps its limit after it
 pub room : (before : ℕ) (there ps : List Entry) (path : List ℕ) (node : Node) → ps ≡ with_path there path node
     → (before + length there) + cond (is_free there (above_of (names_of path)) (end_name (names_of path))) 1 0 ≤ 65536 → before + length ps ≤ 65536
 room before there ps path node is few =

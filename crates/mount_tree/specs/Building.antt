@@ -28,7 +28,7 @@ abbrev pub content_by : List ℕ → ℕ → Option (List ℕ) → Result (List 
 content_by name used None = Err (FileFault name)
 content_by name used (Some bytes) = fitting used bytes
 
--- the bytes of a file outside, behind so many bytes of other files
+-- the bytes of a file outside, after that many bytes of other files
 abbrev pub file_due : Held → List ℕ → ℕ → Run (List ℕ)
 file_due held name used = record { asks = name ∷ []; answer = content_by name used (held.file name) }
 
@@ -66,7 +66,7 @@ embedded_due held sofar embedded =
     (λ files. and_next (each folder_step files embedded.folders)
     (λ folders. each (λ s (link : Link). link_step s link.path link.target) folders embedded.links))
 
--- ---- what is mounted: each entry of a folder in order, and what is in a folder directly behind it
+-- ---- what is mounted: each entry of a folder in order, and what is in a folder directly after it
 
 -- what an entry of a folder is called outside
 abbrev pub inside : List ℕ → List ℕ → List ℕ
@@ -85,7 +85,7 @@ abbrev pub entry_due : (List ℕ → List ℕ → Sofar → Run Sofar) → Held 
 entry_due deeper held folder path sofar entry =
     if is_entry_name entry.name then entry_by deeper held entry.kind (inside folder entry.name) (below path entry.name) sofar else stops (BadName entry.name)
 
--- so many levels deep; at the limit on names nothing stands deeper
+-- that many levels deep; at the limit on names nothing stands deeper
 abbrev pub mount_due : ℕ → Held → List ℕ → List ℕ → Sofar → Run Sofar
 mount_due zero held folder path sofar = done sofar
 mount_due (suc levels) held folder path sofar = and_next (listing_due held folder) (λ entries. each (entry_due (mount_due levels held) held folder path) sofar entries)

@@ -1,4 +1,4 @@
--- The entries of a tree in the making, each behind its folder, and what can be added to them.
+-- The entries of a tree in the making, each after its folder, and what can be added to them.
 use Rattle.std.specs.Prelude.{◌≡◌, ℕ, ◌<◌, List, [], ◌∷◌, ◌++◌, Bool, true, false, not, ◌&&◌, Option, Some, None, String, length, slice_get, if◌then◌else◌}
 use Rattle.std.specs.List.{list_any}
 use Rattle.std.specs.Option.{option_map_or}

@@ -14,7 +14,7 @@ pub data Search : Type 0 where
 abbrev pub middle_of : ℕ → ℕ → ℕ
 middle_of low high = low + (high - low) / 2
 
--- what is left behind a probe of the middle node, by how its name compares with the one that is looked for
+-- what is left after a probe of the middle node, by how its name compares with the one that is looked for
 abbrev pub by_order : Ordering → ℕ → ℕ → ℕ → Search
 by_order Less low middle high = Among (middle + 1) high
 by_order Equal low middle high = Found middle
@@ -25,7 +25,7 @@ abbrev pub probe : (ℕ → Ordering) → Search → Search
 probe order (Among low high) = if nat_lt low high then by_order (order (middle_of low high)) low (middle_of low high) high else Among low high
 probe order (Found at) = Found at
 
--- so many probes
+-- that many probes
 unfoldable pub probes : (ℕ → Ordering) → ℕ → Search → Search
 probes order zero s = s
 probes order (suc n) s = probes order n (probe order s)
@@ -38,7 +38,7 @@ found (Found at) = Some at
 abbrev pub compared : (ℕ → List ℕ) → List ℕ → ℕ → Ordering
 compared name part i = slice_cmp nat_cmp (name i) part
 
--- the node of a name among those from one number up to another, by so many probes
+-- the node of a name among those from one number up to another, by that many probes
 abbrev pub child_of : (ℕ → List ℕ) → ℕ → ℕ → ℕ → List ℕ → Option ℕ
 child_of name digits from to part = found (probes (compared name part) digits (Among from to))
 
@@ -52,7 +52,7 @@ abbrev pub IsChild : (ℕ → List ℕ) → ℕ → ℕ → List ℕ → Option 
 IsChild name from to part (Some at) = (from ≤ at) × (at < to) × (name at ≡ part)
 IsChild name from to part None = (i : ℕ) → from ≤ i → i < to → name i ≢ part
 
--- The node's path is that of the folder with this name behind it, or the tree has nothing there.
+-- The node's path is that of the folder with this name after it, or the tree has nothing there.
 abbrev pub LeadsTo : (ℕ → List (List ℕ) → Option Node) → (ℕ → ℕ) → (ℕ → List (List ℕ)) → ℕ → ℕ → List ℕ → Option ℕ → Type 0
 LeadsTo look tree path nodes node part (Some at) = (at < nodes) × (tree at ≡ tree node) × (path at ≡ part ∷ path node)
 LeadsTo look tree path nodes node part None = look (tree node) (part ∷ path node) ≡ None

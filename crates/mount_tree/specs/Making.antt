@@ -53,7 +53,7 @@ with_other sofar path node = record { before = sofar.before; bytes = sofar.bytes
 
 -- ---- a tree that was made
 
--- it stands under its name behind those before it
+-- it stands under its name after those before it
 abbrev pub with_tree : Sofar → List ℕ → Forest
 with_tree made name = record {
   nodes = made.before.nodes + length made.there;

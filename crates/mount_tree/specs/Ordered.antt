@@ -24,7 +24,7 @@ AreOrdered (m ∷ ms) (t ∷ ts) = IsOrdered m t × AreOrdered ms ts
 AreOrdered [] (t ∷ ts) = ⊥
 AreOrdered (m ∷ ms) [] = ⊥
 
--- The trees are those that the policy and the files stand for, in order; or the first fault comes, or want of memory.
+-- The trees are those that the policy and the files stand for, in order; or the first fault comes, or no memory.
 pub record Builds (policy : Policy) (s t : FilesState) (r : Result (List NamedTree) TreeFault) : Type 0 where
   pub goes : Goes s t
   pub stays : t.held ≡ s.held

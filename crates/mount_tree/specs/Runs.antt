@@ -20,7 +20,7 @@ abbrev pub next_by : {A B : Type 0} → List (List ℕ) → Result A TreeFault �
 next_by asks (Ok a) next = record { asks = asks ++ (next a).asks; answer = (next a).answer }
 next_by asks (Err fault) next = record { asks = asks; answer = Err fault }
 
--- one behind the other, up to the first fault
+-- one after the other, up to the first fault
 abbrev pub and_next : {A B : Type 0} → Run A → (A → Run B) → Run B
 and_next run next = next_by run.asks run.answer next
 
@@ -31,7 +31,7 @@ each step state (x ∷ xs) = and_next (step state x) (λ next. each step next xs
 
 -- ---- how a call relates to what is due
 
--- this fault, or want of memory for its name
+-- this fault, or no memory for its name
 abbrev pub IsFault : TreeFault → TreeFault → Type 0
 IsFault due NoMemory = Unit {0}
 IsFault due (FileFault name) = due ≡ FileFault name

@@ -6,14 +6,14 @@ use Rattle.tree_table.specs.Paths.{Answer, At, Fails, Part, Stay, Up, Named, par
 use Rattle.tree_table.specs.Tables.{Forest, count_of, tree_of, name_of, parent_of, from_of, to_of, node_of, path_of, map_of, longest_of}
 use Rattle.mount_tree.specs.Halves.{child_of}
 
--- Where a walk is: at a node, with so many links that may still be followed and the parts that are left; or it has ended at a node, or
+-- Where a walk is: at a node, with that many links that may still be followed and the parts that are left; or it has ended at a node, or
 -- with the number of an error code.
 pub data Walk : Type 0 where
   On : ℕ → ℕ → List (List ℕ) → Walk
   Ended : ℕ → Walk
   Failed : ℕ → Walk
 
--- The walk began at the node `start`. So many probes are made among the children of a folder.
+-- The walk began at the node `start`. That many probes are made among the children of a folder.
 module _ (f : Forest) (digits start : ℕ) (follow : Bool) where
   -- a link is followed: its target's parts come before those that are left
   abbrev pub along : ℕ → List ℕ → ℕ → List (List ℕ) → Walk
@@ -46,7 +46,7 @@ module _ (f : Forest) (digits start : ℕ) (follow : Bool) where
   step (Ended node) = Ended node
   step (Failed code) = Failed code
 
-  -- so many steps
+  -- that many steps
   unfoldable pub steps : ℕ → Walk → Walk
   steps zero w = w
   steps (suc n) w = steps n (step w)
@@ -77,7 +77,7 @@ module _ (f : Forest) (digits start : ℕ) (follow : Bool) where
   left (Ended node) = 0
   left (Failed code) = 0
 
-  -- so many steps are enough for a path
+  -- that many steps are enough for a path
   abbrev pub enough : List ℕ → ℕ
   enough path = suc (length (parts_of path) + 40 * longest_of f)
 

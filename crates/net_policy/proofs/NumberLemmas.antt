@@ -29,7 +29,7 @@ both_left n w [] vs d e l m = absurd (omega (arith, l))
 both_left n w (x ∷ xs) [] d e l m = absurd (omega (arith, m))
 both_left n w (x ∷ xs) (v ∷ vs) d e l m = same_front_bits n w x (number_in (plain_value v)) (flat_map (bits w) xs) (flat_map (bits w) (all_numbers (values_of vs)))
 
--- what is behind the first item
+-- what is after the first item
 pub behind_first : {A : Type 0} (xs : List A) → take (length xs - 1) (drop 1 xs) ≡ drop 1 xs
 behind_first [] = refl
 behind_first (x ∷ xs) = ap (λ n. take n xs) (omega arith) ∙ take_whole xs

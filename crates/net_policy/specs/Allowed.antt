@@ -52,7 +52,7 @@ same_bit true b = b
 same_bit false true = false
 same_bit false false = true
 
--- whether two lists begin alike, for so many bits
+-- whether two lists begin alike, for that many bits
 abbrev pub same_front : ℕ → List Bool → List Bool → Bool
 same_front zero xs ys = true
 same_front (suc n) [] [] = true

@@ -1,4 +1,4 @@
--- What the sections behind the application add: an alias of each export, and an export of each alias.
+-- What the sections after the application add: an alias of each export, and an export of each alias.
 use Rattle.std.proofs.Common.{◌≡◌, ◌∙◌, ap, sym, refl, subst, ℕ, zero, suc, ◌+◌, ◌<◌, List, [], ◌∷◌, ◌++◌, length, Bool, true, false, Option, Some, None, map, arith}
 use Rattle.std.specs.Prelude.{slice_get, nat_lt, not, ◌&&◌, ◌||◌, if◌then◌else◌}
 use Rattle.std.specs.Option.{option_map, option_and_then}
@@ -227,7 +227,7 @@ at_last s c (FuncItem ty) h = ap (λ (n : ℕ). option_map FuncItem (slice_get (
 at_last s c (InstanceItem entries) h = ap (λ (n : ℕ). option_map InstanceItem (slice_get (s.instances ++ entries ∷ []) n)) h.instances ∙ ap as_instance (get_last s.instances entries)
 at_last s c (KindItem kind) h = ap (λ (n : ℕ). as_type (slice_get (s.types ++ entry_of kind ∷ []) n)) h.types ∙ ap as_type (get_last s.types (entry_of kind))
 
--- these items stand at the next indexes, each behind those of its sort
+-- these items stand at the next indexes, each after those of its sort
 abbrev pub Stand : Space → Counts → Entries → Type 0
 Stand s c End = Unit {0}
 Stand s c (More name item rest) = (item_at s (sort_of item) (count_of c (sort_of item)) ≡ Some item) × Stand s (and_one c (sort_of item)) rest

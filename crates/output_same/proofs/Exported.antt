@@ -34,19 +34,19 @@ use Rattle.comp_types.specs.Added.{and_instantiated, and_some_item, and_some_cor
 use Rattle.comp_types.specs.Rules.{if_there, is_new_in, name_fits}
 use Rattle.comp_types.specs.Validity.{AllHold, IsValidDefinition, AreValid, IsValidPart, IsValidTree, IsValidComponent}
 
--- ---- entries behind others
+-- ---- entries after others
 
 abbrev pub joined : Entries → Entries → Entries
 joined before End = before
 joined before (More name item rest) = joined (and_entry before name item) rest
 
--- a name may stand behind these
+-- a name may stand after these
 pub record Fits (before : Entries) (name : Name) (item : Item) : Type 0 where
   pub legal : is_legal name ≡ true
   pub new : is_new_in before name ≡ true
   pub annotated : name_fits before name item ≡ true
 
--- so may each of these names, behind those before it
+-- so may each of these names, after those before it
 abbrev pub AllFit : Entries → Entries → Type 0
 AllFit before End = Unit {0}
 AllFit before (More name item rest) = Fits before name item × AllFit (and_entry before name item) rest

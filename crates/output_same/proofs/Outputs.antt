@@ -40,7 +40,7 @@ same_exports f c (More name item rest) =
     ap (λ (sort : Sort). (record { name = name; sort = sort; index = count_of c sort; desc = None }) ∷ exports_from (and_one c sort) (entries_with f rest)) (sort_with f item)
     ∙ ap (λ (es : List ComponentExport). (record { name = name; sort = sort_of item; index = count_of c (sort_of item); desc = None }) ∷ es) (same_exports f (and_one c (sort_of item)) rest)
 
--- ---- aliases and exports behind the instance
+-- ---- aliases and exports after the instance
 
 -- What sections make of a scope: they are valid, and only add exports.
 record Exporting (s : Space) (tree : Tree) (out : Entries) : Type 0 where
@@ -97,7 +97,7 @@ instance_valid : (inner : Space) → inner.imports ≡ End → AllHold [] (and_n
 instance_valid inner none =
     all_hold [] (and_nested root inner) (AnInstance (Instantiate 0 [])) refl tt (refl, subst (λ (imports : Entries). MeetsImports End imports) (sym none) ((λ r. r), tt))
 
--- the sections behind the application
+-- the sections after the application
 behind_application : (inner : Space) → inner.imports ≡ End → AllFit End inner.exports
     → Exporting (and_nested root inner) (Section (Instances one_instance) (exporting inner.exports)) (entries_with (numbers_in inner) inner.exports)
 behind_application inner none fit =

@@ -83,7 +83,7 @@ module _ (f : ℕ → ℕ) where
       ap (λ (r : Option ℕ). has_resource (λ r. is_function_of a.0 r (item_with f item)) r) (ap resource_of (with_look_up a.1 before) ∙ resource_with (look_up a.1 before))
       ∙ has_with a.0 item (resource_of (look_up a.1 before)) h
 
-  -- ---- what may stand behind entries
+  -- ---- what may stand after entries
 
   fits_with : (before : Entries) (name : Name) (item : Item) → Fits before name item → Fits (entries_with f before) name (item_with f item)
   fits_with before name item h = record {

@@ -13,7 +13,7 @@ abbrev pub components_in : Tree → List Tree
 components_in End = []
 components_in (More part rest) = and_inner part (components_in rest)
 
--- One section of the outermost level holds a component. It is the first behind the preamble, and its content is the application's
+-- One section of the outermost level holds a component. It is the first after the preamble, and its content is the application's
 -- bytes, unchanged.
 pub record HoldsOnce (app bytes : List ℕ) (output : Tree) : Type 0 where
   pub inner : Tree

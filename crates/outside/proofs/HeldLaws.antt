@@ -25,7 +25,7 @@ file_there h n o = let same = same_text n in rw same refl
 pub file_elsewhere : (h : Held) (n m : List ℕ) (o : Option (List ℕ)) → bytes_eq n m ≡ false → (with_file h n o).file m ≡ h.file m
 file_elsewhere h n m o other = rw other refl
 
--- bytes behind those that were put there
+-- bytes after those that were put there
 pub with_more_with_file : (h : Held) (n old bytes : List ℕ) → with_more (with_file h n (Some old)) n bytes ≡ with_file h n (Some (old ++ bytes))
 with_more_with_file h n old bytes =
     ap (λ o. with_file (with_file h n (Some old)) n (option_map (λ b. b ++ bytes) o)) (file_there h n (Some old)) ∙ with_file_twice h n (Some old) (Some (old ++ bytes))

@@ -58,7 +58,7 @@ no_folder h name = is_none (h.folder name)
 abbrev pub no_place : Held → List ℕ → Bool
 no_place h name = not (h.noted name) && no_file h name
 
--- a file with so many bytes more is longer than the room
+-- a file with that many bytes more is longer than the room
 abbrev pub is_over : ℕ → ℕ → Option (List ℕ) → Bool
 is_over room more None = true
 is_over room more (Some old) = nat_lt room (length old + more)
@@ -86,7 +86,7 @@ IsFault Missing = Unit {0}
 IsFault Failed = Unit {0}
 IsFault _ = ⊥
 
--- the call failed or not; want of memory may come in either case
+-- the call failed or not; memory may run out in either case
 abbrev pub FailsAs : {X : Type 0} → Result X FileFail → Bool → Type 0
 FailsAs (Ok x) due = due ≡ false
 FailsAs (Err Missing) due = due ≡ true

@@ -39,7 +39,7 @@ held_at_start c = record {
 abbrev pub all_in_order : List (Named (List Entry)) → Bool
 all_in_order folders = list_all (λ folder. in_order folder.value) folders
 
--- room for so many bytes under a name, which is noted
+-- room for that many bytes under a name, which is noted
 abbrev pub with_room : Held → List ℕ → ℕ → Held
 with_room h name bytes = record h {
   noted = λ other. if bytes_eq name other then true else h.noted other;
@@ -55,7 +55,7 @@ is_fault (Err Failed) = true
 is_fault (Err (TooLong len)) = false
 is_fault (Err NoMemory) = false
 
--- an answer is the one that is due, or want of memory in place of a value
+-- an answer is the one that is due, or no memory in place of a value
 abbrev pub Answers : {A B : Type 0} → (A → B) → Result B FileFail → Result A FileFail → Type 0
 Answers view due (Ok x) = due ≡ Ok (view x)
 Answers view due (Err NoMemory) = IsOk due

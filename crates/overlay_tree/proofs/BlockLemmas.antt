@@ -336,7 +336,7 @@ exchanged_second xs a m e i h k l is_i =
     ap (λ x. drop x all) is_i ∙ sym (drop-drop (e - m) a all) ∙ ap (drop (e - m)) (seam xs (take (e - m) (drop m xs) ++ (take (m - a) (drop a xs) ++ drop e xs)) a (omega (arith, h, k, l))) ∙ drop_at (take (e - m) (drop m xs)) (take (m - a) (drop a xs) ++ drop e xs) (e - m) long in
     ap (take (m - a)) from ∙ take_at (take (m - a) (drop a xs)) (drop e xs) (m - a) short
 
--- a piece gets more blocks, which stood behind all others
+-- a piece gets more blocks, which stood after all others
 pub grown_rest : (xs ys : List ℕ) (first used held wanted : ℕ) → held < wanted → first + held ≤ used → (used + (wanted - held)) * 4096 ≤ length xs → ys ≡ exchanged xs ((first + held) * 4096) (used * 4096) ((used + (wanted - held)) * 4096)
     → take ((used - (first + held)) * 4096) (drop ((first + wanted) * 4096) ys) ≡ take ((used - (first + held)) * 4096) (drop ((first + held) * 4096) xs)
 grown_rest xs ys first used held wanted more h fits is_ys =
@@ -347,7 +347,7 @@ grown_rest xs ys first used held wanted more h fits is_ys =
     ap (λ x. take ((used - (first + held)) * 4096) (drop ((first + wanted) * 4096) x)) is_ys ∙ ap (λ x. take x (drop ((first + wanted) * 4096) (exchanged xs a m e))) count
     ∙ exchanged_second xs a m e ((first + wanted) * 4096) (omega (arith, h)) (omega arith) fits (omega (arith, more, h)) ∙ ap (λ x. take x (drop a xs)) (sym count)
 
--- a piece gives up blocks, which then stand behind all others
+-- a piece gives up blocks, which then stand after all others
 pub cut_rest : (xs ys : List ℕ) (first used held wanted : ℕ) → wanted ≤ held → first + held ≤ used → used * 4096 ≤ length xs → ys ≡ exchanged xs ((first + wanted) * 4096) ((first + held) * 4096) (used * 4096)
     → take ((used - (first + held)) * 4096) (drop ((first + wanted) * 4096) ys) ≡ take ((used - (first + held)) * 4096) (drop ((first + held) * 4096) xs)
 cut_rest xs ys first used held wanted less h fits is_ys =

@@ -1,4 +1,4 @@
--- What a map of files says of the entries and bytes behind it.
+-- What a map of files says of the entries and bytes after it.
 use Rattle.std.proofs.Common.{◌≡◌, ℕ, zero, suc, ◌+◌, ◌*◌, ◌-◌, ◌≤◌, ◌<◌, ◌^◌, refl, sym, ap, subst, ◌∙◌, List, [], ◌∷◌, ◌++◌, length, take, drop, set, get_or, Option, Some, None, Bool, true, false, ◌≢◌, rules, arith}
 use Rattle.std.specs.Prelude.{IsSome, nat_le, is_none, position, ◌==◌, max, replicate, option_map}
 use Rattle.std.specs.Option.{option_map_or}

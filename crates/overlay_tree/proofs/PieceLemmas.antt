@@ -43,7 +43,7 @@ pieces_alike (e ∷ es) bs cs h =
     let rest = pieces_alike es (drop k bs) (drop k cs) (later_alike bs cs k m all) in
     cc
 
--- One file is changed: what is in front of it stays, and what is behind it stands behind the new blocks.
+-- One file is changed: what is in front of it stays, and what is after it stands after the new blocks.
 pub pieces_set : (es : List (Option Entry)) (bs cs : List ℕ) (n : ℕ) (e : Option Entry) → n < length es
     → take (blocks_in (take n es) * 4096) cs ≡ take (blocks_in (take n es) * 4096) bs
     → take (blocks_in (drop (suc n) es) * 4096) (drop (entry_blocks e * 4096) (drop (blocks_in (take n es) * 4096) cs)) ≡ take (blocks_in (drop (suc n) es) * 4096) (drop (entry_blocks (get_or es n None) * 4096) (drop (blocks_in (take n es) * 4096) bs))
@@ -73,7 +73,7 @@ pieces_get (x ∷ es) bs (suc n) =
     let both : (entry_blocks x + blocks_in (take n es)) * 4096 ≡ k + m = omega arith in
     pieces_get es (drop k bs) n ∙ ap (piece_of (get_or es n None)) (drop-drop m k bs ∙ ap (λ i. drop i bs) (sym both))
 
--- blocks in front of a number, its own, and those behind it
+-- blocks in front of a number, its own, and those after it
 pub blocks_split : (es : List (Option Entry)) (n : ℕ) → n < length es → blocks_in (take n es) + (entry_blocks (get_or es n None) + blocks_in (drop (suc n) es)) ≡ blocks_in es
 blocks_split [] n lt = absurd (omega arith)
 blocks_split (x ∷ es) zero lt = omega arith

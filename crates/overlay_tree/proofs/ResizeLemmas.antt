@@ -35,7 +35,7 @@ take_two [] zs ws n e = ap (λ k. take k (zs ++ ws)) (omega (arith, e)) ∙ take
 take_two (x ∷ xs) zs ws zero e = absurd (omega (arith, e))
 take_two (x ∷ xs) zs ws (suc n) e = ap (λ ys. x ∷ ys) (take_two xs zs ws n (omega (arith, e)))
 
--- zeros behind the first bytes from a place on
+-- zeros after the first bytes from a place on
 pub cleared : (bs : List ℕ) (off old more : ℕ) → off + old + more ≤ length bs → take (old + more) (drop off (splice bs (off + old) (off + old + more) (replicate more 0))) ≡ take old (drop off bs) ++ replicate more 0
 cleared bs off old more h =
     let zeros = replicate more 0 in
@@ -134,8 +134,8 @@ resized_map es bs ms n len b e lt there fits room same_length alike behind = eli
     le_or_lt (suc m) zero = inr (omega arith)
     le_or_lt (suc m) (suc n) = elim (le_or_lt m n) [ inl h ↦ inl (omega (arith, h)) | inr h ↦ inr (omega (arith, h)) ]
 
--- As the code finds it: what is in front of the file's blocks, and in those that it keeps, is as it was, and the other files' blocks behind
--- it stand behind its new ones.
+-- As the code finds it: what is in front of the file's blocks, and in those that it keeps, is as it was, and the other files' blocks after
+-- it stand after its new ones.
 pub resized_code : (es : List (Option Entry)) (bs ms cs : List ℕ) (n len b first used old held wanted : ℕ) (slot : Option Entry) → n < length es → IsSome (get_or es n None)
     → blocks_in es * 4096 ≤ length bs → blocks_in es * 4096 + blocks_of len * 4096 ≤ length bs + entry_blocks (get_or es n None) * 4096
     → first ≡ blocks_in (take n es) → old ≡ len_of (get_or es n None) → used ≡ blocks_in es → held ≡ blocks_of old → wanted ≡ blocks_of len → slot ≡ with_len len (get_or es n None)
@@ -170,7 +170,7 @@ resized_code es bs ms cs n len b first used old held wanted slot lt live fits ro
 
 -- ---- room
 
--- the other files' blocks, and those of so many bytes
+-- the other files' blocks, and those of that many bytes
 pub room_left : (es : List (Option Entry)) (bs : List ℕ) (blocks n len own all : ℕ) → n < length es → blocks_in es ≤ blocks → blocks_in es * 4096 ≤ length bs → own ≡ entry_blocks (get_or es n None) → all ≡ blocks_in es
     → nat_le len ((blocks - (all - own)) * 4096) ≡ has_room (map_of blocks es bs) n len
 room_left es bs blocks n len own all lt within fits is_own is_all =

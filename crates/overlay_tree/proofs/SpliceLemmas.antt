@@ -11,7 +11,7 @@ module _ {A : Type 0} where
   front (x ∷ xs) zs zero (suc k) h l = absurd (omega arith)
   front (x ∷ xs) zs (suc i) (suc k) h l = ap (λ ys. x ∷ ys) (front xs zs i k (omega arith) (omega arith))
 
-  -- behind what was taken
+  -- after what was taken
   pub seam : (xs zs : List A) (i : ℕ) → i ≤ length xs → drop i (take i xs ++ zs) ≡ zs
   seam xs zs zero l = refl
   seam [] zs (suc i) l = absurd (omega arith)
@@ -29,7 +29,7 @@ module _ {A : Type 0} where
   pub splice_front : (xs ys : List A) (i j k : ℕ) → k ≤ i → i ≤ length xs → take k (splice xs i j ys) ≡ take k xs
   splice_front xs ys i j k h l = front xs (ys ++ drop j xs) i k h l
 
-  -- and what is behind it
+  -- and what is after it
   pub splice_behind : (xs ys : List A) (i j n : ℕ) → i ≤ length xs → j ≡ i + length ys → j ≤ n → drop n (splice xs i j ys) ≡ drop n xs
   splice_behind xs ys i j n l e h =
       let at : n ≡ j + (n - j) = omega (arith, h) in
@@ -45,6 +45,6 @@ module _ {A : Type 0} where
   pub less_alike : (xs ys : List A) (k n : ℕ) → k ≤ n → take n xs ≡ take n ys → take k xs ≡ take k ys
   less_alike xs ys k n h e = sym (take-take k n xs h) ∙ ap (take k) e ∙ take-take k n ys h
 
-  -- and behind a place
+  -- and after a place
   pub later_alike : (xs ys : List A) (k m : ℕ) → take (k + m) xs ≡ take (k + m) ys → take m (drop k xs) ≡ take m (drop k ys)
   later_alike xs ys k m e = sym (drop-take k m xs) ∙ ap (drop k) e ∙ drop-take k m ys

@@ -1,4 +1,4 @@
--- How files stand in memory: one behind the other in order of their numbers, each in whole blocks.
+-- How files stand in memory: one after the other in order of their numbers, each in whole blocks.
 use Rattle.std.specs.Prelude.{◌≡◌, ℕ, ◌+◌, ◌*◌, ◌≤◌, ◌<◌, ◌^◌, Bool, false, List, [], ◌∷◌, length, take, drop, Option, Some, None, option_map}
 use Rattle.std.specs.Option.{option_map_or}
 use Rattle.std.specs.Str.{bytes_eq}
@@ -46,7 +46,7 @@ abbrev pub piece_of : Option Entry → List ℕ → Option ScratchFile
 piece_of None bytes = None
 piece_of (Some e) bytes = Some (record { name = e.name; content = take e.len bytes })
 
--- the files, whose bytes stand one behind the other
+-- the files, whose bytes stand one after the other
 abbrev pub pieces : List (Option Entry) → List ℕ → List (Option ScratchFile)
 pieces [] bytes = []
 pieces (entry ∷ entries) bytes = piece_of entry bytes ∷ pieces entries (drop (entry_blocks entry * 4096) bytes)

@@ -14,7 +14,7 @@ abbrev pub parts_of : ℕ → List ℕ → List (List ℕ)
 parts_of joiner [] = [] ∷ []
 parts_of joiner (byte ∷ text) = if byte == joiner then [] ∷ parts_of joiner text else in_first byte (parts_of joiner text)
 
--- what stands before the first such byte, and what behind it
+-- what stands before the first such byte, and what after it
 abbrev pub cut : ℕ → List ℕ → Option (List ℕ × List ℕ)
 cut byte text = option_map (λ place. (take place text, drop (place + 1) text)) (position (λ b. b == byte) text)
 

@@ -11,7 +11,7 @@ use virt_base::{NoMemory, Text};
 use virt_output::Piece;
 use wasi_match::ListedUse;
 
-/// The sections before the first component, those between both, and those behind the second.
+/// The sections before the first component, those between both, and those after the second.
 #[derive(Drop)]
 pub struct Around {
     pub imports: Vec<Piece<'static>>,

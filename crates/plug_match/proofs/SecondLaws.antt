@@ -1,4 +1,4 @@
--- The walk through the imports of the second component, and what comes behind it.
+-- The walk through the imports of the second component, and what comes after it.
 use Rattle.std.proofs.Common.{◌≡◌, ◌∙◌, ap, refl, sym, subst, ℕ, ◌+◌, ◌<◌, ◌≤◌, List, [], ◌∷◌, Bool, true, false, cond, Option, Some, None, length, drop, get_or}
 use Rattle.std.specs.List.{list_any}
 use Rattle.std.proofs.lemmas.List.{drop_more, drop_all}
@@ -40,7 +40,7 @@ module _ (first : First) (given exports : Entries) (xs : List InstanceEntry) (i 
         let stops = subst (λ o. Came o new (second_step first given so_far x.name (item_of x.ty))) e came in
         ap (λ s. on_second x.name s (λ more. second_from first given more rest exports)) (sym stops) ∙ there
 
-  -- ---- behind all imports
+  -- ---- after all imports
 
   module _ (past : length xs ≤ i) where
     ends : at_end so_far.sources exports ≡ v

@@ -1,4 +1,4 @@
--- The resources of both components as numbers of the whole: what the host gives has the number of its kind, and behind the kinds
+-- The resources of both components as numbers of the whole: what the host gives has the number of its kind, and after the kinds
 -- stand the first component's own.
 use Rattle.std.specs.Prelude.{ℕ, ◌+◌, List, [], ◌∷◌, Option, Some, None}
 use Rattle.comp_types.specs.Items.{Entries}

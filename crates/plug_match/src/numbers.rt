@@ -11,7 +11,7 @@ use virt_base::NoMemory;
 /// The number in the whole of the first component's resource 0, if that is its own: it stands after the kinds.
 pub const FIRST_OWN: u32 = 14;
 
-/// The number in the whole of a resource of the first. No component has so many that the numbers end.
+/// The number in the whole of a resource of the first. No component has that many that the numbers end.
 fn number_of(kinds: &Substitution, resource: u32) -> Result<u32, NoMemory>
     ensures { IfOk result (λ number. number ≡ number_of kinds.now resource) }
 {

@@ -10,7 +10,7 @@ pub record Address : Type 0 where
   pub numbers : List ℕ
   pub port : ℕ
 
--- so many bits of a number, the greatest first
+-- that many bits of a number, the greatest first
 abbrev pub bits : ℕ → ℕ → List Bool
 bits zero n = []
 bits (suc width) n = ((n / 2 ^ width) % 2 == 1) ∷ bits width n

@@ -15,7 +15,7 @@ pub fn same(row: &str, found: &str, wanted: &str) -> Result<(), Fail> {
     Err(Fail::new(format_args!("found {found}, not {wanted}: {row}")))
 }
 
-/// What stands before a mark and behind it.
+/// What stands before a mark and after it.
 pub fn parts(row: &str, mark: char) -> Result<(&str, &str), Fail> {
     match row.split_once(mark) {
         Some(parts) => Ok(parts),
@@ -27,7 +27,7 @@ pub fn number_in(word: &str) -> Result<u64, Fail> {
     Ok(word.parse::<u64>()?)
 }
 
-/// Adds a piece so many times, each time with the next number from 1000 on for a `#`.
+/// Adds a piece that many times, each time with the next number from 1000 on for a `#`.
 fn repeat(alloc: Global, text: &mut String, count: u64, piece: &str) -> Result<(), Fail> {
     for number in 1000..count.saturating_add(1000) {
         match piece.split_once('#') {

@@ -61,7 +61,7 @@ abbrev pub first_within : List ℕ → List Entry → Bool
 first_within k [] = false
 first_within k (e ∷ es) = within k e.0.items
 
--- behind an entry that is from the key on, and does not lie in it, nothing lies in it
+-- after an entry that is from the key on, and does not lie in it, nothing lies in it
 none_behind : (k : List ℕ) (e : Entry) (es : List Entry) → upto k e.0.items ≡ true → within k e.0.items ≡ false
     → AllByRecursion (λ (f : Entry). before e.0.items f.0.items ≡ true) es → list_any (λ (f : Entry). within k f.0.items) es ≡ false
 none_behind k e [] from out behind = refl

@@ -1,4 +1,4 @@
--- The order of keys: what lies in a path stands right behind it.
+-- The order of keys: what lies in a path stands right after it.
 use Rattle.std.proofs.Common.{◌≡◌, ◌∙◌, refl, ap, ℕ, List, [], ◌∷◌, Bool, true, false, not, cond, map, length, get_or, arith, nat_cmp, ◌<◌}
 use Rattle.std.specs.Prelude.{◌==◌, nat_eq, nat_lt, ◌&&◌}
 use Rattle.std.specs.List.{starts_with}
@@ -72,7 +72,7 @@ upto_through (x ∷ xs) [] zs h k = grind (arith, nat_tests)
 upto_through (x ∷ xs) (y ∷ ys) [] h k = k
 upto_through (x ∷ xs) (y ∷ ys) (z ∷ zs) h k = grind (arith, nat_tests, upto_through xs ys zs)
 
--- what lies in a path is behind it
+-- what lies in a path is after it
 pub within_upto : (a b : List ℕ) → within a b ≡ true → upto a b ≡ true
 within_upto [] b h = refl
 within_upto (x ∷ a) [] h = h

@@ -13,7 +13,7 @@ abbrev pub group_digit : ℕ → Option ℕ
 group_digit c = if nat_lt c 48 then None else (if nat_lt c 58 then Some (c - 48)
     else (if nat_lt c 97 then None else (if nat_lt c 103 then Some (c - 87) else None)))
 
--- a number, and digits behind those that spell it
+-- a number, and digits after those that spell it
 abbrev pub digits_behind : (ℕ → Option ℕ) → ℕ → ℕ → List ℕ → Option ℕ
 digits_behind digit base n [] = Some n
 digits_behind digit base n (c ∷ cs) = option_and_then (λ d. digits_behind digit base (n * base + d) cs) (digit c)

@@ -1,4 +1,4 @@
--- The keys under which paths are kept: `/` becomes the least byte, so that what lies in a path stands right behind it.
+-- The keys under which paths are kept: `/` becomes the least byte, so that what lies in a path stands right after it.
 use Rattle.std.specs.Prelude.{ℕ, ◌-◌, ◌+◌, Bool, ◌==◌, nat_lt, map, if◌then◌else◌, Vec}
 use Rattle.std.specs.declared.alloc.Global.{Global}
 use Rattle.path_names.specs.Paths.{Placed}

@@ -38,7 +38,7 @@ pub keeps_then : {A B : Type 0} (P : A → Type 0) (Q : B → Type 0) (r : Resul
 keeps_then P Q (Ok a) next h more = more a h
 keeps_then P Q (Err e) next h more = tt
 
--- behind a part that says nothing
+-- after a part that says nothing
 pub keeps_after : {A B : Type 0} (Q : B → Type 0) (r : Result A ReadPolicyFault) (next : A → Result B ReadPolicyFault)
     → ((a : A) → Keeps Q (next a)) → Keeps Q (and_then r next)
 keeps_after Q (Ok a) next more = more a
@@ -236,7 +236,7 @@ apart_more meets there (x ∷ xs) y h none =
     let rest = apart_more meets (there ++ x ∷ []) xs y more (ap (list_any (meets y)) (append_snoc there x xs) ∙ none) in
     rw (here, rest) refl
 
--- the one list, and the other behind it
+-- the one list, and the other after it
 pub apart_append : {A : Type 0} (meets : A → A → Bool) (there xs ys : List A) → each_apart meets there xs ≡ true → each_apart meets (there ++ xs) ys ≡ true
     → each_apart meets there (xs ++ ys) ≡ true
 apart_append meets there [] ys h k = ap (λ t. each_apart meets t ys) (sym (append-nil there)) ∙ k

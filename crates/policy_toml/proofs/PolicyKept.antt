@@ -498,7 +498,7 @@ digit_by false false false false n e f g h = tt
 digit_small : (c : ℕ) → IfSome (group_digit c) (λ d. d ≤ 15)
 digit_small c = digit_by (nat_lt c 48) (nat_lt c 58) (nat_lt c 97) (nat_lt c 103) c refl refl refl refl
 
--- the greatest number that so many more digits make of one up to a limit
+-- the greatest number that N more digits make of one up to a limit
 abbrev grown : ℕ → List ℕ → ℕ
 grown limit [] = limit
 grown limit (c ∷ cs) = grown (limit * 16 + 15) cs

@@ -32,7 +32,7 @@ pub most_then : {A B : Type 0} (size : A → ℕ) (other : B → ℕ) (n m : ℕ
 most_then size other n m (Ok a) next h more = more a h
 most_then size other n m (Err e) next h more = tt
 
--- behind a part that holds nothing
+-- after a part that holds nothing
 pub most_after : {A B : Type 0} (other : B → ℕ) (m : ℕ) (r : Result A ReadPolicyFault) (next : A → Result B ReadPolicyFault)
     → ((a : A) → AtMost other m (next a)) → AtMost other m (and_then r next)
 most_after other m (Ok a) next more = more a

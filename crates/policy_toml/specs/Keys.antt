@@ -63,7 +63,7 @@ table_or known fields path (Some d) = table_in known fields path d
 abbrev pub part : {A : Type 0} → List ℕ → List (List ℕ) → (List ℕ → Members → Result A ReadPolicyFault) → Members → Result A ReadPolicyFault
 part key known fields ms = table_or known fields key (get_member key ms)
 
--- the text, or want of memory
+-- the text, or no memory
 abbrev pub IsText : List ℕ → Result (List ℕ) ReadPolicyFault → Type 0
 IsText text (Ok made) = made ≡ text
 IsText text (Err NoMemory) = Unit {0}

@@ -30,7 +30,7 @@ front_of ms = and_then (known_keys [] top_keys ms)
     (λ stdio. and_then (part (codes "clocks") clocks_keys clocks_of ms)
     (λ clocks. Ok (record { limits = limits; env = env; stdio = stdio; clocks = clocks }))))))
 
--- those behind it
+-- those after it
 abbrev pub back_of : Version → Members → Result Back ReadPolicyFault
 back_of version ms = and_then (access_of ms)
     (λ access. and_then (part (codes "fs") fs_keys (fs_of version) ms)

@@ -15,7 +15,7 @@ abbrev pub and_then : {A B : Type 0} → Result A ReadPolicyFault → (A → Res
 and_then (Ok a) next = next a
 and_then (Err e) next = Err e
 
--- a list with what each item of an array gives behind it, in order; an item is read beside the list before it
+-- a list with what each item of an array gives after it, in order; an item is read beside the list before it
 abbrev pub each_item : {A : Type 0} → (List A → Data → Result A ReadPolicyFault) → List A → Items → Result (List A) ReadPolicyFault
 each_item read seen no_items = Ok seen
 each_item read seen (item d ds) = and_then (read seen d) (λ a. each_item read (seen ++ a ∷ []) ds)

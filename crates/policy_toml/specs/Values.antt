@@ -67,7 +67,7 @@ member_count (member key d ms) = suc (member_count ms)
 abbrev pub each : {A : Type 0} → (List ℕ → Data → Result A ReadPolicyFault) → List ℕ → List A → Data → Result A ReadPolicyFault
 each read path seen d = read (nth path (length seen)) d
 
--- an array of at most so many items
+-- an array of at most that many items
 abbrev pub list_in : {A : Type 0} → ℕ → (List ℕ → List A → Data → Result A ReadPolicyFault) → List ℕ → Data → Result (List A) ReadPolicyFault
 list_in greatest read path (array ds) =
     if nat_lt greatest (item_count ds) then Err (OverLimit path (item_count ds)) else each_item (read path) [] ds

@@ -27,7 +27,7 @@ has_name name other = bytes_eq other name
 abbrev names_in : List Items → List Name
 names_in table = map name_in table
 
--- the names of so many interfaces, from this number on
+-- the names of that many interfaces, from this number on
 abbrev names_from : ℕ → ℕ → List Name
 names_from zero i = []
 names_from (suc n) i = (interface_at i).name ∷ names_from n (i + 1)
@@ -36,7 +36,7 @@ in_table : (number : ℕ) (table : List Items) (name : Name) → numbered number
 in_table number [] name = refl
 in_table number (items ∷ rest) name = ap (cond (bytes_eq (name_in items) name) (Some number)) (in_table (number + 1) rest name)
 
--- a search in two lists, one behind the other
+-- a search in two lists, one after the other
 joined : {X : Type 0} (p : X → Bool) (n : ℕ) (xs ys : List X) → or_else (position_from p n xs) (position_from p (n + length xs) ys) ≡ position_from p n (xs ++ ys)
 joined p n [] ys = ap (λ k. position_from p k ys) (omega arith)
 joined p n (x ∷ xs) ys = by (p x) (joined p (n + 1) xs ys)

@@ -41,7 +41,7 @@ polled_none (h ∷ hosts) e =
     let clash : true ≡ false = sym e ∙ not_zero (length hosts) in
     cc
 
--- behind the last pollable no place is to come
+-- after the last pollable no place is to come
 pub none_more : (done : List PlainValue) (hosts : List Bool) (place : ℕ) (all : List PlainValue) → length hosts ≤ place → done ++ map number (always_among place (drop place hosts)) ≡ all → done ≡ all
 none_more done hosts place all past before =
     sym (append-nil done)

@@ -13,7 +13,7 @@ use Rattle.ref_answers.specs.declared.table.Found.{Found}
 abbrev pub version_in : List Name → ℕ → Name
 version_in versions number = slice_index_or versions number []
 
--- the first so many interfaces, each at the place of its number
+-- the first that many interfaces, each at the place of its number
 pub record AreFirst (count : ℕ) (interfaces : List Interface) : Type 0 where
   pub all : length interfaces ≡ count
   pub each : (i : ℕ) (d : Interface) → i < count → plain_interface (get_or interfaces i d) ≡ interface_at i

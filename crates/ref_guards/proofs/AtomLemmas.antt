@@ -106,7 +106,7 @@ other_of_option some zero x second = refl
 other_of_option some (suc zero) x second = absurd (second refl)
 other_of_option some (suc (suc n)) x second = refl
 
--- ---- behind the last field
+-- ---- after the last field
 
 ended_fields : (fs : List Field) (vs : List Value) (i : ℕ) → (i < length fs → i < length vs → ⊥) → atoms_of (fields_of (drop i fs)) (values_of (drop i vs)) ≡ []
 ended_fields [] vs zero past = refl
@@ -142,7 +142,7 @@ pub no_more_types : (before : List Atom) (ts : List WitType) (vs : List Value) (
     → before ++ atoms_of (types_of (drop i ts)) (values_of (drop i vs)) ≡ all → before ≡ all
 no_more_types before ts vs i all past e = sym (append-nil before) ∙ ap (λ rest. before ++ rest) (sym (ended_types ts vs i past)) ∙ e
 
--- a list, and behind it what is in it
+-- a list, and after it what is in it
 pub noted_list : (old mid new : List Atom) (item : Plain) (vs : List Value) (n s : ℕ) → mid ≡ old ++ Elements n s ∷ [] → new ≡ mid ++ each_atoms (λ v. atoms item v) (values_of vs) → n ≡ length vs → s ≡ size item → new ≡ old ++ items_atoms item (values_of vs)
 noted_list old mid new item vs n s first rest count_is size_is =
     let all : List Atom = each_atoms (λ v. atoms item v) (values_of vs) in

@@ -23,7 +23,7 @@ use Rattle.ref_guards.specs.Noted.{shown, shown_all}
 use Rattle.ref_guards.specs.declared.standing.Standing.{Standing}
 use Rattle.ref_guards.specs.Entering.{handle_for, with_handles, numbers_for}
 
--- ---- the next atom's handle, and those behind it
+-- ---- the next atom's handle, and those after it
 
 pub next_handles : (noted : List Atom) (i : ℕ) (d : Atom) → i < length noted → handles (shown_all (drop i noted)) ≡ handle_in (shown (get_or noted i d)) ++ handles (shown_all (drop (i + 1) noted))
 next_handles noted i d lt = ap (λ each. handles (shown_all each)) (drop-cons noted i d lt ∙ ap (λ n. get_or noted i d ∷ drop n noted) one_more)
@@ -61,7 +61,7 @@ count_entered standing kind live (g ∷ gs) =
     let same = kinds_same kind g.0 in
     omega (arith, rest, one, same)
 
--- room for the first, and for those behind it when it has entered
+-- room for the first, and for those after it when it has entered
 pub room_first : (kind : ℕ) (a b all : List (ℕ × ℕ)) (count slots : ℕ) → all ≡ a ++ b → count_kind kind all + count ≤ slots → count_kind kind a + count ≤ slots
 room_first kind a b all count slots is room =
     let both : count_kind kind all ≡ count_kind kind a + count_kind kind b = ap (count_kind kind) is ∙ count_append kind a b in

@@ -18,7 +18,7 @@ pub on_always : {A E : Type 0} (r : Result A E) (P : Type 0) → P → OnOk r P
 on_always (Ok x) P p = p
 on_always (Err e) P p = tt
 
--- what holds behind a call
+-- what holds after a call
 pub on_map : {A E : Type 0} (r : Result A E) (P Q : Type 0) → (P → Q) → OnOk r P → OnOk r Q
 on_map (Ok x) P Q go p = go p
 on_map (Err e) P Q go p = p

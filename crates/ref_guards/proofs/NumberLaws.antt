@@ -36,7 +36,7 @@ borrow_agrees kind (FlagsValue bits) ids h = refl
 borrow_agrees kind (HandleValue id) [] h = absurd (omega (arith, h))
 borrow_agrees kind (HandleValue id) (n ∷ ids) h = refl
 
--- one behind the other
+-- one after the other
 module _ (v w : PlainValue) (vs ws : PlainValues) (g h : List abi.Handle) (ids : List ℕ) (few : length (g ++ h) ≤ length ids) where
   few_first : length g ≤ length ids
   few_first = omega (arith, few, length-append g h)

@@ -30,6 +30,6 @@ abbrev pub numbers_for : Standing → List (Option Handle) → List (ℕ × ℕ)
 numbers_for standing live [] = []
 numbers_for standing live (g ∷ gs) = first_free live ∷ numbers_for standing (with_entry live (handle_for standing g)) gs
 
--- a scratch file that one of them would hold open is one of so many
+-- a scratch file that one of them would hold open is one of that many
 abbrev pub IsInside : ℕ → Standing → Type 0
 IsInside files standing = (id : ℕ) → is_inside files (stands_for standing id) ≡ true

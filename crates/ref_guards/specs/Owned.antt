@@ -6,6 +6,6 @@ use Rattle.reference_step.specs.Rules.{kinds, owns_of}
 abbrev pub owned_at_most : Option Plain → ℕ → ℕ
 owned_at_most ty kind = min (owns_of kind ty) 4294967295
 
--- so many of each kind, by the same limit
+-- that many of each kind, by the same limit
 abbrev pub each_at_most : (ℕ → ℕ) → List ℕ
 each_at_most many = map (λ kind. min (many kind) 4294967295) kinds

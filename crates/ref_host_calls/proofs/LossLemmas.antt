@@ -20,7 +20,7 @@ use Rattle.ref_answers.specs.Seen.{content_in, handle_in, live_in}
 use Rattle.ref_answers.proofs.SeenLaws.{seen_handle_at, seen_without_handle}
 use Rattle.ref_host_calls.specs.Losses.{IsLoss, listed_at}
 
--- what holds behind a call
+-- what holds after a call
 pub on_map : {A E : Type 0} (r : Result A E) (P Q : Type 0) → (P → Q) → OnOk r P → OnOk r Q
 on_map (Ok x) P Q go p = go p
 on_map (Err e) P Q go p = p

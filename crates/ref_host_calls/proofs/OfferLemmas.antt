@@ -50,7 +50,7 @@ noted_more g old new x y rest all is same before =
     ∙ ap (λ z. map g old ++ z ∷ rest) same
     ∙ before
 
--- behind the last one
+-- after the last one
 pub noted_end : {B : Type 0} (done rest all : List B) → rest ≡ [] → done ++ rest ≡ all → done ≡ all
 noted_end done rest all none before = sym (append-nil done) ∙ ap (λ ys. done ++ ys) (sym none) ∙ before
 
@@ -89,7 +89,7 @@ few_trees trees are = omega (arith, as_many_nodes trees (λ t tree is. some_firs
 pub count_next : (n m all first : ℕ) (rest before : ℕ) → before ≡ first + rest → n + before ≡ all → m ≡ n + first → m + rest ≡ all
 count_next n m all first rest before split is more = omega arith
 
--- ---- what holds behind a call
+-- ---- what holds after a call
 pub on_map : {A E : Type 0} (r : Result A E) (P Q : Type 0) → (P → Q) → OnOk r P → OnOk r Q
 on_map (Ok x) P Q go p = go p
 on_map (Err e) P Q go p = p

@@ -28,7 +28,7 @@ module _ {S : Type 0} (h : HostStep S) (f : Forest) where
 abbrev pub folders_at : {S : Type 0} → Reference S → Forest → Folders → LiveTable → S → Reference S
 folders_at r f folders live inner = record r { setup = record { policy = folders.policy.now; trees = folders.trees.now; version = version_in folders.listed.now }; live = live_in f live.handles; inner = inner }
 
--- whether a folder is none but a root of one of so many trees
+-- whether a folder is none but a root of one of that many trees
 abbrev pub folder_inside : ℕ → Folder → Bool
 folder_inside trees (Theirs id) = true
 folder_inside trees (Root place) = nat_lt place trees
@@ -38,11 +38,11 @@ abbrev pub offer_inside : ℕ → Offer → Bool
 offer_inside trees (Given folder name) = folder_inside trees folder
 offer_inside trees (Lost id) = true
 
--- each root is one of so many trees
+-- each root is one of that many trees
 abbrev pub AreInside : ℕ → List Offer → Type 0
 AreInside trees offers = All (λ o. offer_inside trees o ≡ true) offers
 
--- what holds of each handle of the host, of the roots of so many trees and of the scratch folder
+-- what holds of each handle of the host, of the roots of that many trees and of the scratch folder
 pub record HoldsOfFolders (trees : ℕ) (P : Content → Bool) : Type 0 where
   pub theirs : (id : ℕ) → P (Host id) ≡ true
   pub roots : (place : ℕ) → place < trees → P (Node place) ≡ true

@@ -18,7 +18,7 @@ call_of q = plain_call q.call.now
 abbrev pub handles_in : Request → Option PlainValue → List (ℕ × ℕ)
 handles_in q v = handles (result_atoms (listed_of q).function.ty.answer v)
 
--- what was noted is in the arguments, the call has so many bytes left, and the result's type is small enough to be noted
+-- what was noted is in the arguments, the call has that many bytes left, and the result's type is small enough to be noted
 pub record IsNoted (q : Request) : Type 0 where
   pub noted : shown_all q.noted.now ≡ atoms_of (listed_of q).function.ty.params (call_of q).args
   pub left : weight (atoms_of (listed_of q).function.ty.params (call_of q).args) + q.left ≡ q.policy.now.transfer_limit

@@ -30,7 +30,7 @@ opens file (Some h) = option_map_or (λ n. n == file) (open_file h.content) fals
 abbrev pub is_open : List (Option Handle) → ℕ → Bool
 is_open handles file = list_any (opens file) handles
 
--- whether a scratch file that a content holds open is one of so many
+-- whether a scratch file that a content holds open is one of that many
 abbrev pub is_inside : ℕ → Content → Bool
 is_inside files content = option_map_or (λ n. nat_lt n files) (open_file content) true
 
@@ -39,7 +39,7 @@ standing_for content h = record h { content = content }
 
 -- ---- what the code keeps
 
--- so many times a number
+-- that many times a number
 abbrev pub many : ℕ → ℕ → ℕ
 many zero n = 0
 many (suc times) n = many times n + n

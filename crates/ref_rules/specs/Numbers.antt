@@ -5,7 +5,7 @@ use Rattle.std.specs.BinaryHeap.{IsHeap}
 use Rattle.slot_tables.specs.Entries.{live_count}
 use Rattle.ref_rules.specs.declared.content.Handle.{Handle}
 
--- at most so many entries, and what stands at each number
+-- at most that many entries, and what stands at each number
 pub record Numbers : Type 0 where
   pub most : ℕ
   pub handles : List (Option Handle)

@@ -25,7 +25,7 @@ module _ (m : ScratchMap) (part : List ℕ) where
   last_file : (n : ℕ) → part_of part ≡ Named → find_file m part ≡ Some n → lead_parts m (part ∷ []) ≡ TheFile n
   last_file n is some = rw (is, some, some) refl
 
-  -- a name behind which a part stands
+  -- a name after which a part stands
   pub inner_name : (more : List ℕ) → part_of part ≡ Named → lead_parts m (part ∷ parts_of more) ≡ inner (find_file m part)
   inner_name more is = let some = some_part more in ap (λ ps. lead_parts m (part ∷ ps)) some.2 ∙ by some.0 some.1 (find_file m part) refl
     where

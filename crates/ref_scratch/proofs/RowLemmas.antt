@@ -69,7 +69,7 @@ module _ (f : Forest) (row : Row) where
 
 pub ruleset by_found = (at_root, at_file, at_none, told_same, told_stores, told_gives, told_moves, told_stored, told_full, told_wrote, told_closed)
 
--- the place of a stream behind bytes that have room
+-- the place of a stream after bytes that have room
 pub place_fits : (place : Option ℕ) (at len size : ℕ) → at ≡ unwrap_or place size → at + len < 2 ^ 64 → IfSome place (λ p. p + len < 2 ^ 64)
 place_fits None at len size e few = search
 place_fits (Some p) at len size e few = omega (arith, e, few)

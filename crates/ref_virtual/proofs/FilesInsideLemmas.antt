@@ -26,7 +26,7 @@ blank = record { tree = 0; place = 0; name = []; parent = 0; from = 0; to = 0; n
 abbrev mark : ℕ → Entry
 mark to = record { tree = 1; place = 0; name = []; parent = 0; from = 0; to = to; node = Folder }
 
--- a row with so many blank ones before it, and so many behind it
+-- a row with that many blank ones before it, and that many after it
 abbrev among : ℕ → ℕ → Entry → List Entry
 among zero behind row = row ∷ replicate behind blank
 among (suc before) behind row = blank ∷ among before behind row
@@ -34,7 +34,7 @@ among (suc before) behind row = blank ∷ among before behind row
 abbrev empty : Forest
 empty = record { roots = 0; rows = [] }
 
--- its node of this number alone is of tree 1, and alone has entries, more than so many
+-- its node of this number alone is of tree 1, and alone has entries, more than that many
 abbrev marked : ℕ → ℕ → Forest
 marked node behind = record { roots = 0; rows = among node behind (mark (node + 1 + behind)) }
 
@@ -241,6 +241,6 @@ pub fixed_inside : {E : Type 0} (r : Result Row E) (k : PlainRow) (nodes : ℕ) 
 fixed_inside (Ok row) k nodes says = row_fixed row k nodes says
 fixed_inside (Err e) k nodes says = says
 
--- a number below so many
+-- a number below that many
 pub below : (node nodes : ℕ) → node < nodes → nat_lt node nodes ≡ true
 below node nodes less = lt-ltb node nodes less

@@ -13,7 +13,7 @@ use Rattle.ref_virtual.specs.Views.{node_in}
 use Rattle.ref_virtual.specs.Inside.{node_inside}
 use Rattle.ref_virtual.specs.Others.{node_of, crossing, same_as}
 
--- the node of a content is one of so many, where that of the content is
+-- the node of a content is one of that many, where that of the content is
 pub node_within : (nodes : ℕ) (c : Content) → node_inside nodes c ≡ true → IfSome (node_of c) (λ o. o < nodes)
 node_within nodes (Host id) is = tt
 node_within nodes (Node node) is = ltb-true _ _ is

@@ -12,7 +12,7 @@ use Rattle.ref_virtual.specs.Inside.{node_inside}
 abbrev pub content_held : List (Option Handle) → ℕ → Content
 content_held handles id = option_map_or (λ h. h.content) (slice_index_or handles id None) Always
 
--- each live handle's node is one of so many
+-- each live handle's node is one of that many
 abbrev pub AreInside : ℕ → List (Option Handle) → Type 0
 AreInside nodes handles = (id : ℕ) → node_inside nodes (content_held handles id) ≡ true
 

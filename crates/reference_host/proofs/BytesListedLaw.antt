@@ -56,7 +56,7 @@ take_below i less =
     let same : i ≡ 0 + i = omega arith in
     ap take_bytes same ∙ take_at 27 0 i listed_take less
 
--- ---- behind the last interface there are no functions
+-- ---- after the last interface there are no functions
 
 none_past : (number : ℕ) (known : List PlainKnown) (table : List Items) (left : ℕ) → length table ≤ left → (described_from number known table left).functions ≡ []
 none_past number known [] left past = refl

@@ -59,7 +59,7 @@ resolve_has tree node text follow =
 
 -- ---- the scratch folder
 
--- a code, or the number of one of so many files
+-- a code, or the number of one of that many files
 abbrev pub IsFound : ℕ → Found → Type 0
 IsFound files TheRoot = Unit {0}
 IsFound files (TheFile number) = number < files

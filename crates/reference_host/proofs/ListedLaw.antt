@@ -127,7 +127,7 @@ due_below i less =
     let same : i ≡ 0 + i = omega arith in
     ap are_due same ∙ due_at 27 0 i listed_due less
 
--- ---- behind the last interface there are no functions
+-- ---- after the last interface there are no functions
 
 none_past : (number : ℕ) (known : List PlainKnown) (table : List Items) (left : ℕ) → length table ≤ left → (described_from number known table left).functions ≡ []
 none_past number known [] left past = refl

@@ -40,7 +40,7 @@ pub on_two : {A E : Type 0} (r : Result A E) (P Q R : Type 0) → (P → Q → R
 on_two (Ok x) P Q R go p q = go p q
 on_two (Err e) P Q R go p q = p
 
--- beside what holds behind the call
+-- beside what holds after the call
 pub ok_with : {A E : Type 0} (r : Result A E) (P Q : A → Type 0) (R : Type 0) → ((x : A) → P x → R → Q x) → IfOk r P → OnOk r R → IfOk r Q
 ok_with (Ok x) P Q R go p q = go x p q
 ok_with (Err e) P Q R go p q = p

@@ -9,11 +9,11 @@ use Rattle.reference_host.specs.Sound.{IsSound}
 use Rattle.reference_host.specs.Typed.{AnswersAreTypedWhereAsked, AsksTyped}
 use Rattle.reference_host.proofs.RoomLemmas.{left, right}
 
--- behind a test that failed nothing is asked
+-- after a test that failed nothing is asked
 pub never : (P : Type 0) (a b : Bool) → a ≡ false → (a && b) ≡ true → P
 never P a b fails is = absurd (true≢false (sym (left a b is) ∙ fails))
 
--- what holds behind the tests that are left holds behind one more
+-- what holds after the tests that are left holds after one more
 pub further : (P : Type 0) (a b : Bool) → (b ≡ true → P) → (a && b) ≡ true → P
 further P a b go is = go (right a b is)
 

@@ -23,7 +23,7 @@ u64 = UnsignedType EightBytes
 abbrev pub handle : Plain
 handle = OwnType 0
 
--- an enum of so many labels
+-- an enum of that many labels
 abbrev pub labels : ℕ → Plain
 labels count = VariantType AsEnum (bare (replicate count []))
 

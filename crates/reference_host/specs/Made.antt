@@ -22,7 +22,7 @@ becomes_in handles args (Some content) =
     let id = id_in (nth 0 args) in
     slice_set handles id (option_map (standing_for content) (slice_index_or handles id None))
 
--- the live handles behind an effect, and behind a row
+-- the live handles after an effect, and after a row
 abbrev pub live_after : Request → LiveTable → Effect → LiveTable
 live_after q live e = record live { handles = with_handles (Made e.makes) (becomes_in live.handles (call_of q).args e.becomes) (handles_in q (plain_option e.value)) }
 

@@ -8,7 +8,7 @@ use Rattle.wasi_match.specs.declared.listed.ListedUse.{ListedUse}
 abbrev pub version_of : List ListedUse → ℕ → Name
 version_of uses interface = option_map_or (λ u. u.version) (find (λ u. u.interface == interface) uses) (codes "0.2.0")
 
--- those of the first so many interfaces
+-- those of the first that many interfaces
 abbrev pub first_versions : List ListedUse → ℕ → List Name
 first_versions uses zero = []
 first_versions uses (suc count) = first_versions uses count ++ version_of uses count ∷ []

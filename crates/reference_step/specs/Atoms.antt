@@ -5,9 +5,9 @@ use Rattle.wit_types.specs.PlainValue.{PlainValue, PlainValues, Payload, StringV
 use Rattle.wit_types.specs.Layout.{size, align_to}
 
 pub data Atom : Type 0 where
-  -- a text of so many bytes
+  -- a text of that many bytes
   Text : (bytes : ℕ) → Atom
-  -- a list of so many elements of a size
+  -- a list of that many elements of a size
   Elements : (count : ℕ) → (size : ℕ) → Atom
   -- a handle of a kind
   Handle : (kind : ℕ) → (id : ℕ) → Atom

@@ -103,7 +103,7 @@ get-type v (Node tree path) = returns (ok (label (type_of (node_at v.trees tree 
 get-type v (ScratchFile n may_write) = returns (ok (label code.regular_file))
 get-type v _ = returns (ok (label code.directory))
 
--- the bytes from an offset on, so many at most, and whether they reach the end
+-- the bytes from an offset on, that many at most, and whether they reach the end
 abbrev pub bytes_from : List ℕ → (length offset : ℕ) → PlainValue
 bytes_from content len offset =
     let s = min offset (length content) in

@@ -23,7 +23,7 @@ set_variables p = map variable_value p.env_set
 abbrev pub is_passed : Policy → List ℕ → Bool
 is_passed p name = (p.env_pass || list_any (λ allowed. bytes_eq allowed name) p.env_allow) && not (list_any (λ s. bytes_eq s.name name) p.env_set)
 
--- those of the host that are passed, in order, and behind them those that the policy sets
+-- those of the host that are passed, in order, and after them those that the policy sets
 abbrev pub all_variables : Policy → PlainValue → List PlainValue
 all_variables p answer = filter (λ v. is_passed p (text_in (nth 0 (fields_in v)))) (list_in answer) ++ set_variables p
 

@@ -33,7 +33,7 @@ homes = 0 ∷ 1 ∷ 2 ∷ 2 ∷ 8 ∷ 9 ∷ 18 ∷ 18 ∷ 20 ∷ 22 ∷ 23 ∷ 2
 abbrev pub in_front : ℕ → Name × Name → Name × Name
 in_front byte (before, behind) = (byte ∷ before, behind)
 
--- what stands before the first `@`, and behind it
+-- what stands before the first `@`, and after it
 abbrev pub cut : Name → Name × Name
 cut [] = ([], [])
 cut (byte ∷ text) = if byte == 64 then ([], text) else in_front byte (cut text)

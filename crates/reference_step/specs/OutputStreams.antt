@@ -8,7 +8,7 @@ use Rattle.reference_step.specs.State.{View, Row, returns, gives, stores_and_mov
 abbrev pub check-write : Row
 check-write = returns (ok (number 65536))
 
--- behind a write; past the quota the stream is closed, and its place is as it was
+-- after a write; past the quota the stream is closed, and its place is as it was
 abbrev pub wrote : ℕ → Option ℕ → ℕ → Option ScratchMap → Row
 wrote file place len None = returns closed
 wrote file place len (Some m) = stores_and_moves m (ScratchOut file (option_map (λ p. p + len) place)) done
@@ -18,7 +18,7 @@ abbrev pub write : View → Content → List ℕ → Row
 write v (ScratchOut file place) bytes = wrote file place (length bytes) (written v.scratch file (unwrap_or place (length (content_at v.scratch file))) bytes)
 write v _ bytes = returns done
 
--- write-zeroes, blocking-write-zeroes-and-flush: as a write of so many zeros
+-- write-zeroes, blocking-write-zeroes-and-flush: as a write of that many zeros
 abbrev pub write-zeroes : View → Content → ℕ → Row
 write-zeroes v (ScratchOut file place) len = wrote file place len (written v.scratch file (unwrap_or place (length (content_at v.scratch file))) (replicate len 0))
 write-zeroes v _ len = returns done

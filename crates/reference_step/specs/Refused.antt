@@ -25,7 +25,7 @@ abbrev pub refuses_some : List Rule → Option PlainValue → Bool
 refuses_some rules None = false
 refuses_some rules (Some v) = refuses rules v
 
--- of a datagram, the address behind its data
+-- of a datagram, the address after its data
 abbrev pub refuses_any : List Rule → List PlainValue → Bool
 refuses_any rules [] = false
 refuses_any rules (d ∷ ds) = if refuses_some rules (some_in (nth 1 (fields_in d))) then true else refuses_any rules ds

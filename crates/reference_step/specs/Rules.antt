@@ -166,7 +166,7 @@ abbrev pub owns_of : ℕ → Option Plain → ℕ
 owns_of kind None = 0
 owns_of kind (Some ty) = owns kind ty
 
--- whether so many more handles of a kind fit
+-- whether that many more handles of a kind fit
 abbrev pub fit : Policy → Live → ℕ → ℕ → Bool
 fit p live kind more = nat_le (more + live_of_kind kind live) p.slots
 

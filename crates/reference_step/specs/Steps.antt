@@ -99,7 +99,7 @@ module _ {S : Type 0} (h : HostStep S) where
   value_of None = ListValue End
   value_of (Some v) = v
 
-  -- so many elements of a size in a list, rounded up to 8
+  -- that many elements of a size in a list, rounded up to 8
   abbrev pub elements_weight : ℕ → ℕ → ℕ
   elements_weight n size = align_to (n * size) 8
 
@@ -151,7 +151,7 @@ module _ {S : Type 0} (h : HostStep S) where
   scratch_offer None = []
   scratch_offer (Some s) = Given ScratchRoot s.name ∷ []
 
-  -- behind the host's: the trees in their order, and the scratch folder
+  -- after the host's: the trees in their order, and the scratch folder
   abbrev pub own_offers : Setup → List Offer
   own_offers setup = roots_from 0 setup.trees ++ scratch_offer setup.policy.fs_scratch
 

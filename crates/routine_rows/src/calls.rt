@@ -41,7 +41,7 @@ pub fn ran_in_words(alloc: Global, ran: &Ran) -> Result<String, Fail> {
     in_words(alloc, ran.end, ran.values.as_slice(), asked.as_str())
 }
 
-/// Whether there is a function of so many parameters at a place of the store.
+/// Whether there is a function of that many parameters at a place of the store.
 fn is_callable(store: &Store, at: u32, count: usize) -> bool
     ensures { IsTrue result → IsCallable (slice_get store.now.functions at) count }
 {

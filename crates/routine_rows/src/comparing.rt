@@ -1,6 +1,6 @@
 //! What came of a row, against what is wanted.
 //!
-//! What is wanted is a word for how it ended, the values that are left, and behind `; ` what was done or asked on the way, as it
+//! What is wanted is a word for how it ended, the values that are left, and after `; ` what was done or asked on the way, as it
 //! is printed for debugging.
 
 use crate::reading::{halves, values};

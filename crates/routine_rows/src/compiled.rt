@@ -16,7 +16,7 @@ use std::test::Fail;
 /// How many bytes the memory has: one page.
 const PAGE: usize = 65536;
 
-/// Stubs that stand behind the first one: one that asks the host, and one that reads eight bytes at a place.
+/// Stubs that stand after the first one: one that asks the host, and one that reads eight bytes at a place.
 const OTHERS: &str = "\nasks 0 > 0 | answer\n0 > 0w | load 2 0 0 8";
 
 /// A world whose first stub is that of a line in two parts.
@@ -42,7 +42,7 @@ fn read_front(alloc: Global, world: &mut World, ran: &mut Ran) -> Result<(), Fai
     Ok(())
 }
 
-/// Calls the stub of a line: how it ends, in how many steps, and behind an answer what the memory begins with.
+/// Calls the stub of a line: how it ends, in how many steps, and after an answer what the memory begins with.
 fn by_machine(alloc: Global, line: &str, given: &str) -> Result<Ran, Fail> {
     let mut world = world_with(alloc, line, "")?;
     let mut ran = call_by_name(alloc, &mut world, "0", given, &[])?;
@@ -83,7 +83,7 @@ fn row_holds(rt: &impl Abort, alloc: Global, row: &str) -> Result<(), Fail> {
     counts(rt, alloc, row, ran.steps, steps)
 }
 
-/// A line behind `-- ` says what the rows below it are about.
+/// A line after `-- ` says what the rows below it are about.
 fn rows_hold(rt: &impl Abort, alloc: Global, rows: &str) -> Result<(), Fail> {
     for row in rows.lines() {
         if !row.starts_with("-- ") {
@@ -189,10 +189,10 @@ const REPEATS: &str = "\
 4 0 1 0 > | repeat 0 0 {; add 1 1 2; const 0 0; }; store 1 3 0 4 => answer 4w 0w 0w 0w
 -- each of three turns runs four, and each has its own count; a second `Repeat` at a depth counts anew
 3 4 0 1 0 > | repeat 0 0 {; repeat 1 1 {; add 2 2 3; }; repeat 1 0 {; add 2 2 3; }; }; store 2 4 0 4 => answer 21w 0w 0w 0w
--- from the inner of two, behind the outer one, out of an `If`; and behind the inner one
+-- from the inner of two, after the outer one, out of an `If`; and after the inner one
 3 4 0 1 0 > | repeat 0 0 {; repeat 1 1 {; add 2 2 3; when 3 {; leave 0; }; }; }; store 2 4 0 4 => answer 1w 0w 0w 0w
 3 4 0 1 0 > | repeat 0 0 {; repeat 1 1 {; add 2 2 3; when 3 {; leave 1; }; }; }; store 2 4 0 4 => answer 3w 0w 0w 0w
--- out of two and an `If`, nothing behind them is run
+-- out of two and an `If`, nothing after them is run
 3 4 0 7 0 > | repeat 0 0 {; repeat 1 1 {; when 3 {; store 3 4 0 4; answer; }; }; }; trap => answer 7w 0w 0w 0w
 -- a trap traps
  > | trap => trap";

@@ -19,7 +19,7 @@ use std::test::Fail;
 use virt_base::{Items, copy_bytes};
 
 /// The sum of two numbers, which is written at a place of the area as well. A question to the host with a number and the one
-/// behind it, where it is not 0; to the answer is added what the area begins with, and where the host is not asked the answer is
+/// after it, where it is not 0; to the answer is added what the area begins with, and where the host is not asked the answer is
 /// 9. The word at a place. A word that is written at a place. A handle of kind 1 of a number.
 const FIVE: &str = "\
 0 0 > 0 | add 3 0 1; const 4 824; store 3 4 0 4
@@ -49,7 +49,7 @@ fn called(alloc: Global, world: &mut World, work: &str) -> Result<Ran, Fail>
     call_by_name(alloc, world, name, args, answers.as_slice())
 }
 
-/// `CALL => WANTED in STEPS`. What is asked stands behind what is wanted.
+/// `CALL => WANTED in STEPS`. What is asked stands after what is wanted.
 fn row_holds(rt: &impl Abort, alloc: Global, world: &mut World, row: &str) -> Result<(), Fail>
     requires { IsFine (scene_of world.old.store.value) }
     ensures { IfOk result (λ _. IsFine (scene_of world.new.store.value)) }
@@ -62,7 +62,7 @@ fn row_holds(rt: &impl Abort, alloc: Global, world: &mut World, row: &str) -> Re
     counts(rt, alloc, row, ran.steps, steps)
 }
 
-/// The rows below a line behind `-- `, which says what they are about, call a world of their own.
+/// The rows below a line after `-- `, which says what they are about, call a world of their own.
 fn line_holds(rt: &impl Abort, alloc: Global, world: &mut World, line: &str) -> Result<(), Fail>
     requires { IsFine (scene_of world.old.store.value) }
     ensures { IfOk result (λ _. IsFine (scene_of world.new.store.value)) }
@@ -88,7 +88,7 @@ const STUBS: &str = "\
 2 824 => answer 7
 -- with the flag 0 the host is not asked, and what the routine left is answered: a block, two copies of two steps, a constant of two, a sum of four and a constant; the flag and its test; the result
 1 0 => answer 9 in 16
--- else it is asked with the two numbers behind the flag, and the routine behind it adds to its answer: as before up to the test; two operands, the call and the result; a block, a constant, a load and a sum; the result
+-- else it is asked with the two numbers after the flag, and the routine after it adds to its answer: as before up to the test; two operands, the call and the result; a block, a constant, a load and a sum; the result
 0 3 4 => answer 7
 1 5 < 30 => answer 37; [(300, [I32(5), I32(6)])] in 30
 -- it makes a handle

@@ -22,7 +22,7 @@ fn set_memory(alloc: Global, state: &mut RowState, len: &str) -> Result<(), Fail
 }
 
 /// The memory and the handles are those that the row before leaves, or those of a line `memory LENGTH` or `handles LIST`. A
-/// line behind `-- ` says what the rows below it are about.
+/// line after `-- ` says what the rows below it are about.
 fn line_holds(
     rt: &impl Abort,
     alloc: Global,
@@ -146,7 +146,7 @@ const REPEATS: &str = "\
 -- the way out of the outer one ends both, and that of the inner one ends a turn
 3 4 0 1 | repeat 0 0 {; repeat 1 1 {; add 2 2 3; leave 0; }; } | 0 1 2 3 => answer 3 4 1 1
 3 4 0 1 | repeat 0 0 {; repeat 1 1 {; add 2 2 3; leave 1; }; } | 0 1 2 3 => answer 3 4 3 1
--- of two of one name around it, a way out leads behind the inner one
+-- of two of one name around it, a way out leads after the inner one
 3 4 0 1 | repeat 7 0 {; repeat 7 1 {; add 2 2 3; leave 7; }; } | 0 1 2 3 => answer 3 4 3 1
 -- an answer and a trap end the routine from within
 9 0 1 | repeat 0 0 {; sub 1 1 2; answer; }; const 0 8 | 0 1 2 => answer 9 0xFFFFFFFF 1
@@ -185,7 +185,7 @@ memory 48
 9 9 9 9 9 5 0 0w | take 8 2 | 4 1 => answer 1 0
 9 9 9 9 9 5 0 0w | take 8 2 | 4 1 => answer 1 1
 9 9 9 9 9 5 0 0w | take 8 2 | 4 => answer 0
--- an entry's bytes stand in its place alone, the lowest first, and the head names the place behind
+-- an entry's bytes stand in its place alone, the lowest first, and the head names the place after
 memory 56
 9 9 9 9 9 3 0x04030201 0x0807060504030201w | take 8 2 | 4 1 => answer 1 0
 0 9w 9w 9w 9w 9w 9w 9w | load 1 0 0 8; load 2 0 8 8; load 3 0 16 8; load 4 0 24 8; load 5 0 32 8; load 6 0 40 8; load 7 0 48 8 | 1 2 3 4 5 6 7 => answer 0w 2w 0x0403020100000003w 0x0807060504030201w 0w 0w 0w";

@@ -49,7 +49,7 @@ fn row_holds(rt: &impl Abort, alloc: Global, state: &mut RowState, row: &str) ->
     holds(rt, alloc, row, found.as_str(), wanted_asked)
 }
 
-/// The handles of each row are those of the last line `handles LIST` above it. A line behind `-- ` says what the rows below it
+/// The handles of each row are those of the last line `handles LIST` above it. A line after `-- ` says what the rows below it
 /// are about.
 fn rows_hold(rt: &impl Abort, alloc: Global, rows: &str) -> Result<(), Fail> {
     let mut state = state_of(alloc, 0)?;

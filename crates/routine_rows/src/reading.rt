@@ -1,13 +1,13 @@
 //! Numbers that a text spells.
 //!
-//! A number is written in decimal digits, or in hexadecimal ones behind `0x`; of a local of 64 bits a `w` stands behind it.
+//! A number is written in decimal digits, or in hexadecimal ones after `0x`; of a local of 64 bits a `w` stands after it.
 
 use adapter_code::{Local, Locals};
 use core_store::CoreValue;
 use std::alloc::Global;
 use std::test::Fail;
 
-/// The two parts of a text, in front of and behind a mark. Without it nothing stands behind.
+/// The two parts of a text, in front of and after a mark. Without it nothing stands after.
 pub fn halves<'a>(text: &'a str, mark: &'static str) -> (&'a str, &'a str) {
     match text.split_once(mark) {
         Some(parts) => parts,

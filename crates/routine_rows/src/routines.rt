@@ -1,6 +1,6 @@
 //! Routines that a text spells.
 //!
-//! Statements stand behind one another with `;` between them. Each is a verb and its numbers, in the order of the statement's
+//! Statements stand after one another with `;` between them. Each is a verb and its numbers, in the order of the statement's
 //! fields: `const to value`, `move to from`, an operator with `to a b`, `load to at offset width`, `store from at offset width`,
 //! `leave name`, `new kind rep to`, `drop kind index`, `trap`, `answer`. `repeat name count {` and `when test {` begin a block,
 //! which `}` ends. `take base slots` and `free base` are the routines of a slot table, over the locals 0 to 7.
@@ -143,7 +143,7 @@ fn put_freeing(alloc: Global, list: &mut Statements, numbers: &[u64]) -> Result<
     Ok(append(list, freeing)?)
 }
 
-/// Makes a block that begins with these words of the statements behind a place of a list, which stand in order from its end.
+/// Makes a block that begins with these words of the statements after a place of a list, which stand in order from its end.
 fn put_block(alloc: Global, list: &mut Statements, head: &str, from: usize) -> Result<(), Fail> {
     if from > list.len() {
         return Err(Fail::from("no block ends"));

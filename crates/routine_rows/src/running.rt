@@ -9,7 +9,7 @@ use handle_space::HandleTable;
 use std::alloc::Global;
 use std::test::Fail;
 
-/// A state without locals, without handles, and with so many bytes of zeros.
+/// A state without locals, without handles, and with that many bytes of zeros.
 pub fn state_of(alloc: Global, len: usize) -> Result<RowState, Fail> {
     Ok(RowState {
         locals: Vec::new(alloc),

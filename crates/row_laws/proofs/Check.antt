@@ -63,7 +63,7 @@ some_is x y e = cc
 none_some : {A : Type 0} (x : A) (o : Option A) → o ≡ Some x → o ≡ None → ⊥
 none_some x o e f = absurd cc
 
--- the memory behind 65536 as a result
+-- the memory after 65536 as a result
 abbrev told_bytes : List ℕ → List ℕ
 told_bytes m = put (put m 0 1 0) 8 8 65536
 
@@ -188,7 +188,7 @@ module _ (w : Fixed) (laid : IsLaid w) (some : 0 < w.layout.slots) (self : Name)
   -- ---- a stream of the host
 
   module _ (theirs index : ℕ) (is : x.content ≡ Host theirs) (entry_is : entry_at a.handles index ≡ Some (own_entry 3 theirs)) (more : 0 < free) (self' base scratch spot tag held' long' test at' made : ℕ) where
-    -- the state behind the routine before
+    -- the state after the routine before
     abbrev asked : State
     asked = state_of (check_locals self' 1 index 0 0 base scratch spot tag held' long' test at' made) a.memory a.handles []
 

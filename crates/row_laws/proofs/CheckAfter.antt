@@ -1,4 +1,4 @@
--- The run of `check_after`, behind an answer without a handle.
+-- The run of `check_after`, after an answer without a handle.
 use Rattle.std.proofs.Common.{◌≡◌, ℕ, ◌≤◌, List, length, refl, arith}
 use Rattle.handle_space.specs.HandleMap.{HandleMap}
 use Rattle.adapter_code.specs.declared.layout.Layout.{Layout}

@@ -1,4 +1,4 @@
--- The run of `check_after`, behind an error of the host.
+-- The run of `check_after`, after an error of the host.
 use Rattle.std.proofs.Common.{◌≡◌, ℕ, ◌+◌, ◌-◌, ◌<◌, ◌≤◌, ◌^◌, List, [], map, length, Some, None, refl, sym, ap, ap₂, subst, ◌∙◌, arith, lit<}
 use Rattle.std.specs.Prelude.{slice_get}
 use Rattle.slot_tables.specs.declared.cells.Place.TheVariants.{Used}
@@ -53,7 +53,7 @@ with_part part = Then (Load 8 3 0 1) (Choose 8 (Then (Load 8 3 8 1) (Choose 8 St
 
 -- its run up to the part, whatever is wanted of what follows
 module _ (self flag index base scratch spot tag held long test at made i : ℕ) (m : List ℕ) (h : HandleMap ℕ) (far : 16 ≤ length m) (part : Code) (wanted : Run → Type 0) where
-  -- behind a load into the tag, and in front of the part
+  -- after a load into the tag, and in front of the part
   abbrev loaded : ℕ → State
   loaded n = state_of (check_locals self flag index 0 0 base scratch spot n held long test at made) m h []
 

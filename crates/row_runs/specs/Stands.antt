@@ -13,7 +13,7 @@ use Rattle.table_bytes.specs.declared.entry.Entry.TheVariants as entry
 use Rattle.table_bytes.specs.Table.{places_of, IsTable}
 use Rattle.row_runs.specs.RowRun.{Adapter}
 
--- what the nodes of the table of trees stand for: the tree and the path of a node, and the entries of a folder, so many from a node on
+-- what the nodes of the table of trees stand for: the tree and the path of a node, and the entries of a folder, that many from a node on
 pub record Nodes : Type 0 where
   pub node_at : ℕ → Option (ℕ × Path)
   pub entries_at : ℕ → ℕ → List DirectoryEntry

@@ -50,7 +50,7 @@ at_bytes [] i d h = absurd (omega arith)
 at_bytes (b ∷ bs) zero d h = refl
 at_bytes (b ∷ bs) (suc i) d h = at_bytes bs i d (omega arith)
 
--- ---- items behind others
+-- ---- items after others
 
 pub item_more : (done : List Json) (j : Json) (d : Data) (rest : Items) → view j ≡ d → items_then (items_view done) (item d rest) ≡ items_then (items_view (done ++ j ∷ [])) rest
 item_more [] j d rest e = ap (λ x. item x rest) (sym e)

@@ -10,7 +10,7 @@ module _ {E : Type 0} where
   entry_of (Free _) = None
   entry_of (Used entry) = Some entry
 
-  -- from this place on, so many free places each name the next, and the last names none
+  -- from this place on, that many free places each name the next, and the last names none
   abbrev pub IsChain : List (Place E) → Option ℕ → ℕ → Type 0
   IsChain places None zero = Unit {0}
   IsChain places None (suc count) = ⊥

@@ -87,7 +87,7 @@ pub link-suc : (capacity next w : ℕ) → w ≢ 0 → link_of capacity next w �
 link-suc capacity next zero e = absurd (e refl)
 link-suc capacity next (suc w) e = let same : w ≡ suc w - 1 = omega arith in ap (upto capacity) same
 
--- a link of a chain is a place, or stands behind the last
+-- a link of a chain is a place, or stands after the last
 pub chain_small : (ps : List (Place Entry)) (capacity at n : ℕ) → length ps ≡ capacity → IsChain ps (upto capacity at) n → at ≤ capacity
 chain_small ps capacity at n len c =
     elim (cases_eq at capacity) [

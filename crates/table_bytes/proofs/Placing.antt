@@ -12,7 +12,7 @@ pub both : (a b : Bool) → (a && b) ≡ true → (a ≡ true) × (b ≡ true)
 both true b e = (refl, e)
 both false b e = absurd cc
 
--- ---- one routine behind another
+-- ---- one routine after another
 
 followed_stop : (code : Code) → followed_by code Stop ≡ code
 followed_stop Stop = refl

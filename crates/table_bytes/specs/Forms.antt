@@ -12,6 +12,6 @@ plus_code to a v rest = Then (Const to v) (Then (Int Add to a to) rest)
 abbrev pub minus_code : ℕ → ℕ → ℕ → ℕ → Code → Code
 minus_code to a v scratch rest = Then (Const scratch v) (Then (Int Sub to a scratch) rest)
 
--- where an element of so many bytes stands, behind a base
+-- where an element of that many bytes stands, after a base
 abbrev pub element_code : ℕ → ℕ → ℕ → ℕ → ℕ → Code → Code
 element_code to base index size scratch rest = Then (Const scratch size) (Then (Int Mul to index scratch) (Then (Int Add to to base) rest))

@@ -22,7 +22,7 @@ to_spot rest = Then (Const 2 16) (Then (Int Mul 3 1 2) (Then (Int Add 3 3 0) res
 abbrev pub lowered_code : Code
 lowered_code = Then (Const 2 1) (Then (Int Sub 1 1 2) Stop)
 
--- a link of 0 names the place behind
+-- a link of 0 names the place after
 abbrev pub stepped_code : Code
 stepped_code = Then (Const 2 2) (Then (Int Add 2 1 2) Stop)
 
@@ -53,7 +53,7 @@ free_code base =
 abbrev pub locals_of : ℕ → ℕ → ℕ → ℕ → ℕ → ℕ → ℕ → ℕ → List Local
 locals_of a b c d e tag w long = Small a ∷ Small b ∷ Small c ∷ Small d ∷ Small e ∷ Small tag ∷ Small w ∷ Wide long ∷ []
 
--- what else a run leaves: the handle table, the effects, and so many statements at most
+-- what else a run leaves: the handle table, the effects, and that many statements at most
 pub record Quiet (old new : State) (before after most : ℕ) : Type 0 where
   pub table : new.table ≡ old.table
   pub effects : new.effects ≡ old.effects

@@ -10,7 +10,7 @@ use Rattle.adapter_code.specs.Keeps.{Keeps}
 use Rattle.table_bytes.specs.declared.entry.Entry.{Entry}
 use Rattle.table_bytes.specs.Entries.{entry_of}
 
--- the place behind the last is none
+-- the place after the last is none
 abbrev pub upto : ℕ → ℕ → Option ℕ
 upto capacity at = if at == capacity then None else Some at
 
@@ -43,7 +43,7 @@ first_of memory base capacity = link_of capacity 0 (word memory (base + 0) 4)
 abbrev pub table_len : ℕ → ℕ
 table_len capacity = 8 + 16 * capacity
 
--- the bytes are a table, of which so many places are free
+-- the bytes are a table, of which that many places are free
 pub record IsTable (memory : List ℕ) (base capacity free : ℕ) : Type 0 where
   pub sound : IsSound (places_of memory base capacity) (first_of memory base capacity) free
   pub within : base + table_len capacity ≤ length memory

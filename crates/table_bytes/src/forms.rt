@@ -44,7 +44,7 @@ pub fn minus(
     Ok(list)
 }
 
-/// Sets a local to the place of an element of so many bytes behind a base: `base` and `index` are locals.
+/// Sets a local to the place of an element of that many bytes after a base: `base` and `index` are locals.
 pub fn element(
     alloc: Global,
     to: u32,

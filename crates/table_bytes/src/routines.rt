@@ -116,7 +116,7 @@ fn own_take(alloc: Global, base: u32, capacity: u32) -> Result<Statements, NoMem
 fn enter(alloc: Global) -> Result<Statements, NoMemory>
     ensures { IfOk result (λ list. code_of list.items ≡ enter_code) }
 {
-    // the head becomes the link of the place, or the place behind where that was never written
+    // the head becomes the link of the place, or the place after where that was never written
     let stepped = plus(alloc, OWN.scratch, OWN.place, 2)?;
     let rest = vec![in alloc;
         load(OWN.scratch, OWN.spot, WORD),

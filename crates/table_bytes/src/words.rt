@@ -77,7 +77,7 @@ pub fn shift_right(to: u32, a: u32, b: u32) -> Statement
     Statement::Int { op, to, a, b }
 }
 
-/// Goes behind the innermost repeat of a name.
+/// Goes after the innermost repeat of a name.
 pub fn leave(name: u32) -> Statement
     ensures { result ≡ Leave name }
 {

@@ -45,7 +45,7 @@ after_element_within closing text =
       ])
     ]
 
--- a value, and then what is left behind a byte
+-- a value, and then what is left after a byte
 then_left : {A : Type 0} (size : A → ℕ) (n : ℕ) (a : A) (text : List ℕ) (o : Option (List ℕ)) (after : List ℕ → List ℕ) → size a + length text ≤ n
     → Leaves (length text) o → ((rest : List ℕ) → length (after rest) ≤ length rest) → Within size n (option_map (λ rest. (a, after rest)) o)
 then_left size n a text None after h left shorter = tt

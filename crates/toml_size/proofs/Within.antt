@@ -1,8 +1,8 @@
--- What is read and the text behind it have together at most so many bytes.
+-- What is read and the text after it have together at most that many bytes.
 use Rattle.std.proofs.Common.{◌≡◌, ℕ, ◌+◌, ◌≤◌, ◌<◌, List, [], ◌∷◌, length, drop, Some, None, option_map, option_and_then, arith}
 use Rattle.toml_parser.specs.Lexical.{Read, first}
 
--- if something is read, it and the text behind it have at most n bytes
+-- if something is read, it and the text after it have at most n bytes
 abbrev pub Within : {A : Type 0} → (A → ℕ) → ℕ → Read A → Type 0
 Within size n None = Unit {0}
 Within size n (Some r) = size r.0 + length r.1 ≤ n

@@ -73,7 +73,7 @@ module _ (trees : List NamedTree) (R : ℕ) (key : ℕ → Key) where
           | inr at ↦ let same : k ≡ i = omega arith in subst (λ j. IsFolderOf trees (key (get_or (parents ++ p ∷ []) j 0)) (key j)) same (subst (λ q. IsFolderOf trees (key q) (key k)) (sym new-parent) is)
         ]
 
-    -- no folder so far stands behind p
+    -- no folder so far stands after p
     early : (i : ℕ) → R ≤ i → i < k → get_or parents i 0 < suc p
     early i low before =
         elim (cases_lt (get_or parents i 0) (suc p)) [

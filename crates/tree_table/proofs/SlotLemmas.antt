@@ -1,4 +1,4 @@
--- Slots keep what they stand for as bytes are put behind.
+-- Slots keep what they stand for as bytes are put after.
 use Rattle.std.proofs.Common.{◌≡◌, ℕ, ◌+◌, ◌-◌, ◌≤◌, List, [], ◌∷◌, ◌++◌, length, take, drop, map, get_or, refl, sym, ap, subst, ◌∙◌, arith, length-append, length-drop, append_assoc, IsUtf8, suc}
 use Rattle.std.proofs.lemmas.List.{take_at, take_all, drop_at, take-append-le, drop-append-le}
 use Rattle.tree_table.specs.declared.entries.Node.{Node}

@@ -16,7 +16,7 @@ pub record IsForest (n roots : ℕ) (tree : ℕ → ℕ) (name : ℕ → List �
   pub home : (i : ℕ) → roots ≤ i → i < n → tree (parent i) ≡ tree i
   pub above_from : (i : ℕ) → roots ≤ i → i < n → from (parent i) ≤ i
   pub below_to : (i : ℕ) → roots ≤ i → i < n → i < to (parent i)
-  -- the children of a node are a range behind the roots
+  -- the children of a node are a range after the roots
   pub ordered : (i : ℕ) → i < n → from i ≤ to i
   pub inside : (i : ℕ) → i < n → to i ≤ n
   pub behind : (i : ℕ) → i < n → roots ≤ from i
@@ -24,7 +24,7 @@ pub record IsForest (n roots : ℕ) (tree : ℕ → ℕ) (name : ℕ → List �
   pub sorted : (i a b : ℕ) → i < n → from i ≤ a → a < b → b < to i → slice_cmp nat_cmp (name a) (name b) ≡ Less
   pub short : (i : ℕ) → i < n → length (name i) ≤ 255
 
--- the path of a node, by so many steps up at most
+-- the path of a node, by that many steps up at most
 abbrev pub steps_up : ℕ → (ℕ → List ℕ) → (ℕ → ℕ) → ℕ → ℕ → List (List ℕ)
 steps_up roots name parent zero i = []
 steps_up roots name parent (suc steps) i = if nat_lt i roots then [] else name i ∷ steps_up roots name parent steps (parent i)
@@ -32,7 +32,7 @@ steps_up roots name parent (suc steps) i = if nat_lt i roots then [] else name i
 abbrev pub path_by : ℕ → (ℕ → List ℕ) → (ℕ → ℕ) → ℕ → List (List ℕ)
 path_by roots name parent i = steps_up roots name parent i i
 
--- what the first so many nodes have at a path of a tree
+-- what the first that many nodes have at a path of a tree
 abbrev pub look_in : (ℕ → ℕ) → (ℕ → List (List ℕ)) → (ℕ → Node) → ℕ → ℕ → List (List ℕ) → Option Node
 look_in tree path kind zero t p = None
 look_in tree path kind (suc n) t p = if nat_eq (tree n) t && same_path (path n) p then Some (kind n) else look_in tree path kind n t p

@@ -90,7 +90,7 @@ module _ (tree : List (List ℕ) → Option Node) (start : List (List ℕ)) (fol
       (go_up (λ above. resolve_parts after above parts) below)
       (at_child (tree (part ∷ (below ++ start))) (is_empty parts && not follow) (λ target. after below target parts) (At (part ∷ (below ++ start))) (resolve_parts after (part ∷ below) parts))
 
-  -- so many more links may be followed. The target's parts come before those that are left
+  -- that many more links may be followed. The target's parts come before those that are left
   abbrev pub follow_link : ℕ → List (List ℕ) → List ℕ → List (List ℕ) → Answer
   follow_link zero below target parts = Fails loop
   follow_link (suc more) below target parts = if is_rooted target then Fails not_permitted else resolve_parts (follow_link more) below (parts_of target ++ parts)

@@ -20,7 +20,7 @@ pub record ScratchMap : Type 0 where
 abbrev pub insufficient_space : ℕ
 insufficient_space = 23
 
--- so many bytes in blocks, rounded up
+-- that many bytes in blocks, rounded up
 abbrev pub blocks_of : ℕ → ℕ
 blocks_of n = (n + 4095) / 4096
 
@@ -59,7 +59,7 @@ find_file m name = position (has_name name) m.files
 abbrev pub free_number : ScratchMap → Option ℕ
 free_number m = position is_none m.files
 
--- the next bytes from a place on, so many at most
+-- the next bytes from a place on, that many at most
 abbrev pub read_at : List ℕ → ℕ → ℕ → List ℕ
 read_at content at len = take len (drop at content)
 
@@ -87,7 +87,7 @@ with_content m number content = with_file m number (option_map (holding content)
 abbrev pub with_name : ScratchMap → ℕ → List ℕ → ScratchMap
 with_name m number name = with_file m number (option_map (called name) (file_at m number))
 
--- whether the other files' blocks and those of so many bytes are within the quota
+-- whether the other files' blocks and those of that many bytes are within the quota
 abbrev pub has_room : ScratchMap → ℕ → ℕ → Bool
 has_room m number len = nat_le (use_of (slice_set m.files number None) + blocks_of len) m.blocks
 
@@ -106,7 +106,7 @@ without_other m number (Some other) = if other == number then m else removed m o
 abbrev pub renamed : ScratchMap → ℕ → List ℕ → ScratchMap
 renamed m number name = with_name (without_other m number (find_file m name)) number name
 
--- with zeros behind it, where it is shorter
+-- with zeros after it, where it is shorter
 abbrev pub grown : List ℕ → ℕ → List ℕ
 grown content len = content ++ replicate (len - length content) 0
 

@@ -61,7 +61,7 @@ going-part tys start now new links parts i lt link l ty e h f going =
     ap named_in_slots n.next ∙ ap (λ o. named_in_answer o ++ named_in_slots (drop (i + 1) parts)) (sym is) in
     going-on tys start now new (named_in_slots parts) (named_in_slots (drop i parts)) (named_in_answer ty) (named_in_slots (drop (i + 1) parts)) going next (f leads)
 
--- and ends behind the last part
+-- and ends after the last part
 pub going-parts : (tys : Lst Plain) (start now : Search) (parts : Lst Part) (i : ℕ) → i ≡ length parts → Going tys start now (named_in_slots parts) (named_in_slots (drop i parts)) → Finds tys start now (named_in_slots parts)
 going-parts tys start now parts i e going =
     going-all tys start now (named_in_slots parts) (named_in_slots (drop i parts)) going (ap (λ n. named_in_slots (drop n parts)) e ∙ ap named_in_slots (drop-all parts))

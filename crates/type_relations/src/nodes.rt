@@ -55,7 +55,7 @@ fn add_part(
     }
 }
 
-/// Adds the resources of the parts of a type, which stands behind them.
+/// Adds the resources of the parts of a type, which stands after them.
 #[cycle(add_node)]
 fn add_parts(
     types: &TypeTable,

@@ -41,7 +41,7 @@ module _ (types : Types) (p : Plain) where
       let sound = own-sound types p h in
       (grew_same types, (sound, λ needs. (is sound (linked h)).1))
 
-  -- it goes behind the others
+  -- it goes after the others
   pub adds-pushed : (new : Types) (t : Plain) (links : List (Option ℕ)) → new ≡ types ++ record { tree = t; links = links } ∷ [] → t ≡ p → (HasOwnParts types p → AreLinks (trees types) links (slots_of p))
       → HasOwnParts types p → Grew types new × Has new p
   adds-pushed new t links is same linked h =

@@ -12,7 +12,7 @@ use Rattle.comp_types.specs.Substitution.{partner_of}
 use Rattle.comp_types.specs.Matching.{Pairs, meet_at, meet, onward, only_if, same_width, same_record_form, same_variant_form, matched_value, matched_parts}
 use Rattle.comp_types.proofs.MeetLaws.{came_from, held, is_same, Grows, grows-then, found-behind, same_number, met}
 
--- ---- pairs only go behind the others
+-- ---- pairs only go after the others
 
 abbrev pub Behind : Pairs → Pairs → Type 0
 Behind by more = (rest : Pairs) × (more ≡ by ++ rest)

@@ -83,7 +83,7 @@ key-of-first : (o : Option Plain) (rest keys : List ℕ) (at : ℕ) → drop at 
 key-of-first None rest keys at e = let none : at + 0 ≡ at = omega arith in (tt, ap (λ n. drop n keys) none ∙ e)
 key-of-first (Some ty) rest keys at e = let h = front-drop keys at (key_of ty) rest e in (h.1, h.2)
 
--- the key of the part at an index, and those behind it
+-- the key of the part at an index, and those after it
 pub keys-front : (parts : List Part) (i : ℕ) (keys : List ℕ) (at : ℕ) → drop at keys ≡ slot_keys (drop i parts) → IsKeyOf (type_at parts i) (slice_index keys at) × (drop (at + count_types (type_at parts i)) keys ≡ slot_keys (drop (i + 1) parts))
 keys-front [] i keys at e =
     let none : at + 0 ≡ at = omega arith in

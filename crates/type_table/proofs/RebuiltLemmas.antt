@@ -51,7 +51,7 @@ two-slots None (Some t) = refl
 two-slots (Some s) None = refl
 two-slots (Some s) (Some t) = refl
 
--- ---- parts with others behind them
+-- ---- parts with others after them
 
 abbrev pub and_all : Parts → Parts → Parts
 and_all End qs = qs

@@ -1,4 +1,4 @@
--- Walks through the parts of two types, or through parameters, and what is remembered behind each of them.
+-- Walks through the parts of two types, or through parameters, and what is remembered after each of them.
 use Rattle.std.proofs.Common.{◌≡◌, ◌∙◌, ◌<◌, ◌+◌, ap, refl, sym, subst, ℕ, zero, suc, arith, drop, length, get_or, List, [], ◌∷◌, Bool, true, false, Option, Some, None, nat_eq, slice_get}
 use Rattle.std.specs.Prelude.{◌&&◌, All, Contains, IfOk, IsTrue, OnErr, Result, Ok, Err, option_map}
 use Rattle.std.specs.Borrow.{Bor}

@@ -84,13 +84,13 @@ abbrev pub HasEach : Types → List (Opt Plain) → Type 0
 HasEach types [] = ⊤
 HasEach types (ty ∷ tys) = HasAnswer types ty × HasEach types tys
 
--- there are more types behind these, and if the places in them are right, so are those in these
+-- there are more types after these, and if the places in them are right, so are those in these
 pub record IsLonger (old new : Types) : Type 0 where
   pub more : Types
   pub is : new ≡ old ++ more
   pub back : IsSound new → IsSound old
 
--- the types of a table, each behind its parts, and where the type of each key stands
+-- the types of a table, each after its parts, and where the type of each key stands
 pub record AreNodes (types : Types) (places : BTreeMap ℕ ℕ) : Type 0 where
   pub below : (at : ℕ) (p : Placed) → slice_get types at ≡ Some p → AreBelow at p.links
   pub within : (key at : ℕ) → get nat_cmp places key ≡ Some at → at < length types

@@ -1,4 +1,4 @@
--- What stands behind a walk through two types, or behind the making of types with other resources: the types of a table, and pairs of
+-- What stands after a walk through two types, or after the making of types with other resources: the types of a table, and pairs of
 -- resources.
 use Rattle.std.specs.Prelude.{refl}
 use Rattle.std.specs.Coded.{Coded, code_by, coded×, coded_ℕ, coded_list}

@@ -98,7 +98,7 @@ fn match_slots(
     Ok(true)
 }
 
-/// Goes through two types of the table, the first of which stands behind its parts.
+/// Goes through two types of the table, the first of which stands after its parts.
 #[cycle(match_places)]
 fn match_nodes(
     types: &TypeTable,

@@ -18,7 +18,7 @@ fn known(alloc: Global, name: &str, ty: WitType) -> Result<Known, NoMemory> {
     })
 }
 
-/// An enum of so many labels: the last is `z`, and each other one `a`.
+/// An enum of that many labels: the last is `z`, and each other one `a`.
 fn labels(alloc: Global, count: u32) -> Result<WitType, NoMemory> {
     let mut all = Items::empty(alloc);
     for _ in 1..count {
@@ -28,7 +28,7 @@ fn labels(alloc: Global, count: u32) -> Result<WitType, NoMemory> {
     Ok(WitType::Enum(Rc::new(alloc, all)?))
 }
 
-/// A variant of a case with a byte, and so many without a payload behind it.
+/// A variant of a case with a byte, and that many without a payload after it.
 fn cases(alloc: Global, count: u32) -> Result<WitType, NoMemory> {
     let mut items = Vec::new(alloc);
     let name = Text::from_str(alloc, "c")?;
@@ -41,7 +41,7 @@ fn cases(alloc: Global, count: u32) -> Result<WitType, NoMemory> {
     Ok(WitType::Variant(Rc::new(alloc, Cases { items })?))
 }
 
-/// So many numbers of 64 bits in a tuple.
+/// That many numbers of 64 bits in a tuple.
 fn numbers(alloc: Global, count: u32) -> Result<WitType, NoMemory> {
     let mut items = Vec::new(alloc);
     for _ in 0..count {

@@ -74,7 +74,7 @@ i64:9223372036854775808 => Ok(Int(9223372036854775808))
 4294967295 => Ok(Flags(4294967295))"#;
 
 /// Strings and lists are a place and a length. Payloads are joined: one that is an i32 is the low half of an i64, one that is an
-/// i64 is the whole of it. What stands behind a variant begins behind all its payloads, also where the case has none.
+/// i64 is the whole of it. What stands after a variant begins after all its payloads, also where the case has none.
 const PARTS: &str = r#"# strings: any;function f string
 8 3: 616263000100020003 => Ok(Str(Text { chars: "abc" }))
 65536 0: 616263000100020003 => Ok(Str(Text { chars: "" }))

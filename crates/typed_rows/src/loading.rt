@@ -157,7 +157,7 @@ const SCALAR_TRAPS: &str = r#"# characters: none;function f char
 # places: the padding behind the last field passes the end;record t,a u64,b u8;function f t
 65528 => Err(Trap)"#;
 
-/// Of strings and lists: the end is passed by one byte; an empty string lies behind the end, or an empty list, or one at an odd place.
+/// Of strings and lists: the end is passed by one byte; an empty string lies after the end, or an empty list, or one at an odd place.
 const PART_TRAPS: &str = r#"# strings: ends;function f string
 8: ffff000002000000 => Err(Trap)
 8: 0100010000000000 => Err(Trap)

@@ -44,7 +44,7 @@ pub fn args_in(calls: Calls) -> Result<Values, Fail> {
     }
 }
 
-/// The path of a fault behind `at|`.
+/// The path of a fault after `at|`.
 pub fn fault_in_words(alloc: Global, fault: &ScriptFault) -> Result<String, Fail> {
     match fault {
         ScriptFault::BadScript(path) => {

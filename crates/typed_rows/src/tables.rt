@@ -237,7 +237,7 @@ fn row_holds(rt: &impl Abort, alloc: Global, row: &str) -> Result<(), Fail> {
     same(rt, found.as_str(), wanted, row)
 }
 
-/// A line behind `-- ` says what the rows below it are about.
+/// A line after `-- ` says what the rows below it are about.
 const ROWS: &str = "\
 -- handles that leave, and those that are lent
 5 5 6 | lift own 5 1, borrow 5 2 => ([70, 71], [Loan { index: 2, resource: 5 }])

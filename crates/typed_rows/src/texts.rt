@@ -3,7 +3,7 @@
 use std::alloc::Global;
 use std::test::Fail;
 
-/// What stands in front of a mark, and behind it: nothing where there is no mark.
+/// What stands in front of a mark, and after it: nothing where there is no mark.
 pub fn halves<'a>(text: &'a str, mark: &str) -> (&'a str, &'a str) {
     match text.split_once(mark) {
         Some(halves) => halves,
@@ -18,7 +18,7 @@ fn push_times(all: &mut String, piece: &str, count: u32) -> Result<(), Fail> {
     Ok(())
 }
 
-/// A text in which a piece between two back quotes, as `5*ab`, stands for so many times what is behind its star.
+/// A text in which a piece between two back quotes, as `5*ab`, stands for that many times what is after its star.
 pub fn written_out(alloc: Global, text: &str) -> Result<String, Fail> {
     let mut all = String::new(alloc);
     for piece in text.split('`') {

@@ -140,7 +140,7 @@ pub types_more : (a b t : List Handle) (ts : List WitType) (vs : List Value) (i 
 types_more a b t ts vs i ty v cut cut' h e =
     rw e (append_assoc a _ _ ∙ sym (ap (λ xs. a ++ field_handles (types_of xs) (values_of (v ∷ drop (i + 1) vs))) cut) ∙ sym (ap (λ xs. a ++ field_handles (types_of (drop i ts)) (values_of xs)) cut') ∙ h)
 
--- behind the last value there is none
+-- after the last value there is none
 pub no_value_left : (ps : Parts) (vs : List Value) (i : ℕ) → length vs ≤ i → field_handles ps (values_of (drop i vs)) ≡ []
 no_value_left ps vs i le = rw (drop_of_length-le vs le) (none ps)
   where

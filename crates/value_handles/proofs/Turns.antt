@@ -117,7 +117,7 @@ fields_count fs rest name ty xs i next next' total x f cut count is =
     ap (λ ps. length (field_handles ps (values_of (drop i xs)))) f ∙ ap (λ (zs : List Value). length (field_handles (More name ty rest) (values_of zs))) cut ∙ length-append (handles ty (plain_value x)) (field_handles rest (values_of (drop (i + 1) xs))) in
     omega arith
 
--- behind the last value
+-- after the last value
 no_value : (ps : Parts) (ns : List ℕ) → (renumbered_fields ps NoValues ns ≡ NoValues) × (field_handles ps NoValues ≡ [])
 no_value End ns = (refl, refl)
 no_value (More _ ty rest) ns = (refl, refl)
@@ -129,7 +129,7 @@ values_end ps xs i ns le = rw (drop_of_length-le xs le) (no_value ps ns).0
 pub none_left : (ps : Parts) (xs : List Value) (i : ℕ) → length xs ≤ i → length (field_handles ps (values_of (drop i xs))) ≡ 0
 none_left ps xs i le = rw (drop_of_length-le xs le, (no_value ps []).1) refl
 
--- behind the last field
+-- after the last field
 pub fields_end : (fs : List Field) (xs : List Value) (i : ℕ) (ns : List ℕ) → length fs ≤ i → renumbered_fields (fields_of (drop i fs)) (values_of (drop i xs)) ns ≡ values_of (drop i xs)
 fields_end fs xs i ns le = rw (drop_of_length-le fs le) refl
 

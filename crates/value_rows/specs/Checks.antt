@@ -14,7 +14,7 @@ pub record HasFolder (entries : List Entry) (path : List (List ℕ)) : Type 0 wh
   pub folder : entry.node ≡ Folder
   pub above : IsLonger entry.path path
 
--- an entry comes behind these, and its folder is one of them
+-- an entry comes after these, and its folder is one of them
 pub record Fits (before : List Entry) (entry : Entry) : Type 0 where
   pub ordered : All (λ e. path_cmp e.path entry.path ≡ Less) before
   pub housed : HasFolder before entry.path

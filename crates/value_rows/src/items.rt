@@ -41,7 +41,7 @@ fn resource(resource: u32) -> ItemType {
     ItemType::Kind(TypeItem::Resource(resource))
 }
 
-/// A name and the number of a resource behind `=`.
+/// A name and the number of a resource after `=`.
 fn add_resource(alloc: Global, all: &mut InstanceEntries, row: &str) -> Result<(), Fail> {
     let (name, number) = parts(row, "=")?;
     let number = number_in(number)?;
@@ -172,7 +172,7 @@ fn bytes(alloc: Global, names: &str) -> Result<InstanceEntries, Fail> {
     Ok(all)
 }
 
-/// One entry, whose name stands before `: `, an instance with these entries behind it; or no entry.
+/// One entry, whose name stands before `: `, an instance with these entries after it; or no entry.
 fn instances(alloc: Global, words: &str) -> Result<InstanceEntries, Fail> {
     let mut all = InstanceEntries::empty(alloc);
     if let Some((name, names)) = words.split_once(": ") {

@@ -13,7 +13,7 @@ use type_table::TypeTable;
 use virt_base::{Items, NoMemory, Text};
 use wit_types::WitType;
 
-/// Pairs as `7-1`, a resource and its partner, one behind another; or `none`.
+/// Pairs as `7-1`, a resource and its partner, one after another; or `none`.
 fn pairs(alloc: Global, words: &str) -> Result<Substitution, Fail> {
     let mut by = Substitution::empty(alloc);
     if words == "none" {
@@ -48,7 +48,7 @@ fn add_entry(alloc: Global, all: &mut InstanceEntries, word: &str) -> Result<(),
     Ok(all.push(Text::from_str(alloc, name)?, ItemType::Kind(kind))?)
 }
 
-/// An instance type with entries, one behind another.
+/// An instance type with entries, one after another.
 fn instance(alloc: Global, words: &str) -> Result<InstanceType, Fail> {
     let mut entries = InstanceEntries::empty(alloc);
     for word in words.split(' ') {

@@ -23,7 +23,7 @@ pub fn is_printed<T: Debug>(alloc: Global, row: &str, value: &T, wanted: &str) -
     same(row, printed(alloc, value)?.as_str(), wanted)
 }
 
-/// What stands before a text and behind it.
+/// What stands before a text and after it.
 pub fn parts<'a>(row: &'a str, between: &str) -> Result<(&'a str, &'a str), Fail> {
     match row.split_once(between) {
         Some(parts) => Ok(parts),
@@ -63,7 +63,7 @@ fn answer(alloc: Global, asked: Asked, of: &'static str) -> Result<String, Fail>
     }
 }
 
-/// Each row of a table: of what something is asked, and behind ` => ` what is answered.
+/// Each row of a table: of what something is asked, and after ` => ` what is answered.
 pub fn hold(alloc: Global, asked: Asked, rows: &'static str) -> Result<(), Fail> {
     for row in rows.lines() {
         let (of, wanted) = parts(row, " => ")?;

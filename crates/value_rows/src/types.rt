@@ -85,7 +85,7 @@ fn value_of(alloc: Global, text: &str) -> Result<Value, Fail> {
     }
 }
 
-/// Values, and behind each the types that it has: integers at and past the ends of each type, and values of the other forms.
+/// Values, and after each the types that it has: integers at and past the ends of each type, and values of the other forms.
 const VALUES: &str = "\
 -9223372036854775809 =>
 -9223372036854775808 => s64

@@ -270,7 +270,7 @@ signed_no_longer some more (negsuc m) h low high =
 pub s64_spelled : (n : ℤ) → neg_ℤ (pos (2 ^ 63)) ≤ℤ n → n <ℤ pos (2 ^ 63) → IsSigned (2 ^ 63) n (shortest_signed 9 n)
 s64_spelled n low high = signed_spelled 1 9 n (omega arith) low high
 
--- the same bytes are a spelling in fewer bits, where the number is of so many
+-- the same bytes are a spelling in fewer bits, where the number is of that many
 pub s33_spelled : (n : ℤ) → neg_ℤ (pos (2 ^ 32)) ≤ℤ n → n <ℤ pos (2 ^ 32) → IsSigned (2 ^ 32) n (shortest_signed 9 n)
 s33_spelled n low high =
     rw (signed_no_longer 4 9 n (omega arith) (omega (arith, ints, low)) (omega (arith, ints, high))) (signed_spelled 16 4 n (omega arith) low high)
@@ -354,7 +354,7 @@ signed_more negative (suc more) m big fits =
     let e : suc more - 1 ≡ more = omega arith in
     rw (le-ltb _ _ big, e) refl
 
--- a byte, and what stands behind it
+-- a byte, and what stands after it
 pub one_then : (old new last rest : List ℕ) (byte : ℕ) (all : List ℕ) → all ≡ byte ∷ rest → new ≡ old ++ byte ∷ [] → last ≡ new ++ rest → last ≡ old ++ all
 one_then old new last rest byte all split pushed written =
     written ∙ ap (λ (z : List ℕ). z ++ rest) pushed ∙ append_assoc old (byte ∷ []) rest ∙ ap (λ (z : List ℕ). old ++ z) (sym split)

@@ -52,7 +52,7 @@ IsTooLongSigned half (b ∷ bs) = ((half ≤ 64) × ((128 ≤ b) ⊎ (fits_seven
 
 -- ---- what a call answers by the rule
 
--- The text of a number stood at the cursor, which is behind it now; or the bytes there are refused so, and the cursor stays.
+-- The text of a number stood at the cursor, which is after it now; or the bytes there are refused so, and the cursor stays.
 abbrev pub AnswersBy : {X : Type 0} → (X → List ℕ → Type 0) → (List ℕ → Type 0) → (List ℕ → Type 0) → Cursor → Cursor → Result X LebFault → Type 0
 AnswersBy Spells Cut Long old new (Ok n) = (text : List ℕ) × Spells n text × Takes text (place old) (place new)
 AnswersBy Spells Cut Long old new (Err Short) = Cut (place old).rest × (new ≡ old)
@@ -86,7 +86,7 @@ signed_at half at (b ∷ bs) =
     if nat_lt b 128 then (if fits_seven half b then Ok (seven b, record { at = at + 1; rest = bs }) else Err TooLong)
     else (if nat_lt 64 half then above_signed b (signed_at (half / 128) (at + 1) bs) else Err TooLong)
 
--- ---- the shortest spellings, of at most `more` bytes behind the first
+-- ---- the shortest spellings, of at most `more` bytes after the first
 
 abbrev pub shortest_unsigned : ℕ → ℕ → List ℕ
 shortest_unsigned zero n = n ∷ []
@@ -116,7 +116,7 @@ pub record IsShortest (Spells : List ℕ → Type 0) (text : List ℕ) : Type 0 
   pub spelled : Spells text
   pub least : (other : List ℕ) → AllByRecursion (λ b. b < 256) other → Spells other → length text ≤ length other
 
--- base times 128, so often: the limit of what so many bytes behind the first can spell
+-- base times 128, so often: the limit of what that many bytes after the first can spell
 abbrev pub limit_of : ℕ → ℕ → ℕ
 limit_of base zero = base
 limit_of base (suc more) = 128 * limit_of base more

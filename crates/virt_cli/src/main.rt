@@ -21,7 +21,7 @@ enum WordsError {
     NoMemory,
 }
 
-/// The words behind the program's name.
+/// The words after the program's name.
 fn words_of(rt: &HostRuntime) -> Result<Vec<Text>, WordsError> {
     let words = match env::args(rt) {
         Ok(words) => words,
@@ -37,7 +37,7 @@ fn words_of(rt: &HostRuntime) -> Result<Vec<Text>, WordsError> {
     Ok(texts)
 }
 
-/// So many bytes of lines wait at most, so that a line takes no call of the system.
+/// That many bytes of lines wait at most, so that a line takes no call of the system.
 const ROOM: usize = 65_536;
 
 /// What the words ask for, over the machine's files and standard output.

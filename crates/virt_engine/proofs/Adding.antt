@@ -164,7 +164,7 @@ writes_broken n bytes s t e (Err f) h p = record {
 
 -- ---- pieces of one list
 
--- so many items from a place on
+-- that many items from a place on
 abbrev pub piece : ℕ → ℕ → List ℕ → List ℕ
 piece i m bytes = take (i + m - i) (drop i bytes)
 

@@ -22,7 +22,7 @@ module _ {S A : Type 0} (of : A → List Item) (conv : Option PlainValue → A) 
   told_by calls.Spent o m next = last o (seen_by calls.Spent) calls.Spent
   told_by calls.TooDeep o m next = last o (seen_by calls.TooDeep) calls.TooDeep
 
-  -- behind what was seen before, this was seen meanwhile
+  -- after what was seen before, this was seen meanwhile
   pub record Tells (x : Out (World S) A) (seen : List PlainObservation) (by : List PlainObservation → (World S → ℕ → Told) → Told) : Type 0 where
     pub o : List PlainObservation
     pub seen_so : seen ≡ k ++ o
@@ -55,7 +55,7 @@ module _ {S A : Type 0} (of : A → List Item) (conv : Option PlainValue → A) 
   it_tells x calls.Spent m e = it_is_spent x m.kept.seen e
   it_tells x calls.TooDeep m e = it_is_over x m.kept.seen TooDeep e
 
--- ---- behind what was told before
+-- ---- after what was told before
 
 pub told_before : (a b : List Item) (t : Told) → before a (before b t) ≡ before (a ++ b) t
 told_before a b t = ap (λ (items : List Item). record { items = items; end = t.end }) (sym (append_assoc a b t.items))

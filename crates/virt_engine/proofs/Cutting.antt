@@ -1,4 +1,4 @@
--- Lines that stand one behind the other in one text.
+-- Lines that stand one after the other in one text.
 use Rattle.std.proofs.Common.{◌≡◌, ◌∙◌, sym, ap, ap₂, subst, ℕ, ◌+◌, ◌≤◌, List, [], ◌∷◌, ◌++◌, length, drop, arith}
 use Rattle.std.specs.Prelude.{Option}
 use Rattle.std.proofs.lemmas.List.{length-append, length-drop, take-append-le, take_all, drop-append-le}
@@ -13,7 +13,7 @@ total_more : (sizes : List ℕ) (size : ℕ) → total (sizes ++ size ∷ []) �
 total_more [] size = omega arith
 total_more (first ∷ sizes) size = omega (arith, total_more sizes size)
 
--- one more line behind the others
+-- one more line after the others
 pub cut_more : (sizes text line : List ℕ) (size : ℕ) → total sizes ≡ length text → size ≡ length line → cut (sizes ++ size ∷ []) (text ++ line) ≡ cut sizes text ++ line ∷ []
 cut_more [] [] line size whole is = ap (λ x. x ∷ []) (take_all size line (omega (arith, is)))
 cut_more [] (x ∷ text) line size whole is = absurd (omega (arith, whole))

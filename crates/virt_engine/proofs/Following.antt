@@ -158,7 +158,7 @@ module _ {H S : Type 0} (h : HostStep S) (kept : H → Kept S) where
   over_comes G whole rest r calls.Spent how e is t = subst (λ (x : RunEnd). ComesOn h kept G whole rest x r) (sym is) t
   over_comes G whole rest r calls.TooDeep how e is t = subst (λ (x : RunEnd). ComesOn h kept G whole rest x r) (sym is) t
 
-  -- ---- lines behind others
+  -- ---- lines after others
 
   -- those of the host, which had seen so much
   host_lines : (done : List Item) (k o : List PlainObservation) (r1 r2 : Runner H) → r1.lines ≡ item_texts done → r1.shown ≡ length k → (kept (host_in r1.run)).seen ≡ k ++ o → ShowsHost h kept r1 r2 → r2.lines ≡ item_texts (done ++ untyped o)

@@ -40,7 +40,7 @@ module _ {K : Type 0} {R : K → K → Ordering} (o : IsTotalOrder R) where
       by (inr i) (inl e) = sym e
       by (inr i) (inr k) = absurd (one_way x y (behind x xs s y i) (behind y ys t x k))
 
-  -- behind the same first element stand the same others
+  -- after the same first element stand the same others
   same_rest : (x : K) (xs ys : List K) → IsStrictlySortedBy R (x ∷ xs) → ((q : K) → Contains (x ∷ xs) q → Contains (x ∷ ys) q) → (q : K) → Contains xs q → Contains ys q
   same_rest x xs ys s into q there = by (in_rest x ys q (into q (suc there.0, omega (arith, there.1), there.2)))
     where

@@ -152,7 +152,7 @@ module _ (n : Name) (lacks : Lacks n) (ps : Parts) (t : Target) where
   no_inner I (More g (InstanceItem entries) es) rest = no_inner I es rest
   no_inner I (More g (KindItem kind) es) rest = no_inner I es rest
 
-  -- the first entry of the name, or those behind it
+  -- the first entry of the name, or those after it
   at_first : (given : Given) (gs : Givens) (ty : PlainFunc) (rest : Exports) → IsOf given (FuncItem ty) → func_has_handle ty ≡ false → (params_named n rest ≡ Some ps → target_in (find n gs) ≡ Some t → FitsTarget t ps)
       → (b : Bool) → cond b (Some ty.params) (params_named n rest) ≡ Some ps → target_in (cond b (Some given) (find n gs)) ≡ Some t → FitsTarget t ps
   at_first given gs ty rest is free later true p e = target_fits given (FuncItem ty) t ps is (λ ty' same. cc) free e
@@ -190,7 +190,7 @@ first_of (Giving n given rest) f item h = at_given given (find f rest) item (Fin
 nat_itself : (b : ℕ) → nat_eq b b ≡ true
 nat_itself b = grind (arith, nat_tests)
 
--- names of one instance are tested by what stands behind its name
+-- names of one instance are tested by what stands after its name
 behind_front : (I g f : Name) → bytes_eq (inner_name I g) (inner_name I f) ≡ bytes_eq g f
 behind_front [] g f = refl
 behind_front (b ∷ I) g f = ap (λ (z : Bool). z && bytes_eq (inner_name I g) (inner_name I f)) (nat_itself b) ∙ behind_front I g f

@@ -173,7 +173,7 @@ module _ (policy : Policy) (app : Fetched) (same : component_signature app.appli
   pub count_beside : ((type_of tree).imports ≡ End → ⊥) → m.parts.needed ≡ needed_count policy app.application.listed.uses
   count_beside some = (composed some).count
 
-  -- it is an output, and imports so many functions
+  -- it is an output, and imports that many functions
   pub wrapped_so : (o : IsWrappedOf policy app.application.listed.uses tree app.bytes.items (written_by p))
       × (m.parts.needed ≡ wrapped_count policy app.application.listed.uses tree app.bytes.items (written_by p) o)
   wrapped_so = elim (entries_end (type_of tree).imports) [
@@ -205,7 +205,7 @@ module _ (policy : Policy) (app : Fetched) (h : JudgesApplication Virt app.bytes
         behaves = outputs_same app_tree w.0.output (record { valid = h.0.sound.valid; imports = none }) (spelled_define app_tree app.bytes.items h.0.sound.small.spelled.0.0) w.1;
       }
 
-  -- it is an output, and imports so many functions
+  -- it is an output, and imports that many functions
   pub prepared : (o : IsOutputOf policy app.bytes.items (written_by p)) × (m.parts.needed ≡ imported_by policy app.bytes.items (written_by p) o)
   prepared = elim (entries_end (type_of app_tree).imports) [
     | inl none ↦ (inl (output_alone none), count_alone policy app h.1 can out p m none)

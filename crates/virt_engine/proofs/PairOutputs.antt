@@ -116,7 +116,7 @@ module _ (pair : Pair) (a b : List ℕ) (f : Fetched) (m : IsMadeOf pair a b f) 
       | inr some ↦ (inr (beside_whole some), tt, count_beside policy f m.typed can out p q some)
     ]
 
-    -- it is an output, and imports so many functions
+    -- it is an output, and imports that many functions
     pub plugged_output : IsPair a b pair → (o : IsPluggedOutput policy a b (written_by p)) × (q.parts.needed ≡ plugged_count policy a b (written_by p) o) × (o.plugged ≡ f.bytes.items)
     plugged_output is = (
       record {

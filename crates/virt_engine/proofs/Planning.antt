@@ -86,7 +86,7 @@ module _ (c : Command) (s : FilesState) where
       quiet = λ told steady fine. f.quiet told steady (policy_there fine);
     }
 
--- ---- behind the policy
+-- ---- after the policy
 
 pub policy_file : (name : List ℕ) (s : FilesState) (policy : Policy) → HasPolicy name s policy → s.told ≡ true → IsPolicyFile s.held name policy
 policy_file name s policy h told = record { text = h.text; there = h.there told; short = h.short; well_formed = h.well_formed }
@@ -123,7 +123,7 @@ module _ (c : Command) (policy : Policy) (s t : FilesState) (p : FetchesPolicy c
   told_t : s.told ≡ true → t.told ≡ true
   told_t told = p.goes.told ∙ told
 
-  -- what is due behind the policy is due
+  -- what is due after the policy is due
   under : s.told ≡ true → (status : Status) → IsDueUnder s.held c policy status → IsDueOf s.held c status
   under told status h = inr (policy, policy_file c.policy s policy p.policy told, h)
 
@@ -170,7 +170,7 @@ module _ (c : Command) (policy : Policy) (s t : FilesState) (p : FetchesPolicy c
           (q.0 ∙ quiet_policy told steady fine, q.1);
     }
 
-    -- ---- behind the application
+    -- ---- after the application
 
     module _ (app : Fetched) (f : FetchesApp c.app t u (Ok app)) (w : FilesState) where
       told_u : s.told ≡ true → u.told ≡ true

@@ -157,7 +157,7 @@ module _ (c : RunCommand) (name : List ℕ) (s t : FilesState) where
     quiet = λ told steady fine. (f.quiet told steady (there (s.held.file name) (λ none. fine name (inl (policy_absent s.held name none))))).0;
   })
 
-  -- ---- behind the policy
+  -- ---- after the policy
 
   module _ (policy : Policy) (f : FetchesPolicy name s t (Ok policy)) (u : FilesState) where
     told_t : s.told ≡ true → t.told ≡ true
@@ -184,7 +184,7 @@ module _ (c : RunCommand) (name : List ℕ) (s t : FilesState) where
       quiet = quiet_inputs (Err why) g;
     })
 
-    -- ---- behind the inputs
+    -- ---- after the inputs
 
     module _ (inputs : ListedInputs) (g : FetchesListed c.component c.script t u (Ok inputs)) (w : FilesState) where
       goes_u : Goes s u
@@ -229,7 +229,7 @@ module _ (c : RunCommand) (name : List ℕ) (s t : FilesState) where
         quiet = quiet_trees (Err e) m;
       })
 
-      -- ---- behind the trees
+      -- ---- after the trees
 
       module _ (trees : List NamedTree) (m : MakesTrees policy u w (Ok trees)) where
         pub under_memory : (r : Result Shown Status) → r ≡ Err NoMemory → ShowsUnder c name s w r

@@ -26,7 +26,7 @@ before_then o (Next o' l w a) go = before_before o o' (go a w l)
 before_then o (Over o' e) go = refl
 before_then o (Spent o') go = refl
 
--- what comes behind two acts comes behind their answer
+-- what comes after two acts comes after their answer
 joined : {W A B C D : Type 0} → (x : Act W A) (y : A → Act W B) (f : A → C) (g : C → Act W D) (w : W) (n : ℕ) → (x >> λ a. y a >> λ _. g (f a)) w n ≡ then_do ((x >> λ a. y a >> λ _. gives (f a)) w n) g
 unfolding ◌>>◌ gives
 joined {W} {A} {B} {C} {D} x y f g w n = first (x w n)
@@ -46,7 +46,7 @@ joined {W} {A} {B} {C} {D} x y f g w n = first (x w n)
     first (Over o e) = refl
     first (Spent o) = refl
 
--- ---- what is observed behind what was seen
+-- ---- what is observed after what was seen
 
 observed_before : {W A : Type 0} → (o : List PlainObservation) (x : Out W A) → observed_of (seen_before o x) ≡ o ++ observed_of x
 observed_before o (Next o' l w a) = refl
@@ -64,7 +64,7 @@ pub seen_more : (xs ys : List Item) → seen_in (xs ++ ys) ≡ seen_in xs ++ see
 seen_more [] ys = refl
 seen_more (x ∷ xs) ys = ap (λ z. x.seen ∷ z) (seen_more xs ys)
 
--- what is told behind an act is observed behind it
+-- what is told after an act is observed after it
 module _ {S A : Type 0} (of : A → List Item) (go : A → World S → ℕ → Out (World S) (Unit {0})) (next : World S → ℕ → Told) (same : (a : A) (w : World S) (l : ℕ) → seen_in (of a) ++ seen_in (next w l).items ≡ observed_of (go a w l)) where
   after : (x : Out (World S) A) → seen_in (told_after of x next).items ≡ observed_of (then_do x go)
   after (Next o l w a) =

@@ -17,7 +17,7 @@ use Rattle.virt_engine.specs.declared.status.Status.TheVariants.{AppRefused, Fil
 use Rattle.virt_engine.specs.Fetching.{IsFileFault, unready_as}
 use Rattle.virt_engine.specs.RunDue.{IsVerdictBy}
 
--- An application has at most so many bytes.
+-- An application has at most that many bytes.
 abbrev pub app_limit : ℕ
 app_limit = bytes_limit Virt
 

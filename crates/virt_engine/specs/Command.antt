@@ -1,4 +1,4 @@
--- The command of the words behind the program's name.
+-- The command of the words after the program's name.
 use Rattle.std.specs.Prelude.{ℕ, ◌≡◌, List, Option, Some, None, Result, Ok, Err}
 use Rattle.virt_words.specs.Words.{command_of as said_by}
 use Rattle.virt_words.specs.declared.command.Command.{Command as Said}

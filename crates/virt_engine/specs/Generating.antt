@@ -39,7 +39,7 @@ use Rattle.virt_engine.specs.Writing.{LeftOf}
 
 -- ---- the run of a generated component
 
--- The component of so many functions, what it imports, its policy and its script.
+-- The component of that many functions, what it imports, its policy and its script.
 pub record Setting (n : ℕ) : Type 0 where
   pub policy : Policy
   pub well_formed : IsWellFormed policy_text policy
@@ -102,7 +102,7 @@ pub record GenRan (c : GenCommand) (s t : FilesState) (k l : SinkState) (result 
   pub text : List ℕ
   pub files : GenDue c s t due text
   pub report : Reports due text k l result
-  -- after want of memory nothing was put, and no file has changed
+  -- where memory ran out nothing was put, and no file has changed
   pub kept : result ≡ NoMemory → (l ≡ k) × (t.held ≡ s.held)
   -- over steady files where the output has its place and room no fault is provoked
   pub quiet : s.told ≡ true → s.steady ≡ true → no_place s.held c.out ≡ false → length_made c s t due text files ≤ s.held.room c.out → t.faults ≡ s.faults

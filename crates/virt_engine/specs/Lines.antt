@@ -12,7 +12,7 @@ use Rattle.virt_words.specs.Lines.{cut, total}
 abbrev pub IsLine : List ℕ → Type 0
 IsLine line = (ty : Option Plain) × (seen : PlainObservation) × (line ≡ line_text ty seen)
 
--- sizes by which a text is cut into such lines, with nothing behind them
+-- sizes by which a text is cut into such lines, with nothing after them
 abbrev pub AreLines : List ℕ → List ℕ → Type 0
 AreLines sizes text = (total sizes ≡ length text) × All IsLine (cut sizes text)
 

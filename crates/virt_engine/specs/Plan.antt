@@ -31,11 +31,11 @@ use Rattle.virt_engine.specs.Writing.{LeftOf}
 
 -- ---- the definition: the status that files with these contents call for, in the order of refusals
 
--- behind the policy: the application is refused, or the policy's trees decide
+-- after the policy: the application is refused, or the policy's trees decide
 abbrev pub IsDueUnder : Held → Command → Policy → Status → Type 0
 IsDueUnder held c policy status = IsAppVerdict held c.app status ⊎ ((app : List ℕ) × IsAppFile held c.app app × (trees_verdict held policy Done ≡ status))
 
--- the policy is refused, or what is behind it decides
+-- the policy is refused, or what is after it decides
 abbrev pub IsDueOf : Held → Command → Status → Type 0
 IsDueOf held c status = IsPolicyVerdict held c.policy status ⊎ ((policy : Policy) × IsPolicyFile held c.policy policy × IsDueUnder held c policy status)
 
@@ -85,7 +85,7 @@ IsOver what value = IsPolicyOver what value ⊎ IsAppOver what value ⊎ IsAbove
 abbrev pub IsPolicyRefusal : Command → FilesState → Status → Type 0
 IsPolicyRefusal c s status = HasRefusedPolicy c.policy s status ⊎ ((policy : Policy) × HasPolicy c.policy s policy × ((app : List ℕ) × HasApp c.app s app))
 
--- A refusal before any write: a fault that was counted, want of memory, or what the definition says.
+-- A refusal before any write: a fault that was counted, no memory, or what the definition says.
 abbrev pub RefusalOf : Command → FilesState → FilesState → Status → Type 0
 RefusalOf c s t (FileFault kept) = Rose s.faults t.faults × DueName c s kept
 RefusalOf c s t NoMemory = Unit {0}
@@ -193,7 +193,7 @@ pub record Ran (words : List (List ℕ)) (s t : FilesState) (k l : SinkState) (r
   pub text : List ℕ
   pub files : DueOf words s t due text
   pub report : Reports due text k l result
-  -- after want of memory nothing was put, and no file has changed
+  -- where memory ran out nothing was put, and no file has changed
   pub kept : result ≡ NoMemory → (l ≡ k) × (t.held ≡ s.held)
   pub quiet : FilesQuiet words s t (length_due words s t due text files)
 

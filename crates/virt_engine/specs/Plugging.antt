@@ -147,7 +147,7 @@ pub record PlugRan (c : PlugCommand) (s t : FilesState) (k l : SinkState) (resul
   pub text : List ℕ
   pub end : PlugEnd c s t due text
   pub report : Reports due text k l result
-  -- after want of memory nothing was put, and no file has changed
+  -- where memory ran out nothing was put, and no file has changed
   pub kept : result ≡ NoMemory → (l ≡ k) × (t.held ≡ s.held)
   -- over steady files with each file that is due, where the output has its place and room, no fault is provoked
   pub quiet : s.told ≡ true → s.steady ≡ true → NoPlugFileDue s.held c → (IsPlugDue s.held c Done → PlugFits s.held c (length_plugged c s t due text end)) → t.faults ≡ s.faults

@@ -15,7 +15,7 @@ use Rattle.virt_engine.specs.declared.status.Status.{Status}
 use Rattle.virt_engine.specs.declared.status.Status.TheVariants.{PolicyRefused, FileFault, OverLimit, NoMemory}
 use Rattle.virt_engine.specs.Fetching.{with_input, IsFileFault}
 
--- A policy has at most so many bytes.
+-- A policy has at most that many bytes.
 abbrev pub policy_limit : ℕ
 policy_limit = 16777216
 

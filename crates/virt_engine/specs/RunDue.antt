@@ -56,7 +56,7 @@ abbrev pub AreInputsRefused : Refusing → Fitting → Held → RunCommand → S
 AreInputsRefused Refuses Fits held c status = IsVerdictBy Refuses (held.file c.component) c.component status
     ⊎ ((tree : Tree) × HoldsComponent Fits held c.component tree × IsVerdictBy (RefusesScript (type_of tree).exports) (held.file c.script) c.script status)
 
--- behind the policy: the inputs are refused, or they are not and the policy's trees are
+-- after the policy: the inputs are refused, or they are not and the policy's trees are
 abbrev pub IsRefusedUnder : Held → RunCommand → Policy → Status → Type 0
 IsRefusedUnder held c policy status = AreInputsRefused (IsApplicationRefusal Run) IsListedBy held c status
     ⊎ ((tree : Tree) × HoldsComponent IsListedBy held c.component tree × HoldsScript held c.script (type_of tree).exports × IsTreesVerdict held policy status)

@@ -36,7 +36,7 @@ module _ {H S : Type 0} (h : HostStep S) (kept : H → Kept S) where
     pub end : how ≡ end_by came
 
   module _ (G : Group) where
-    -- the component is made, and behind what was told so far, what is to be told of these calls makes it whole
+    -- the component is made, and after what was told so far, what is to be told of these calls makes it whole
     pub record RunStands (whole : Told) (rest : List TypedCall) (done : List Item) (run : Run H) : Type 0 where
       pub serves : CanServe h kept run
       pub group : group_in run ≡ G

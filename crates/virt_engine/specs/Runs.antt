@@ -51,7 +51,7 @@ AloneCause c s t status = (why : Unready) × InputsCause c.component c.script s 
 abbrev pub UnderListedCause : RunCommand → FilesState → FilesState → Status → Type 0
 UnderListedCause c s t status = (why : Unready) × ListedCause c.component c.script s t why × (status ≡ unready_as why)
 
--- under a policy its file or its text comes before these, and its trees behind them
+-- under a policy its file or its text comes before these, and its trees after them
 abbrev pub UnderCause : RunCommand → List ℕ → FilesState → FilesState → Status → Type 0
 UnderCause c name s t status = PolicyCause name s t status
     ⊎ ((policy : Policy) × HasPolicy name s policy
@@ -61,7 +61,7 @@ abbrev pub CauseBy : RunCommand → Option (List ℕ) → FilesState → FilesSt
 CauseBy c None s t status = AloneCause c s t status
 CauseBy c (Some name) s t status = UnderCause c name s t status
 
--- one of these, or want of memory
+-- one of these, or no memory
 abbrev pub RunCause : RunCommand → FilesState → FilesState → Status → Type 0
 RunCause c s t status = (status ≡ NoMemory) ⊎ CauseBy c c.policy s t status
 
@@ -123,7 +123,7 @@ pub record RunsBy (c : RunCommand) (s t : FilesState) (k l : SinkState) (result 
   -- no name has changed
   pub stays : t.held ≡ s.held
   pub end : RanNot c s t k l result ⊎ RanOn c s k l result
-  -- after want of memory nothing was put
+  -- where memory ran out nothing was put
   pub kept : result ≡ NoMemory → l ≡ k
   -- over steady files with each file that is due no fault is provoked
   pub quiet : s.told ≡ true → s.steady ≡ true → NoRunFileDue s.held c → t.faults ≡ s.faults

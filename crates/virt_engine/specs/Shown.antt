@@ -41,7 +41,7 @@ pub record IsTold (whole : Told) (put : List (List ℕ)) (counted : Tally) (how 
   pub tally : counted ≡ items_tally whole.items
   pub end : how ≡ whole.end
 
--- what is to be told of a component over a host in this state, with the calls of a script and so many steps
+-- what is to be told of a component over a host in this state, with the calls of a script and that many steps
 abbrev pub told_component : {S : Type 0} → Tree → HostStep S → S → List PlainCall → ℕ → Told
 told_component tree h s calls n = told (group_of tree) h (typed_calls (callable (type_of tree).exports) calls) s n
 

@@ -74,6 +74,6 @@ module _ {S : Type 0} (G : Group) (h : HostStep S) where
   told_calls [] w n = record { items = []; end = ends.Returned None }
   told_calls (c ∷ cs) w n = told_after (result_item c.ty) (calls_export c.call w n) (λ w' l. told_calls cs w' l)
 
-  -- the group is made over the host in this state, and then these calls are made, in at most so many steps
+  -- the group is made over the host in this state, and then these calls are made, in at most that many steps
   abbrev pub told : List TypedCall → S → ℕ → Told
   told calls s n = told_after nothing_more (is_made G (hosted h) at_most (first_state (G ∷ []) s) n) (λ w l. told_calls calls w l)

@@ -37,7 +37,7 @@ use virt_words::GenWords;
 /// The most steps of the run.
 const STEPS: u64 = 1_000_000_000;
 
-/// What is generated is refused by nobody. That is not proved: a refusal counts as want of memory.
+/// What is generated is refused by nobody. That is not proved: a refusal counts as running out of memory.
 fn policy(alloc: Global) -> Result<Policy, NoMemory>
     ensures well_formed { IfOk result (IsWellFormed policy_text) }
     ensures limits { IfOk result KeepsLimits }
@@ -145,7 +145,7 @@ fn with_line(alloc: Global, functions: u32, wrapped: Ready, tally: Tally) -> Res
     })
 }
 
-/// The generated component of so many functions, wrapped and run.
+/// The generated component of that many functions, wrapped and run.
 fn make(alloc: Global, functions: u64, out: &Text) -> Result<Made, NoMemory>
     ensures { IfOk result (IsMade functions out.now) }
 {

@@ -172,7 +172,7 @@ fn as_fetched(plugged: Plugged) -> Fetched
     }
 }
 
-/// Both parts in one. A failed check of what was made, and a size that 32 bits can't tell, count as want of memory.
+/// Both parts in one. A failed check of what was made, and a size that 32 bits can't tell, count as running out of memory.
 fn plug_parts(alloc: Global, first: Part, second: Part) -> Result<Fetched, Status>
     requires first { IsSoundPart first }
     requires second { IsSoundPart second }

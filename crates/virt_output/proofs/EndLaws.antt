@@ -69,7 +69,7 @@ both_added es ls xs old mid new (Ok done) some a x f g first second =
           ∙ ap (λ (z : List ℕ). old ++ z) (sym (some_bytes es some)),
     )
 
--- ---- what stands behind an application
+-- ---- what stands after an application
 
 pub instance_failed : (es : Entries) (is : List Instance) (old mid : List ℕ) (e : PieceFault) → is ≡ one_instance → Adds 5 ((vec instance).write is) old mid (Err e) → Ends es (Err e)
 instance_failed es is old mid NoMemory same h = tt

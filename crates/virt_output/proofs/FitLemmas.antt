@@ -64,7 +64,7 @@ length-exports c (More n i rest) = omega (arith, length-exports (and_one c (sort
 
 -- ---- indexes
 
--- no index passes 2 ^ 32 with so many exports to come
+-- no index passes 2 ^ 32 with that many exports to come
 pub record Room (c : Counts) (left : ℕ) : Type 0 where
   pub functions : c.functions + left ≤ 2 ^ 32
   pub types : c.types + left ≤ 2 ^ 32

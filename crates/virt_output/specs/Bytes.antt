@@ -1,4 +1,4 @@
--- How an output is written: what stands before the application's bytes, and what stands behind them.
+-- How an output is written: what stands before the application's bytes, and what stands after them.
 use Rattle.std.specs.Prelude.{◌≡◌, ℕ, ◌<◌, ◌^◌, List, [], ◌∷◌, ◌++◌, length, Result, Ok, Err, Vec}
 use Rattle.std.specs.List.{AllByRecursion}
 use Rattle.std.specs.declared.alloc.Global.{Global}
@@ -12,7 +12,7 @@ use Rattle.virt_output.specs.declared.fault.PieceFault.TheVariants.{NoMemory, To
 use Rattle.virt_output.specs.declared.around.Around.{Around}
 use Rattle.virt_output.specs.Output.{one_instance, aliases_of, exports_of}
 
--- before so many bytes of a component
+-- before that many bytes of a component
 abbrev pub front_bytes : ℕ → List ℕ
 front_bytes size = preamble ++ head_of_component size
 
@@ -60,13 +60,13 @@ AddsExports exports old new (Ok done) = CanBeSized exports × AreWritable export
 AddsExports exports old new (Err TooLong) = CanBeSized exports → ⊥
 AddsExports exports old new (Err NoMemory) = Unit {0}
 
--- of what stands behind an application with these exports
+-- of what stands after an application with these exports
 abbrev pub Ends : Entries → Result (Vec ℕ Global) PieceFault → Type 0
 Ends exports (Ok back) = CanBeSized exports × AreWritable exports × (back.items ≡ back_bytes exports)
 Ends exports (Err TooLong) = CanBeSized exports → ⊥
 Ends exports (Err NoMemory) = Unit {0}
 
--- of what stands around an application of so many bytes with these exports
+-- of what stands around an application of that many bytes with these exports
 abbrev pub Surrounds : ℕ → Entries → Result Around PieceFault → Type 0
 Surrounds size exports (Ok around) = (size < 2 ^ 32) × CanBeNamed exports × CanBeSized exports × (around.front.items ≡ front_bytes size) × (around.back.items ≡ back_bytes exports)
 Surrounds size exports (Err TooLong) = size < 2 ^ 32 → CanBeNamed exports → CanBeSized exports → ⊥

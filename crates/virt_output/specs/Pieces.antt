@@ -26,7 +26,7 @@ id_of (pieces.Canons items) = 8
 id_of (pieces.Imports items) = 10
 id_of (pieces.Exports items) = 11
 
--- what stands behind the size
+-- what stands after the size
 abbrev pub content_of : Piece → List ℕ
 content_of (pieces.CoreModule bytes) = bytes.now
 content_of (pieces.CoreInstances items) = (vec core_instance).write items
@@ -62,12 +62,12 @@ IsPieceOf (pieces.Canons items) part = part ≡ Canons items
 IsPieceOf (pieces.Imports items) part = part ≡ Imports items
 IsPieceOf (pieces.Exports items) part = part ≡ Exports items
 
--- A section with this content was added behind the bytes that were there, or its content is too long.
+-- A section with this content was added after the bytes that were there, or its content is too long.
 abbrev pub Adds : ℕ → List ℕ → List ℕ → List ℕ → Result (Unit {0}) PieceFault → Type 0
 Adds id content old new (Ok done) = (length content < 2 ^ 32) × (new ≡ old ++ id ∷ (sized anything).write content)
 Adds id content old new (Err TooLong) = 2 ^ 32 ≤ length content
 Adds id content old new (Err NoMemory) = Unit {0}
 
--- the id and the size of a nested component that has so many bytes
+-- the id and the size of a nested component that has that many bytes
 abbrev pub head_of_component : ℕ → List ℕ
 head_of_component size = 4 ∷ u32_format.write size

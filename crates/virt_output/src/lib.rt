@@ -1,5 +1,5 @@
 //! The sections of an output, and the output of an application that imports nothing, written section by section: what stands before
-//! the application's bytes and what stands behind them. What is written is a component at every moment.
+//! the application's bytes and what stands after them. What is written is a component at every moment.
 #![tactic(auto)]
 
 mod around;

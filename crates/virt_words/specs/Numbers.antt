@@ -1,7 +1,7 @@
 -- Numbers among words: decimal digits without a sign or a leading zero.
 use Rattle.std.specs.Prelude.{ℕ, ◌+◌, ◌-◌, ◌*◌, List, [], ◌∷◌, Option, Some, None, ◌==◌, ◌||◌, nat_lt, if◌then◌else◌}
 
--- a number with more digits behind it, as long as it stays within a limit
+-- a number with more digits after it, as long as it stays within a limit
 abbrev pub digits_within : ℕ → ℕ → List ℕ → Option ℕ
 digits_within greatest n [] = Some n
 digits_within greatest n (c ∷ cs) =

@@ -41,7 +41,7 @@ abbrev pub inspect_from : Option (List ℕ) → Option (List ℕ) → Option Ins
 inspect_from (Some component) policy = Some (record { component = component; policy = policy })
 inspect_from None policy = None
 
--- ---- the words behind the action, as `clap` takes them
+-- ---- the words after the action, as `clap` takes them
 
 -- where `clap` refuses nothing, what its matches say
 abbrev pub unless_refused : {A : Type 0} → Kinds → Option A → Option A

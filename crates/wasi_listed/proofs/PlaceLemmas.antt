@@ -31,7 +31,7 @@ behind i q (f ∷ fs) rest (suc p) most =
     let e : p - length fs ≡ suc p - suc (length fs) = omega arith in
     behind i (q + 1) fs rest p (omega arith) ∙ ap (slice_get rest) e
 
--- a place inside an interface, and one behind it
+-- a place inside an interface, and one after it
 module _ (i p c : ℕ) (less : i < 27) (is : length (described i).functions ≡ c) where
   abbrev rest : List PlainListed
   rest = functions_from (27 - (i + 1)) (i + 1)

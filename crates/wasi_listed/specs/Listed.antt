@@ -25,7 +25,7 @@ abbrev pub placed : ℕ → ℕ → List PlainNamedFunc → List PlainListed
 placed interface place [] = []
 placed interface place (f ∷ fs) = record { interface = interface; place = place; function = f } ∷ placed interface (place + 1) fs
 
--- those of so many interfaces, from this one on
+-- those of that many interfaces, from this one on
 unfoldable pub functions_from : ℕ → ℕ → List PlainListed
 functions_from zero interface = []
 functions_from (suc count) interface = placed interface 0 (described interface).functions ++ functions_from count (interface + 1)

@@ -1,4 +1,4 @@
--- Entries up to a place, the one there, and those behind it.
+-- Entries up to a place, the one there, and those after it.
 use Rattle.std.proofs.Common.{◌≡◌, ◌∙◌, ap, sym, subst, ℕ, ◌+◌, ◌<◌, List, [], ◌∷◌, ◌++◌, ◌≤◌, true, false, Some, length, take, drop, get_or, arith}
 use Rattle.std.specs.Prelude.{IfSome, ◌||◌}
 use Rattle.std.proofs.lemmas.Grind.{common_steps}

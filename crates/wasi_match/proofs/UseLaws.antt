@@ -1,4 +1,4 @@
--- Imports of interfaces, one behind others.
+-- Imports of interfaces, one after others.
 use Rattle.std.proofs.Common.{◌≡◌, ◌∙◌, ap, refl, sym, ℕ, List, [], ◌∷◌, ◌++◌, Some}
 use Rattle.wit_types.specs.Plain.{Name}
 use Rattle.comp_types.specs.Items.{Item, Entries, InstanceItem, End, More, and_entry}

@@ -37,7 +37,7 @@ either-one : (b c : Bool) → (b || c) ≡ true → (b ≡ true) ⊎ (c ≡ true
 either-one true c h = inl refl
 either-one false c h = inr h
 
--- no interface is that of an import behind
+-- no interface is that of an import after
 distinct-last : (xs : List ℕ) (y : ℕ) → IsDistinct nat_eq (xs ++ y ∷ []) → list_any (nat_eq y) xs ≡ true → ⊥
 unfolding IsDistinct
 distinct-last [] y h e = false≢true e
@@ -60,7 +60,7 @@ front_listed front back uses l =
       },
     )
 
--- ---- an import at fault is not listed behind those before it
+-- ---- an import at fault is not listed after those before it
 
 not_twice : (before : Entries) (name : Name) (item : Item) (uses : List ListedUse) → AreListed before uses → IsTwice name item uses → (us : List ListedUse) → AreListed (and_entry before name item) us → ⊥
 not_twice before name item uses b h us l =
@@ -80,7 +80,7 @@ not_listed TwoVersions before name item uses b h us l = not_twice before name it
 not_listed WrongType before name item uses b h us l = h.4 us l
 not_listed HandleExport before name item uses b h us l = h
 
--- nor are the imports listed, whatever stands behind it
+-- nor are the imports listed, whatever stands after it
 never_listed : (cause : Cause) (imports : Entries) (name : Name) → HasImportAtFault cause imports name → (us : List ListedUse) → AreListed imports us → ⊥
 never_listed cause imports name h us l =
     let f = front_listed (and_entry h.before name h.item) h.behind us (subst (λ i. AreListed i us) (h.there ∙ joined-entry h.before name h.item h.behind) l) in

@@ -85,7 +85,7 @@ module _ (all exports : Entries) where
   ends uses by None e b = record { imports = begun_listed all uses by b; exports = no_handle exports e }
   ends uses by (Some name) e b = (uses, begun_listed all uses by b, a_handle exports name e)
 
-  -- an import behind others, where what is behind it goes on well
+  -- an import after others, where what is after it goes on well
   module _ (name : Name) (item : Item) (rest before : Entries) (uses : List ListedUse) (by : Pairs) (b : IsBegun before uses by) (there : all ≡ joined before (More name item rest))
       (onwards : (us : List ListedUse) (ps : Pairs) → IsBegun (and_entry before name item) us ps → IsVerdict whole (verdict_from us ps rest exports)) where
     at_fault : (cause : Cause) → IsAtFault cause before name item uses → HasImportAtFault cause all name

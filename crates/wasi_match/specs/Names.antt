@@ -42,7 +42,7 @@ in_version version (Some interface) = if is_version version then Some (record { 
 abbrev pub is_at : ℕ → Bool
 is_at byte = byte == 64
 
--- what stands before the first `@`, and what behind it
+-- what stands before the first `@`, and what after it
 abbrev pub cut : Name → Option (Name × Name)
 cut name = if nat_lt (position_or_len is_at name) (length name) then Some (before_first is_at name, after_first is_at name) else None
 
@@ -50,6 +50,6 @@ abbrev pub listed_parts : Option (Name × Name) → Option Versioned
 listed_parts None = None
 listed_parts (Some p) = in_version p.1 (interface_named p.0)
 
--- what a name names: before its first `@` stands an interface's name, and behind it the version
+-- what a name names: before its first `@` stands an interface's name, and after it the version
 abbrev pub listed_as : Name → Option Versioned
 listed_as name = listed_parts (cut name)

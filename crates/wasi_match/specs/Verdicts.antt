@@ -1,5 +1,5 @@
 -- What is said of a component: that it is listed, or what is at fault first. Imports are taken in order, and of each its name is
--- asked first, then whether its interface was imported before, then its type; the exports come behind all imports.
+-- asked first, then whether its interface was imported before, then its type; the exports come after all imports.
 use Rattle.std.specs.Prelude.{◌≡◌, List, true, false, Contains, Option, Some, None, Result, Ok, Err, IfSome}
 use Rattle.wit_types.specs.Plain.{Name}
 use Rattle.comp_types.specs.Items.{Item, Entries, Signature, End, More, and_entry}
@@ -22,7 +22,7 @@ abbrev pub joined : Entries → Entries → Entries
 joined End entries = entries
 joined (More name item rest) entries = More name item (joined rest entries)
 
--- ---- an import at fault, behind others that are listed
+-- ---- an import at fault, after others that are listed
 
 abbrev pub IsUnlisted : (name : Name) → (item : Item) → Type 0
 IsUnlisted name item = (listed : Versioned) (entries : Entries) → IsNamed name item listed entries → ⊥
@@ -71,7 +71,7 @@ abbrev pub IsVerdict : Signature → Verdict → Type 0
 IsVerdict ty (Accepted uses) = IsListed ty uses
 IsVerdict ty (Refused cause name) = IsRefused cause ty name
 
--- what an answer says; want of memory says nothing
+-- what an answer says; no memory says nothing
 abbrev pub fault_verdict : MatchFault → Option Verdict
 fault_verdict (UnlistedAt name) = Some (Refused Unlisted name)
 fault_verdict (TwoVersionsAt name) = Some (Refused TwoVersions name)

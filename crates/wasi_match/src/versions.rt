@@ -67,7 +67,7 @@ pub fn is_version(version: &[u8]) -> bool
     }
 }
 
-/// What stands before the first `@` of a name, and what behind it.
+/// What stands before the first `@` of a name, and what after it.
 fn cut(name: &str) -> Option<(&str, &str)>
     ensures { option_map (λ p. (p.0.now, p.1.now)) result ≡ cut name.now }
 {

@@ -9,7 +9,7 @@ use Rattle.wasi_table.specs.Words.{apply, put, read, types_in, names_in}
 use Rattle.wasi_table.specs.Items.{PlainItem, UseOf, AliasOf, RecordOf, VariantOf, FlagsOf, EnumOf, ResourceOf, FunctionOf, item_in}
 use Rattle.wasi_table.specs.Types.{type_spelled}
 
--- what stands behind the arrow of a signature
+-- what stands after the arrow of a signature
 abbrev pub behind_arrow : Line → Line
 behind_arrow [] = []
 behind_arrow (w ∷ ws) = if bytes_eq w (codes "->") then ws else behind_arrow ws

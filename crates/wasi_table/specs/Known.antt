@@ -1,4 +1,4 @@
--- Tables each word of which is known: a keyword, a form with its parts behind it, a name that was defined before, or a label.
+-- Tables each word of which is known: a keyword, a form with its parts after it, a name that was defined before, or a label.
 use Rattle.std.specs.Prelude.{ℕ, zero, suc, ◌+◌, Bool, true, false, ◌&&◌, List, [], ◌∷◌, drop, Option, Some, None, if◌then◌else◌}
 use Rattle.wasi_table.specs.declared.forms.Form.{Form}
 use Rattle.wasi_table.specs.declared.forms.Form.TheVariants.{Absent, Bool as BoolForm, U8, U16, U32, U64, Str, List as ListForm, Option as OptionForm, Result, Tuple, Own, Borrow, Arrow}
@@ -53,7 +53,7 @@ of_payloads [] = Unknown ∷ []
 of_payloads (s ∷ []) = Unknown ∷ []
 of_payloads (s ∷ t ∷ ss) = where_all (is_payload s && is_payload t) ss
 
--- whether the first so many are types
+-- whether the first that many are types
 abbrev pub are_first_types : ℕ → List Sort → Bool
 are_first_types zero ss = true
 are_first_types (suc n) [] = false

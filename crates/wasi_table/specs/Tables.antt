@@ -51,7 +51,7 @@ abbrev pub declared_all : ℕ → List PlainKnown → List Items → List PlainK
 declared_all number known [] = known
 declared_all number known (items ∷ rest) = declared_all (number + 1) (declared number known items) rest
 
--- the interface of these items, where so much was known before, and so much behind them
+-- the interface of these items, where so much was known before, and so much after them
 abbrev pub interface_of : List PlainKnown → List PlainKnown → Items → PlainInterface
 interface_of before known items =
     record { name = name_in items; uses = uses_in known items; types = map (λ k. k.named) (drop (length before) known); functions = functions_in known items }
@@ -59,7 +59,7 @@ interface_of before known items =
 abbrev pub described_at : ℕ → List PlainKnown → Items → PlainInterface
 described_at number before items = interface_of before (declared number before items) items
 
--- the interface behind so many others, of which is known what they define
+-- the interface after that many others, of which is known what they define
 abbrev pub described_from : ℕ → List PlainKnown → List Items → ℕ → PlainInterface
 described_from number known [] left = described_at number known (items_of [])
 described_from number known (items ∷ rest) zero = described_at number known items

@@ -74,7 +74,7 @@ abbrev pub behind_first : Line → Line
 behind_first [] = []
 behind_first (w ∷ ws) = ws
 
--- the names behind the labels of lines
+-- the names after the labels of lines
 abbrev pub names_behind : List Line → List Name
 names_behind [] = []
 names_behind (line ∷ lines) = names_in (behind_first line) ++ names_behind lines

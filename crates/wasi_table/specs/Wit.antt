@@ -84,7 +84,7 @@ abbrev pub methods_in : List Line → Name
 methods_in [] = []
 methods_in (line ∷ lines) = method_in line ++ methods_in lines
 
--- an item of the form `  keyword name`, and what stands behind it
+-- an item of the form `  keyword name`, and what stands after it
 abbrev pub headed : Name → Name → Name → Name
 headed keyword name rest = codes "  " ++ keyword ++ codes " " ++ name ++ rest ++ 10 ∷ []
 

@@ -62,7 +62,7 @@ labels_joined first (label ∷ more) u t = first_label first (label ++ behind mo
 pub texts_joined : (bytes first : List ℕ) (more : List (List ℕ)) → bytes ≡ first ++ behind more → IsUtf8 first → AreTexts more → AreTexts (labels_in bytes)
 texts_joined bytes first more e u t = subst AreTexts (sym (ap labels_in e ∙ labels_joined first more u t)) (u, t)
 
--- all labels have been put behind the first
+-- all labels have been put after the first
 pub all_put : (bytes whole first : List ℕ) (rest more : List (List ℕ)) → whole ≡ bytes → length rest ≡ 0
     → (bytes ++ behind rest ≡ first ++ behind more) × (AreTexts rest → AreTexts more) → (whole ≡ first ++ behind more) × AreTexts more
 all_put bytes whole first [] more same none h = (same ∙ (sym (append-nil bytes) ∙ h.0), h.1 tt)

@@ -116,7 +116,7 @@ alias_tag (aliases.Export s _ _) = sort_tag s
 alias_tag (aliases.CoreExport _ _ _) = 0
 alias_tag (aliases.Outer s _ _) = outer_tag s
 
--- the byte behind 00: a core sort, or 11 for a core module
+-- the byte after 00: a core sort, or 11 for a core module
 abbrev pub core_alias_tag : Alias → ℕ
 core_alias_tag (aliases.CoreExport s _ _) = core_sort_tag s
 core_alias_tag (aliases.Export _ _ _) = 0

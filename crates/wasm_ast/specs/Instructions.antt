@@ -1,4 +1,4 @@
--- The formats of instructions (WebAssembly Core 2.0, section 5.4). Each literal byte behind an opcode is a tag, and so is the byte behind FC.
+-- The formats of instructions (WebAssembly Core 2.0, section 5.4). Each literal byte after an opcode is a tag, and so is the byte after FC.
 use Rattle.std.specs.Prelude.{ℕ, ℤ, pos, Bool, true, false, ◌==◌, nat_lt, List, [], ◌∷◌}
 use Rattle.virt_base.specs.declared.core_type.CoreType.{CoreType}
 use Rattle.wasm_format.specs.Format.{Format, choose, lacking, misplaced, tagged, value, literal, both, image, closed_by, vec, u32_format}
@@ -76,7 +76,7 @@ op_code (TableGrow x) = 0xFC
 op_code (TableSize x) = 0xFC
 op_code (TableFill x) = 0xFC
 
--- the byte behind FC
+-- the byte after FC
 abbrev pub second_code : Op → ℕ
 second_code (MemoryInit x) = 0x08
 second_code (DataDrop x) = 0x09
@@ -107,7 +107,7 @@ opcode Return = 0x0F
 opcode (Call f) = 0x10
 opcode (CallIndirect ty table) = 0x11
 
--- ---- what stands behind an opcode
+-- ---- what stands after an opcode
 
 -- the index of an instruction that has one
 abbrev pub index_in : Op → ℕ
@@ -241,7 +241,7 @@ memory_op b =
     choose (b == 0x40) (literal (0 ∷ []) MemoryGrow)
     (lacking b)))))))))
 
--- behind FC
+-- after FC
 unfoldable pub second_op : ℕ → Format Op
 second_op b =
     choose (b == 0x08) (image MemoryInit index_in (closed_by (0 ∷ []) u32_format)) (
@@ -295,7 +295,7 @@ control b =
     choose (b == 0x11) (image (λ p. CallIndirect p.0 p.1) callee_in (both u32_format u32_format))
     (lacking b))))))))))))
 
--- what stands behind an opcode but that of else
+-- what stands after an opcode but that of else
 unfoldable pub instr_of : ℕ → Format Instr
 instr_of b =
     choose (nat_lt b 0x12) (control b) (

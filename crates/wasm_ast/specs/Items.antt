@@ -139,7 +139,7 @@ exprs_of (ActiveExprsAt t o ty es) = es
 exprs_of (DeclaredExprs ty es) = es
 exprs_of _ = []
 
--- functions behind the kind of element that only they have
+-- functions after the kind of element that only they have
 unfoldable pub kind_and_funcs : Format (List ℕ)
 kind_and_funcs = behind (0 ∷ []) (vec u32_format)
 

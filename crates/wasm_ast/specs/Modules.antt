@@ -90,7 +90,7 @@ number_in _ = 0
 unfoldable pub note : Format (Unit {0})
 note = image (λ n. tt) (λ u. ([], [])) (both name anything)
 
--- a section, which stands behind those that come before it in the order of sections
+-- a section, which stands after those that come before it in the order of sections
 abbrev pub ranked : {A : Type 0} → ℕ → ℕ → Format A → Format A
 ranked last rank F = choose (nat_lt last rank) F misplaced
 
@@ -99,7 +99,7 @@ abbrev pub counted : Option ℕ → Format (List Data)
 counted None = vec segment
 counted (Some n) = vec_of n segment
 
--- sections 0 to 6, behind the id
+-- sections 0 to 6, after the id
 unfoldable pub low_section : Progress → ℕ → Format CoreSection
 low_section s b =
     choose (b == 0) (image (λ u. kind.Custom) (λ p. tt) (sized note)) (
@@ -181,7 +181,7 @@ sections_of m =
 abbrev pub preamble : List ℕ
 preamble = 0 ∷ 0x61 ∷ 0x73 ∷ 0x6D ∷ 1 ∷ 0 ∷ 0 ∷ 0 ∷ []
 
--- the sections behind the preamble
+-- the sections after the preamble
 unfoldable pub all_sections : Format Progress
 all_sections = to_the_end sections no_sections (λ s. sections_of s.found)
 

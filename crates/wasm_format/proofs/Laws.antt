@@ -13,7 +13,7 @@ use Rattle.wasm_format.specs.declared.stop.Stop.{Stop}
 use Rattle.wasm_format.specs.declared.stop.Stop.TheVariants.{Malformed, Unsupported}
 use Rattle.wasm_format.specs.Format.{Format, ◌>>=◌, choose, lacking, misplaced, TaggedSpells, read_tagged, tagged, PeekedSpells, read_peeked, Begins, peeked, read_literal, literal, read_fixed, fixed, value, both, image, spanned, behind, closed_by, number_of, u32_format, ItemsSpell, read_items, write_items, vec, vec_of, whole, read_within, sized, anything, read_checked, checked, name}
 
--- a text at an offset, and more behind it
+-- a text at an offset, and more after it
 abbrev pub before : ℕ → List ℕ → List ℕ → Place
 before at text more = record { at = at; rest = text ++ more }
 
@@ -65,7 +65,7 @@ Takes-none p = record { parts = refl; moved = omega arith }
 pub Takes-then : (x y : List ℕ) (p q r : Place) → Takes x p q → Takes y q r → Takes (x ++ y) p r
 Takes-then x y p q r s t = record { parts = s.parts ∙ ap (λ (z : List ℕ). x ++ z) t.parts ∙ sym (append_assoc x y r.rest); moved = omega (arith, s.moved, t.moved, length-append x y) }
 
--- two texts, one after the other, with more behind them
+-- two texts, one after the other, with more after them
 joined : (text x y more : List ℕ) (at : ℕ) → text ≡ x ++ y → before at text more ≡ before at x (y ++ more)
 joined text x y more at e = ap (λ (z : List ℕ). record { at = at; rest = z }) (ap (λ (z : List ℕ). z ++ more) e ∙ append_assoc x y more)
 

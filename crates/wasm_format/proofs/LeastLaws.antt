@@ -62,7 +62,7 @@ chosen_has : {A B : Type 0} (tag : A → B) (b : B) (c : Bool) (F G : Format A) 
 chosen_has tag b true F G f g = f refl
 chosen_has tag b false F G f g = g
 
--- a form behind the tag that chooses it
+-- a form after the tag that chooses it
 pub tag_choose : {A : Type 0} (tag : A → ℕ) (b k : ℕ) (F G : Format A) → HasTag tag k F → HasTag tag b G → HasTag tag b (choose (eqb b k) F G)
 tag_choose tag b k F G f g = chosen_has tag b (eqb b k) F G (λ e. subst (λ (n : ℕ). HasTag tag n F) (sym (eqb-true b k e)) f) g
 

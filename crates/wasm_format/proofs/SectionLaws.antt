@@ -59,7 +59,7 @@ run_ok {S} {P} G g (suc fuel) s good at (b ∷ rest) t e =
 abbrev pub Then : {S P : Type 0} → Sections S P → S → ℕ → List ℕ → List P → List ℕ → List ℕ → Type 0
 Then G s at rest parts text more = SectionsSpell G s at parts text × (rest ≡ text ++ more)
 
--- a run that met a tag met it in the section behind those that the bytes spell
+-- a run that met a tag met it in the section after those that the bytes spell
 pub run_unsupported : {S P : Type 0} (G : Sections S P) → AreExact G → (fuel : ℕ) (s : S) (good at : ℕ) (rest : List ℕ) (a byte : ℕ) → (run G fuel s good at rest).outcome ≡ Err (Unsupported a byte)
     → (parts : List P) × (text more : List ℕ) × SectionsSpell G s at parts text × (rest ≡ text ++ more) × ((G.form (built G s parts)).read (after at text more) ≡ Err (Unsupported a byte))
 unfolding run
@@ -195,7 +195,7 @@ tag_here G g fuel s good at [] a byte le h = absurd (g.no_tag s at a byte h)
 tag_here G g zero s good at (b ∷ rest) a byte le h = absurd (omega (arith, le))
 tag_here G g (suc fuel) s good at (b ∷ rest) a byte le h = rw h refl
 
--- a tag behind sections that are spelled is met
+-- a tag after sections that are spelled is met
 pub run_tag : {S P : Type 0} (G : Sections S P) → AreExact G → (parts : List P) (fuel : ℕ) (s : S) (good at : ℕ) (rest text more : List ℕ) (a byte : ℕ) → length rest ≤ fuel → SectionsSpell G s at parts text → rest ≡ text ++ more
     → (G.form (built G s parts)).read (after at text more) ≡ Err (Unsupported a byte) → (run G fuel s good at rest).outcome ≡ Err (Unsupported a byte)
 unfolding run

@@ -27,7 +27,7 @@ unfolding run
 any_count G n s good at [] h = refl
 any_count G n s good at (b ∷ rest) h = absurd (omega (arith, h))
 
--- behind the last turn no more sections may follow
+-- after the last turn no more sections may follow
 pub last_count : {S P : Type 0} (G : Sections S P) (count i : ℕ) (s : S) (good at : ℕ) (rest : List ℕ) → count ≤ i → run G 0 s good at rest ≡ run G (count - i) s good at rest
 last_count G count i s good at rest le =
     let none : 0 ≡ count - i = omega arith in

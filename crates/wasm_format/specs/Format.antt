@@ -152,11 +152,11 @@ spanned put F = record {
   write = λ b. [];
 }
 
--- tags, and a value behind them
+-- tags, and a value after them
 abbrev pub behind : {A : Type 0} → List ℕ → Format A → Format A
 behind tags F = image (λ p. p.1) (λ a. (tt, a)) (both (literal {A = Unit {0}} tags tt) F)
 
--- a value, and tags behind it
+-- a value, and tags after it
 abbrev pub closed_by : {A : Type 0} → List ℕ → Format A → Format A
 closed_by tags F = image (λ p. p.0) (λ a. (a, tt)) (both F (literal {A = Unit {0}} tags tt))
 
@@ -241,6 +241,6 @@ anything = record {
   write = λ a. a;
 }
 
--- a length, and so many bytes of text in UTF-8
+-- a length, and that many bytes of text in UTF-8
 unfoldable pub name : Format (List ℕ)
 name = checked is_utf8 (sized anything)

@@ -37,7 +37,7 @@ after_part good (Err e) f = record { good = good; outcome = Err e }
 abbrev pub good_at : {S P : Type 0} → Sections S P → S → ℕ → ℕ → ℕ
 good_at G s good at = if G.can_end s then at else good
 
--- Reading at most so many sections.
+-- Reading at most that many sections.
 unfoldable pub run : {S P : Type 0} → Sections S P → ℕ → S → ℕ → ℕ → List ℕ → Run S
 run G fuel s good at [] = record { good = good_at G s good at; outcome = if G.can_end s then Ok s else Err Malformed }
 run G zero s good at (b ∷ rest) = record { good = good_at G s good at; outcome = Err Malformed }

@@ -62,7 +62,7 @@ abbrev pub is_variant : (ℕ → Payload → Bool) → PlainValue → Bool
 is_variant test (VariantValue number payload) = test number payload
 is_variant test _ = false
 
--- each bit is that of one of so many flags
+-- each bit is that of one of that many flags
 abbrev pub is_flags : ℕ → PlainValue → Bool
 is_flags n (FlagsValue bits) = nat_lt bits (2 ^ n)
 is_flags n _ = false

@@ -12,11 +12,11 @@ bytes TwoBytes = 2
 bytes FourBytes = 4
 bytes EightBytes = 8
 
--- the bytes of the number of a case, of so many cases
+-- the bytes of the number of a case, of that many cases
 abbrev pub discriminant_size : ℕ → ℕ
 discriminant_size n = if nat_le n 256 then 1 else (if nat_le n 65536 then 2 else 4)
 
--- the bytes of so many flags
+-- the bytes of that many flags
 abbrev pub flags_size : ℕ → ℕ
 flags_size n = if nat_le n 8 then 1 else (if nat_le n 16 then 2 else 4)
 

@@ -20,7 +20,7 @@ fn copy_payload(ty: &Option<Rc<WitType>>) -> Result<Option<Rc<WitType>>, NoMemor
     }
 }
 
-/// An equal type, which shares all its parts. It takes neither memory nor time: the only want is that of one owner more.
+/// An equal type, which shares all its parts. It takes neither memory nor time, and fails only where one owner more can't be counted.
 pub fn copy_type(_alloc: Global, ty: &WitType) -> Result<WitType, NoMemory>
     ensures { IfOk result (λ copy. plain copy ≡ plain ty.now) }
 {

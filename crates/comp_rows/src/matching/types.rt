@@ -1,4 +1,4 @@
-//! Types in words: a form in front of its parts, `own:3` and `borrow:3` for handles of a resource, and labels behind a form of
+//! Types in words: a form in front of its parts, `own:3` and `borrow:3` for handles of a resource, and labels after a form of
 //! their own, as `enum:a,b` or `record:a,b u8 string`.
 
 use crate::spelling::number;
@@ -122,7 +122,7 @@ impl Types {
         self.add(TypeItem::Resource(resource))
     }
 
-    /// The type of a word with something behind a colon.
+    /// The type of a word with something after a colon.
     fn headed(
         &mut self,
         alloc: Global,
@@ -200,7 +200,7 @@ impl Types {
         Ok(value)
     }
 
-    /// The type of a function: the types of its parameters, and behind an arrow that of its result.
+    /// The type of a function: the types of its parameters, and after an arrow that of its result.
     pub fn func(&mut self, alloc: Global, text: &str) -> Result<TypeItem, Fail> {
         let (before, behind) = match text.split_once("->") {
             Some(parts) => parts,

@@ -45,7 +45,7 @@ fn large_instance(alloc: Global) -> Result<Vec<u8>, Fail> {
     Ok(types)
 }
 
-/// So many imports that are described so, under names of four digits.
+/// That many imports that are described so, under names of four digits.
 fn imports_of(alloc: Global, desc: [u8; 2], count: usize) -> Result<Vec<u8>, Fail> {
     let mut imports = Vec::new(alloc);
     put_number(&mut imports, count)?;
@@ -59,7 +59,7 @@ fn imports_of(alloc: Global, desc: [u8; 2], count: usize) -> Result<Vec<u8>, Fai
     Ok(imports)
 }
 
-/// So many types of one byte.
+/// That many types of one byte.
 fn bytes_of(alloc: Global, count: usize) -> Result<Vec<u8>, Fail> {
     let mut types = Vec::new(alloc);
     put_number(&mut types, count)?;
@@ -69,7 +69,7 @@ fn bytes_of(alloc: Global, count: usize) -> Result<Vec<u8>, Fail> {
     Ok(types)
 }
 
-/// A component in which another one with these types, so many such imports and so many types of one byte is instantiated without
+/// A component in which another one with these types, that many such imports and that many types of one byte is instantiated without
 /// arguments.
 fn given_nothing(
     alloc: Global,
@@ -121,7 +121,7 @@ fn value_types_are_one_step(rt: HostRuntime) -> Result<(), Fail> {
     Ok(())
 }
 
-/// A record type of one byte, under a name of so many letters: a word of Thue and Morse, or that with its two letters turned.
+/// A record type of one byte, under a name of that many letters: a word of Thue and Morse, or that with its two letters turned.
 fn put_record(out: &mut Vec<u8>, letters: usize, turned: u32) -> Result<(), Fail> {
     out.extend_from_slice(&[0x72, 1])?;
     put_number(out, letters)?;

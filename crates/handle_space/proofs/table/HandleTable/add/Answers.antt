@@ -6,7 +6,7 @@ use Rattle.handle_space.specs.Shown.{IsSound}
 use Rattle.handle_space.proofs.Cells.{first_read, sound-reuse, reuse_added}
 use Rattle.handle_space.proofs.table.HandleTable.add.Goals as goal
 
--- want of memory is no full table
+-- out of memory is no full table
 no_memory : (r : Result ℕ AddFault) → IsErrAnd r (λ fault. fault ≡ NoMemory) → IsErrOf r Full → ⊥
 no_memory (Ok index) memory full = cc
 no_memory (Err fault) memory full = cc
