@@ -20,29 +20,29 @@ pub fn answer(alloc: Global, bytes: &[u8]) -> Result<String, Fail> {
 
 const ROWS: &str = "\
 # Two empty components, each with its instance
-nothing around them: 04080061736d0d00010005040100000004080061736d0d000100050401000100 => joins
-an instance with an argument: 04080061736d0d0001000508010000010161050004080061736d0d000100050401000100 => joins
-an import before, an alias between, an export after: 070501400001000a0601000166010004080061736d0d000100050401000000060601010000016704080061736d0d0001000504010001000b0701000167010100 => joins
-an outer alias of a type: 04080061736d0d0001000504010000000605010302000004080061736d0d000100050401000100 => joins
-an instance type that exports a resource: 070901420104000172030104080061736d0d00010005040100000004080061736d0d000100050401000100 => joins
+nothing around them: `empty-component``instance-of-0``empty-component``instance-of-1` => joins
+an instance with an argument: `empty-component`05080100000101610500`empty-component``instance-of-1` => joins
+an import before, an alias between, an export after: `function-type``import-f``empty-component``instance-of-0`0606010100000167`empty-component``instance-of-1`0b0701000167010100 => joins
+an outer alias of a type: `empty-component``instance-of-0`06050103020000`empty-component``instance-of-1` => joins
+an instance type that exports a resource: 0709014201040001720301`empty-component``instance-of-0``empty-component``instance-of-1` => joins
 # One too few, and one too many
 whole 0061736d0d000100 => does not
-04080061736d0d000100050401000000 => does not
-04080061736d0d00010005040100000004080061736d0d000100 => does not
-04080061736d0d00010004080061736d0d000100050401000100 => does not
-04080061736d0d00010005040100000004080061736d0d00010005040100010004080061736d0d000100 => does not
+`empty-component``instance-of-0` => does not
+`empty-component``instance-of-0``empty-component` => does not
+`empty-component``empty-component``instance-of-1` => does not
+`empty-component``instance-of-0``empty-component``instance-of-1``empty-component` => does not
 # Instances
-the first of the second: 04080061736d0d00010005040100010004080061736d0d000100050401000100 => does not
-the second of the first: 04080061736d0d00010005040100000004080061736d0d000100050401000000 => does not
-two at once: 04080061736d0d00010005070200000000000004080061736d0d000100050401000100 => does not
-one of items: 04080061736d0d000100050301010004080061736d0d000100050401000100 => does not
+the first of the second: `empty-component``instance-of-1``empty-component``instance-of-1` => does not
+the second of the first: `empty-component``instance-of-0``empty-component``instance-of-0` => does not
+two at once: `empty-component`050702000000000000`empty-component``instance-of-1` => does not
+one of items: `empty-component`0503010100`empty-component``instance-of-1` => does not
 # Sections that make something
-a resource: 0704013f7f0004080061736d0d00010005040100000004080061736d0d000100050401000100 => does not
-an outer alias of a component: 04080061736d0d0001000504010000000605010402000004080061736d0d000100050401000100 => does not
-an alias of a core item: 04080061736d0d00010005040100000006070100000100016604080061736d0d000100050401000100 => does not
-a module: 01080061736d0100000004080061736d0d00010005040100000004080061736d0d000100050401000100 => does not
-a custom section: 000301610504080061736d0d00010005040100000004080061736d0d000100050401000100 => does not
-an instance of items between: 04080061736d0d0001000504010000000508010101000166010004080061736d0d000100050401000100 => does not";
+a resource: `resource``empty-component``instance-of-0``empty-component``instance-of-1` => does not
+an outer alias of a component: `empty-component``instance-of-0`06050104020000`empty-component``instance-of-1` => does not
+an alias of a core item: `empty-component``instance-of-0``alias-of-f``empty-component``instance-of-1` => does not
+a module: `empty-module``empty-component``instance-of-0``empty-component``instance-of-1` => does not
+a custom section: 0003016105`empty-component``instance-of-0``empty-component``instance-of-1` => does not
+an instance of items between: `empty-component``instance-of-0`05080101010001660100`empty-component``instance-of-1` => does not";
 
 #[test]
 fn components_join_two_others(rt: HostRuntime) -> Result<(), Fail> {

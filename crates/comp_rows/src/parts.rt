@@ -70,7 +70,7 @@ const ROWS: &str = "\
 # The declarations of an instance type follow it in the list
 types 2 => read; types instance 1 instance 1 other
 # What is nested stands with the part of the input that spells it; of a custom section the part behind its size is kept
-000301610501080061736d01000000040b0061736d0d000100000100 => read; custom 10 13; module 15 23; nested 25 36 with 35 36";
+0003016105`empty-module`040b0061736d0d000100000100 => read; custom 10 13; module 15 23; nested 25 36 with 35 36";
 
 #[test]
 fn parts_of_components(rt: HostRuntime) -> Result<(), Fail> {

@@ -58,19 +58,19 @@ pub fn code(alloc: Global, bytes: &[u8]) -> Result<String, Fail> {
 const ROWS: &str = "\
 # What runs
 nothing: whole 0061736d0d000100 => runs
-a function: 01220061736d010000000105016000017f03020100070501016600000a0601040041070b0204010000000607010000010001660705014000007908060100000000000b0701000166010000 => runs
+a function: `core-f``function-type-u32``lift``export-f` => runs
 an import of an instance of a function: 070e01420201400000790400016601000a0a010005613a622f630500 => runs
 # Reading is asked before validity, and validity before imports and exports
-a float instruction: 01230061736d010000000105016000017f03020100070501016600000a070105004107920b020401000000 => unsupported at 43 byte 92
+a float instruction: 01230061736d010000000105016000017f03020100070501016600000a070105004107920b`instance-of-module` => unsupported at 43 byte 92
 a section whose size passes the end: 01220061736d => malformed at 8
 a body of another type: 01220061736d010000000105016000017f03020100070501016600000a0601040042070b => rule 1 in section 0
-an invalid section behind an import of a function: 070501400000790a06010001660100050401000000 => rule 3 in section 2
+an invalid section behind an import of a function: `function-type-u32``import-f``instance-of-0` => rule 3 in section 2
 # Imports and exports
-an import of a function: 070501400000790a06010001660100 => unlisted f
+an import of a function: `function-type-u32``import-f` => unlisted f
 an instance in an imported instance: 070c0142020142000400016905000a0a010005613a622f630500 => unlisted a:b/c
 an import that is met, and one that is not: 07120242020140000079040001660100400000790a0f020005613a622f6305000001660101 => unlisted f
-an export of a resource: 0704013f7f000b0701000172030000 => handle-export r
-an import that is not met, and an export of a resource: 070802400000793f7f000a060100016601000b0701000172030100 => unlisted f
+an export of a resource: `resource`0b0701000172030000 => handle-export r
+an import that is not met, and an export of a resource: 070802400000793f7f00`import-f`0b0701000172030100 => unlisted f
 # Components in one another
 in 99 others: around 99 0061736d0d000100 => runs
 in 100 others: around 100 0061736d0d000100 => over nesting 101";
@@ -83,9 +83,9 @@ fn components_are_run(rt: HostRuntime) -> Result<(), Fail> {
 /// What stands after the size of a code section counts, of all modules at any depth.
 const SIZES: &str = "\
 nothing: whole 0061736d0d000100 => 0
-a function: 01220061736d010000000105016000017f03020100070501016600000a0601040041070b0204010000000607010000010001660705014000007908060100000000000b0701000166010000 => 6
-a component that holds two: 04530061736d0d00010001220061736d010000000105016000017f03020100070501016600000a0601040041070b0204010000000607010000010001660705014000007908060100000000000b070100016601000001220061736d010000000105016000017f03020100070501016600000a0601040041070b0204010000000607010000010001660705014000007908060100000000000b0701000166010000 => 12
-a module without code: 01080061736d01000000 => 0
+a function: `core-f``function-type-u32``lift``export-f` => 6
+a component that holds two: 04530061736d0d00010001220061736d010000000105016000017f03020100070501016600000a0601040041070b0204010000000607010000010001660705014000007908060100000000000b0701000166010000`core-f``function-type-u32``lift``export-f` => 12
+a module without code: `empty-module` => 0
 a module with a section that is none of code: 010c0061736d0100000000020161 => 0";
 
 #[test]

@@ -1,7 +1,9 @@
-//! How rows spell components: hexadecimal digits are its sections; after `whole` they are all of its bytes, and after `around` and a
-//! number the bytes that as many components hold, the one in the other. `types` and a number is a section of as many instance types
-//! in one another, around a `bool`, and `front` and a number as many bytes at the front of the component of `SEVEN`.
+//! How rows spell components: hexadecimal digits are its sections, and a name between two back quotes is a piece of them; after
+//! `whole` they are all of its bytes, and after `around` and a number the bytes that as many components hold, the one in the other.
+//! `types` and a number is a section of as many instance types in one another, around a `bool`, and `front` and a number as many
+//! bytes at the front of the component of `SEVEN`.
 
+use crate::pieces::piece_named;
 use std::alloc::Global;
 use std::test::Fail;
 use virt_base::write_u32;
@@ -18,8 +20,27 @@ pub fn number(word: &str) -> Result<u32, Fail> {
     }
 }
 
+/// Digits in which a name between two back quotes stands for those of its piece.
+fn written_out(alloc: Global, text: &str) -> Result<String, Fail> {
+    let mut all = String::new(alloc);
+    let mut is_name = false;
+    for part in text.split('`') {
+        let digits = if is_name {
+            piece_named(part)
+        } else {
+            Some(part)
+        };
+        let Some(digits) = digits else {
+            return Err(Fail::from("no such piece"));
+        };
+        all.push_str(digits)?;
+        is_name = !is_name;
+    }
+    Ok(all)
+}
+
 fn digits(alloc: Global, text: &str) -> Result<Vec<u8>, Fail> {
-    Ok(hex::decode(alloc, text.as_bytes())?)
+    Ok(hex::decode(alloc, written_out(alloc, text)?.as_str().as_bytes())?)
 }
 
 /// What a component begins with, and after it these bytes.

@@ -7,32 +7,32 @@ use std::test::Fail;
 const ROWS: &str = "\
 # Modules and components in the component: rules 1 and 2
 a body of another type: 011b0061736d010000000105016000017f030201000a0601040042070b => rule 1 in section 0
-a body of its type: 01220061736d010000000105016000017f03020100070501016600000a0601040041070b => valid
-a faulty section of a component in it: 04080061736d0d000100040d0061736d0d0001000703017000 => rule 2 in section 1
+a body of its type: `module-of-f` => valid
+a faulty section of a component in it: `empty-component`040d0061736d0d0001000703017000 => rule 2 in section 1
 components in it, the one in the other: 04160061736d0d00010004080061736d0d00010007020179 => valid
 # Indexes: rule 3
-a lift to a type that is not there: 01220061736d010000000105016000017f03020100070501016600000a0601040041070b020401000000060701000001000166070501400000790806010000000001 => rule 3 in section 4
-a lift to a type that is there: 01220061736d010000000105016000017f03020100070501016600000a0601040041070b020401000000060701000001000166070501400000790806010000000000 => valid
+a lift to a type that is not there: `core-f``function-type-u32`0806010000000001 => rule 3 in section 4
+a lift to a type that is there: `core-f``function-type-u32``lift` => valid
 a repeated label beside an index that is not there: 0709017202016100016179 => rule 3 in section 0
 # Arguments of modules: rules 4 and 5
-no argument for an import: 01180061736d010000000105016000017f020701016101660000020401000000 => rule 4 in section 1
-an argument that exports no such item: 01180061736d010000000105016000017f020701016101660000020a02010000000101611200 => rule 4 in section 1
-an argument: 01180061736d010000000105016000017f02070101610166000001220061736d010000000105016000017f03020100070501016600000a0601040041070b020b0200010000000101611200 => valid
-an argument of another type: 01180061736d010000000105016000017f020701016101660000011f0061736d0100000001040160000003020100070501016600000a040102000b020b0200010000000101611200 => rule 5 in section 2
+no argument for an import: `module-without-f``instance-of-module` => rule 4 in section 1
+an argument that exports no such item: `module-without-f`020a02010000000101611200 => rule 4 in section 1
+an argument: `module-without-f``module-of-f`020b0200010000000101611200 => valid
+an argument of another type: `module-without-f`011f0061736d0100000001040160000003020100070501016600000a040102000b020b0200010000000101611200 => rule 5 in section 2
 # Names of items that are made together: rule 6
-a name twice among core items: 01220061736d010000000105016000017f03020100070501016600000a0601040041070b020401000000060701000001000166020b0101020166000001660000 => rule 6 in section 3
-names of core items in another case: 01220061736d010000000105016000017f03020100070501016600000a0601040041070b020401000000060701000001000166020b0101020166000001460000 => valid
-a name of an instance in another case: 070501400001000a06010001670100050d01010200016601000001460100 => rule 6 in section 2
+a name twice among core items: `core-f`020b0101020166000001660000 => rule 6 in section 3
+names of core items in another case: `core-f`020b0101020166000001460000 => valid
+a name of an instance in another case: `function-type``import-g`050d01010200016601000001460100 => rule 6 in section 2
 # Aliases of exports: rule 7
-an alias of what is not exported: 01220061736d010000000105016000017f03020100070501016600000a0601040041070b020401000000060701000001000167 => rule 7 in section 2
-an alias of another sort: 01220061736d010000000105016000017f03020100070501016600000a0601040041070b020401000000060701000201000166 => rule 7 in section 2
-an alias of a type that is a function: 070501400001000a06010001670100050801010100016601000606010300000166 => rule 7 in section 3
-an alias of a function: 070501400001000a06010001670100050801010100016601000606010100000166 => valid
+an alias of what is not exported: `module-of-f``instance-of-module`060701000001000167 => rule 7 in section 2
+an alias of another sort: `module-of-f``instance-of-module`060701000201000166 => rule 7 in section 2
+an alias of a type that is a function: `function-type``import-g`050801010100016601000606010300000166 => rule 7 in section 3
+an alias of a function: `function-type``import-g`050801010100016601000606010100000166 => valid
 # Outer aliases: rule 8
 an outer alias beyond the outermost component: 0702017906050103020100 => rule 8 in section 1
 an outer alias of a scope that is there, with an index that is not: 0702017906050103020001 => rule 3 in section 1
 an outer alias of its own scope: 0702017906050103020000 => valid
-an outer alias that carries a resource out: 0704013f7f00040f0061736d0d00010006050103020100 => rule 2 in section 1
+an outer alias that carries a resource out: `resource`040f0061736d0d00010006050103020100 => rule 2 in section 1
 an outer alias of a type that names no resource: 07020179040f0061736d0d00010006050103020100 => valid
 an outer alias of a resource in an instance type: 0712023f7f004202020302010004000172030000 => valid
 an import of the resource of the component: 070d033f7f006900400101780101000a06010001660102 => rule 8 in section 1
@@ -59,20 +59,20 @@ a parameter in another case: 070b0140020178790158790100 => rule 13 in section 0
 a resource that an instance type defines: 0707014201013f7f00 => rule 14 in section 0
 a destructor in an instance type: 0708014201013f7f0100 => rule 3 in section 0
 # Destructors: rule 14, and declared names: rule 15
-a destructor that gives a number: 01220061736d010000000105016000017f03020100070501016600000a0601040041070b0204010000000607010000010001660705013f7f0100 => rule 14 in section 3
-a destructor: 01200061736d0100000001050160017f0003020100070501016600000a040102000b0204010000000607010000010001660705013f7f0100 => valid
+a destructor that gives a number: `core-f`0705013f7f0100 => rule 14 in section 3
+a destructor: `module-with-destructor``instance-of-module``alias-of-f`0705013f7f0100 => valid
 a declared name in another case: 070f014202040001610301040001410301 => rule 15 in section 0
 a declared name twice, and behind it an index that is not there: 0712014203040001610301040001610301017009 => rule 15 in section 0
 declared names: 070f014202040001610301040001620301 => valid
 # Lifted functions: rules 16 and 17
-a lift to a function of another core type: 01220061736d010000000105016000017f03020100070501016600000a0601040041070b020401000000060701000001000166070801400101787900790806010000000000 => rule 16 in section 4
-an option twice: 01220061736d010000000105016000017f03020100070501016600000a0601040041070b0204010000000607010000010001660705014000007908080100000002000000 => rule 17 in section 4
-an option once: 01220061736d010000000105016000017f03020100070501016600000a0601040041070b02040100000006070100000100016607050140000079080701000000010000 => valid
-a string without a memory: 01220061736d010000000105016000017f03020100070501016600000a0601040041070b020401000000060701000001000166070501400000730806010000000000 => rule 17 in section 4
-a post-return with a result: 01220061736d010000000105016000017f03020100070501016600000a0601040041070b0204010000000607010000010001660705014000007908080100000001050000 => rule 17 in section 4
+a lift to a function of another core type: `core-f`07080140010178790079`lift` => rule 16 in section 4
+an option twice: `core-f``function-type-u32`08080100000002000000 => rule 17 in section 4
+an option once: `core-f``function-type-u32`080701000000010000 => valid
+a string without a memory: `core-f`07050140000073`lift` => rule 17 in section 4
+a post-return with a result: `core-f``function-type-u32`08080100000001050000 => rule 17 in section 4
 # Resources of others: rule 18, and names: rules 19 and 20
-resource.new of an imported resource: 0a060100017203010803010200 => rule 18 in section 1
-resource.new of a resource of the component: 0704013f7f000803010200 => valid
+resource.new of an imported resource: `import-r`0803010200 => rule 18 in section 1
+resource.new of a resource of the component: `resource`0803010200 => valid
 an imported name in another case: 0a0b0200016103010001410301 => rule 19 in section 0
 imported names: 0a0b0200016103010001620301 => valid
 a name with an underscore: 0a08010003615f620301 => rule 20 in section 0
@@ -80,14 +80,14 @@ a label with an underscore: 070801720103615f6279 => rule 20 in section 0
 # Exports: rules 21 and 22
 an exported name in another case: 070201790b0d02000161030000000141030000 => rule 21 in section 1
 exported names: 070201790b0d02000161030000000162030000 => valid
-a stated type of another function: 07090240000100400000790a060100016601000b09010001670100010101 => rule 22 in section 2
-a stated type: 07090240000100400001000a060100016601000b09010001670100010101 => valid
+a stated type of another function: 0709024000010040000079`import-f`0b09010001670100010101 => rule 22 in section 2
+a stated type: 0709024000010040000100`import-f`0b09010001670100010101 => valid
 # Arguments of components: rule 23, and annotated names: rule 24
 an argument that lacks an export: 04200061736d0d000100070e01420201400001000400016601000a06010001690500050301010005080100000101690500 => rule 23 in section 2
-an argument that has it: 04200061736d0d000100070e01420201400001000400016601000a06010001690500070501400001000a060100016701000508010101000166010005080100000101690500 => valid
-a method of a resource that does not stand before it: 0a06010001720301070d02680040010473656c660101000a1001000b5b6d6574686f645d732e660102 => rule 24 in section 2
-a method: 0a06010001720301070d02680040010473656c660101000a1001000b5b6d6574686f645d722e660102 => valid
-a method that takes the resource: 0a06010001720301070d02690040010473656c660101000a1001000b5b6d6574686f645d722e660102 => rule 24 in section 2";
+an argument that has it: 04200061736d0d000100070e01420201400001000400016601000a06010001690500`function-type``import-g`0508010101000166010005080100000101690500 => valid
+a method of a resource that does not stand before it: `import-r`070d02680040010473656c660101000a1001000b5b6d6574686f645d732e660102 => rule 24 in section 2
+a method: `import-r`070d02680040010473656c660101000a1001000b5b6d6574686f645d722e660102 => valid
+a method that takes the resource: `import-r`070d02690040010473656c660101000a1001000b5b6d6574686f645d722e660102 => rule 24 in section 2";
 
 #[test]
 fn each_rule(rt: HostRuntime) -> Result<(), Fail> {
