@@ -20,8 +20,12 @@ abbrev pub import_names : Entries → List Named
 import_names End = []
 import_names (More name item rest) = (name, names_of item) ∷ import_names rest
 
--- these imports are of listed interfaces, so that each name in them is of the listed type, and they are those that are needed
-pub record AreNeeded (p : Policy) (uses : List ListedUse) (imports : Entries) : Type 0 where
+-- these imports are of listed interfaces, so that each name in them is of the listed type, and they have these names
+pub record AreListedBy (names : List Named) (imports : Entries) : Type 0 where
   pub taken : List ListedUse
   pub listed : AreListed imports taken
-  pub named : import_names imports ≡ needed_names p uses
+  pub named : import_names imports ≡ names
+
+-- these imports are those that are needed
+abbrev pub AreNeeded : Policy → List ListedUse → Entries → Type 0
+AreNeeded p uses imports = AreListedBy (needed_names p uses) imports

@@ -4,15 +4,14 @@ ghost use Rattle.std.specs.Prelude.{◌≡◌, ◌++◌, IfOk, OnOk, IsTrue, map
 ghost use Rattle.comp_types.specs.Views.{item_of, entries_of};
 ghost use Rattle.comp_signature.specs.Signatures.{component_signature};
 ghost use Rattle.adapter_world.specs.Names.{named};
-ghost use Rattle.adapter_world.specs.Imports.{AreNeeded, import_names, names_in, names_of};
+ghost use Rattle.adapter_world.specs.Imports.{AreListedBy, import_names, names_in, names_of};
 
-use crate::needs::{NeededInterface, needs_of};
+use crate::needs::NeededInterface;
 use comp_signature::ComponentType;
 use comp_types::{InstanceEntry, ItemType};
-use policy_data::Policy;
 use std::alloc::Global;
 use virt_base::{Items, NoMemory, Text};
-use wasi_match::{Listed, MatchFault, match_imports};
+use wasi_match::{MatchFault, match_imports};
 use wit_types::Labels;
 
 fn push_copies(alloc: Global, names: &[Text], all: &mut Labels) -> Result<(), NoMemory>
@@ -89,22 +88,18 @@ fn are_imports(
     Ok(true)
 }
 
-/// Whether the imports of an output, or of an adapter, are exactly those that are needed for an application with these imports. What
-/// it exports does not matter.
+/// Whether the imports of an output, or of an adapter, are exactly those that are needed, with the listed types. What it exports does
+/// not matter.
 pub fn are_needed(
     alloc: Global,
-    policy: &Policy,
-    listed: &Listed,
+    needed: &[NeededInterface],
     out: &ComponentType,
 ) -> Result<bool, NoMemory>
-    ensures { IfOk result (λ good. IsTrue good → AreNeeded policy.now listed.now.uses (component_signature out.now).imports) }
+    ensures { IfOk result (λ good. IsTrue good → AreListedBy (map named needed.now) (component_signature out.now).imports) }
 {
-    let needs = needs_of(alloc, policy, listed.uses.as_slice())?;
     match match_imports(alloc, out) {
-        Ok(_) => are_imports(alloc, out.imports.as_slice(), needs.interfaces.as_slice()),
-        Err(MatchFault::HandleExport(_)) => {
-            are_imports(alloc, out.imports.as_slice(), needs.interfaces.as_slice())
-        }
+        Ok(_) => are_imports(alloc, out.imports.as_slice(), needed),
+        Err(MatchFault::HandleExport(_)) => are_imports(alloc, out.imports.as_slice(), needed),
         Err(MatchFault::NoMemory) => Err(NoMemory),
         Err(MatchFault::Unlisted(_)) => Ok(false),
         Err(MatchFault::WrongType(_)) => Ok(false),

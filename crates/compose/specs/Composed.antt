@@ -10,14 +10,14 @@ use Rattle.output_same.specs.Holding.{components_in}
 use Rattle.comp_joined.specs.Form.{IsJoining}
 use Rattle.policy_data.specs.declared.policy.Policy.{Policy}
 use Rattle.wasi_match.specs.declared.listed.ListedUse.{ListedUse}
-use Rattle.adapter_world.specs.Names.{needed_count}
-use Rattle.adapter_world.specs.Imports.{AreNeeded}
+use Rattle.adapter_world.specs.Names.{Named, needed_count, needed_names}
+use Rattle.adapter_world.specs.Imports.{AreListedBy, AreNeeded}
 use Rattle.compose.specs.declared.composed.Composed.{Composed}
 
--- an adapter: valid by itself, it imports what is needed, and nothing else
-pub record IsAdapter (policy : Policy) (uses : List ListedUse) (adapter : Tree) : Type 0 where
+-- an adapter: valid by itself, it imports what is needed, by these names, and nothing else
+pub record IsAdapter (names : List Named) (adapter : Tree) : Type 0 where
   pub valid : IsValidComponent adapter
-  pub imports : AreNeeded policy uses (type_of adapter).imports
+  pub imports : AreListedBy names (type_of adapter).imports
 
 -- The bytes before and after an application of that many bytes, which imports these interfaces and exports these entries, make an
 -- output of it under the policy.
@@ -30,7 +30,7 @@ pub record IsComposed (policy : Policy) (app : Tree) (uses : List ListedUse) (ex
   pub exports : (type_of output).exports ≡ exported
   -- two components stand at the outermost level, the adapter and the application, in whose section are its bytes alone
   pub adapter : Tree
-  pub right : IsAdapter policy uses adapter
+  pub right : IsAdapter (needed_names policy uses) adapter
   pub components : components_in output ≡ adapter ∷ app ∷ []
   -- it makes an instance of each, and its own sections make nothing
   pub joins : IsJoining adapter app output

@@ -1,10 +1,10 @@
 //! An output is put together of a policy and an application: the adapter and the sections around both are made, and what was made is
 //! checked.
 
-ghost use Rattle.std.specs.Prelude.{◌≡◌, IfOk};
+ghost use Rattle.std.specs.Prelude.{◌≡◌, IfOk, map};
 ghost use Rattle.tree_table.specs.Trees.{AreTrees};
 ghost use Rattle.comp_grammar.specs.Trees.{plain};
-ghost use Rattle.adapter_world.specs.Names.{needed_count};
+ghost use Rattle.adapter_world.specs.Names.{named, needed_count, needed_names};
 ghost use Rattle.compose.specs.Composed.{IsComposed};
 ghost use Rattle.compose.specs.Assembled.{HasAdapter, IsMade};
 
@@ -13,7 +13,7 @@ use crate::composed::Composed;
 use crate::fault::{ComposeFault, of_emit, of_piece};
 use adapter_bytes::{EmittedBytes, Routines, emit_bytes};
 use adapter_rows::{RowsFault, is_sound, rows_for};
-use adapter_world::{World, world_of};
+use adapter_world::{Needs, World, world_of};
 use comp_pair::{Assembled, Front, assemble, front_of};
 use comp_signature::ComponentType;
 use comp_types::InstanceEntries;
@@ -140,17 +140,17 @@ fn parts(
     alloc: Global,
     policy: &Policy,
     trees: &Trees,
-    listed: &Listed,
     world: &World,
     exports: &InstanceEntries,
 ) -> Result<(Front, Vec<Piece<'static>>), ComposeFault>
     requires { AreTrees trees.now }
-    ensures { IfOk result (λ p. HasAdapter policy.now listed.now.uses p.0) }
+    ensures { IfOk result (λ p. HasAdapter (map named world.now.needs.interfaces) p.0) }
 {
     let catalogue = Catalogue::new(alloc)?;
     let routines = routines_of(alloc, policy, trees, world)?;
     let bytes = adapter_bytes(alloc, &catalogue, world, &routines)?;
-    let component = adapter_in(alloc, policy, listed, bytes.as_slice())?;
+    let needed = world.needs.interfaces.as_slice();
+    let component = adapter_in(alloc, needed, bytes.as_slice())?;
     let Around {
         imports,
         between,
@@ -160,7 +160,7 @@ fn parts(
     Ok((front, behind))
 }
 
-/// The output and its parts, and how many functions of the host it imports.
+/// The output and its parts, and what it is to import.
 #[tactic(auto, using(crate::proofs::AssembleLaws::is_made))]
 fn made(
     alloc: Global,
@@ -170,15 +170,17 @@ fn made(
     ty: &ComponentType,
     listed: &Listed,
     size: u32,
-) -> Result<(Assembled, u32), ComposeFault>
+) -> Result<(Assembled, Needs), ComposeFault>
     requires { AreTrees trees.now }
-    ensures made { IfOk result (λ p. IsMade policy.now listed.now.uses (plain component) size p.0) }
-    ensures count { IfOk result (λ p. p.1 ≡ needed_count policy.now listed.now.uses) }
+    ensures made { IfOk result (λ p. IsMade (map named p.1.interfaces) (plain component) size p.0) }
+    ensures names { IfOk result (λ p. map named p.1.interfaces ≡ needed_names policy.now listed.now.uses) }
+    ensures count { IfOk result (λ p. p.1.functions ≡ needed_count policy.now listed.now.uses) }
 {
     let world = world_of(alloc, policy, listed, ty)?;
-    let (front, behind) = parts(alloc, policy, trees, listed, &world, &ty.exports)?;
+    let (front, behind) = parts(alloc, policy, trees, &world, &ty.exports)?;
     let assembled = assemble(alloc, front, component, size, behind)?;
-    Ok((assembled, world.needs.functions))
+    let World { needs, .. } = world;
+    Ok((assembled, needs))
 }
 
 /// What stands around a listed application of that many bytes: the adapter that gives it what it imports under the policy, joined with
@@ -201,12 +203,13 @@ pub fn compose(
     if size > MOST {
         return Err(ComposeFault::TooLong);
     }
-    let (assembled, needed) = made(alloc, policy, trees, component, ty, listed, size as u32)?;
-    check(alloc, policy, listed, &ty.exports, &assembled.whole)?;
+    let (assembled, needs) = made(alloc, policy, trees, component, ty, listed, size as u32)?;
+    let needed = needs.interfaces.as_slice();
+    check(alloc, needed, &ty.exports, &assembled.whole)?;
     let Assembled { front, back, .. } = assembled;
     Ok(Composed {
         front,
         back,
-        needed,
+        needed: needs.functions,
     })
 }

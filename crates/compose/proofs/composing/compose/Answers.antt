@@ -1,7 +1,20 @@
+use Rattle.std.proofs.Common.{subst, List}
 use Rattle.comp_grammar.specs.Trees.{plain}
+use Rattle.adapter_world.specs.Names.{Named}
+use Rattle.compose.specs.Assembled.{IsMade, IsRight}
 use Rattle.compose.proofs.AssembleLaws.{is_composed}
 use Rattle.compose.proofs.composing.compose.Goals as goal
 
 pub returns : goal.returns
 returns c =
-    is_composed c.args.policy.now c.args.listed.now.uses (plain c.args.component) c.args.ty.now.exports c.args.size c.in_ok-assembled.needed c.in_ok-assembled.assembled c.in_ok-assembled.ensures.made c.in_ok-check.ensures c.in_ok-assembled.ensures.count
+    let policy = c.args.policy.now in
+    let uses = c.args.listed.now.uses in
+    let app = plain c.args.component in
+    let exported = c.args.ty.now.exports in
+    let size = c.args.size in
+    let a = c.in_ok-assembled.assembled in
+    let named_so = c.in_ok-assembled.ensures.names in
+    is_composed policy uses app exported size c.in_ok-assembled.needs.functions a
+    (subst (λ (names : List Named). IsMade names app size a) named_so c.in_ok-assembled.ensures.made)
+    (subst (λ (names : List Named). IsRight names exported (plain a.whole)) named_so c.in_ok-check.ensures)
+    c.in_ok-assembled.ensures.count
