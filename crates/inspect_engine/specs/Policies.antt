@@ -9,7 +9,7 @@ use Rattle.component_judge.specs.declared.unready.Unready.{Unready}
 use Rattle.component_judge.specs.declared.unready.Unready.TheVariants as unready
 use Rattle.component_judge.specs.declared.refusal.Refusal.TheVariants as refusals
 use Rattle.component_judge.specs.Fetching.{Cause, RefusesNone}
-use Rattle.inspect_engine.specs.declared.status.PolicyFault.TheVariants.{NotToml, BadKey, BadValue, BadName}
+use Rattle.virt_words.specs.declared.policy_fault.PolicyFault.TheVariants.{NotToml, BadKey, BadValue, BadName}
 use Rattle.inspect_engine.specs.declared.status.Status.{Status}
 use Rattle.inspect_engine.specs.declared.status.Status.TheVariants.{PolicyRefused, ComponentRefused, FileFault, OverLimit, NoMemory}
 

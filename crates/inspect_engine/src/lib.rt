@@ -18,4 +18,4 @@ pub use engine::wasi_inspect;
 pub use fate::Fate;
 pub use report::report_for;
 pub use rows::{Row, Rows, rows_for};
-pub use status::{PolicyFault, Status, code};
+pub use status::{Status, code};

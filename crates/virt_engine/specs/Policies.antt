@@ -10,7 +10,7 @@ use Rattle.policy_data.specs.declared.fault.ReadPolicyFault.TheVariants as fault
 use Rattle.policy_data.specs.declared.policy.Policy.{Policy}
 use Rattle.policy_data.specs.Limits.{KeepsLimits}
 use Rattle.policy_toml.specs.Policy.{policy_of, IsWellFormed}
-use Rattle.virt_engine.specs.declared.status.PolicyFault.TheVariants.{NotToml, BadKey, BadValue, BadName}
+use Rattle.virt_words.specs.declared.policy_fault.PolicyFault.TheVariants.{NotToml, BadKey, BadValue, BadName}
 use Rattle.virt_engine.specs.declared.status.Status.{Status}
 use Rattle.virt_engine.specs.declared.status.Status.TheVariants.{PolicyRefused, FileFault, OverLimit, NoMemory}
 use Rattle.virt_engine.specs.Fetching.{with_input, IsFileFault}

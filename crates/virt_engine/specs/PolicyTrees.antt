@@ -11,7 +11,7 @@ use Rattle.mount_tree.specs.Building.{trees_due}
 use Rattle.mount_tree.specs.Ordered.{AreOrdered}
 use Rattle.mount_tree.specs.Woods.{AreBuilt}
 use Rattle.tree_table.specs.declared.entries.NamedTree.{NamedTree}
-use Rattle.virt_engine.specs.declared.status.PolicyFault.TheVariants.{BadName}
+use Rattle.virt_words.specs.declared.policy_fault.PolicyFault.TheVariants.{BadName}
 use Rattle.virt_engine.specs.declared.status.Status.{Status}
 use Rattle.virt_engine.specs.declared.status.Status.TheVariants.{Done, PolicyRefused, FileFault, OverLimit, NoMemory}
 use Rattle.virt_engine.specs.Fetching.{IsFileFault}

@@ -26,5 +26,5 @@ pub use engine::wasi_virt;
 pub use laws::{one_refusal_is_due, one_status_is_due, runs_end_alike};
 pub use lines::Lines;
 pub use runner::{Shown, run_component};
-pub use status::{PlugFault, PolicyFault, Status, code};
+pub use status::{PlugFault, Status, code};
 pub use tally::Tally;

@@ -2,13 +2,14 @@
 
 ghost use Rattle.virt_engine.specs.Policies.{FetchesPolicy, IsRefusedFor, ReadsPolicy};
 
-use crate::status::{PolicyFault, Status};
+use crate::status::Status;
 use component_judge::fetch;
 use outside::Files;
 use policy_data::{Policy, ReadPolicyFault};
 use policy_toml::read_policy;
 use std::alloc::Global;
 use virt_base::Text;
+use virt_words::PolicyFault;
 
 /// A policy has at most this many bytes.
 const POLICY_LIMIT: u64 = 16_777_216;

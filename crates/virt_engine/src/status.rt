@@ -4,19 +4,7 @@ ghost use Rattle.std.specs.Prelude.{◌≡◌};
 ghost use Rattle.virt_engine.specs.Code.{code_of};
 
 use virt_base::{AppFault, NoMemory, Text};
-
-/// Why a policy is refused.
-#[derive(Debug, Drop)]
-pub enum PolicyFault {
-    /// The text is no TOML document.
-    NotToml,
-    /// The key at this path is unknown.
-    BadKey(Text),
-    /// The value at this path is of another type, or not one of those that are known.
-    BadValue(Text),
-    /// The name at this path can't be a file's.
-    BadName(Text),
-}
+use virt_words::PolicyFault;
 
 /// Why two components are not made one.
 #[derive(Debug, Drop)]

@@ -3,12 +3,13 @@
 ghost use Rattle.policy_data.specs.Limits.{KeepsLimits};
 ghost use Rattle.virt_engine.specs.PolicyTrees.{MakesTrees, IsStoppedBy};
 
-use crate::status::{PolicyFault, Status};
+use crate::status::Status;
 use mount_tree::{TreeFault, build};
 use outside::Files;
 use policy_data::Policy;
 use std::alloc::Global;
 use tree_table::Trees;
+use virt_words::PolicyFault;
 
 fn stopped_by(fault: TreeFault) -> Status
     ensures { IsStoppedBy fault result }
