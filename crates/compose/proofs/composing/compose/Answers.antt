@@ -1,6 +1,6 @@
-use Rattle.std.proofs.Common.{subst, List}
+use Rattle.std.proofs.Common.{◌∙◌, ap, subst, List, map}
 use Rattle.comp_grammar.specs.Trees.{plain}
-use Rattle.adapter_world.specs.Names.{Named}
+use Rattle.adapter_world.specs.Names.{Named, named}
 use Rattle.compose.specs.Assembled.{IsMade, IsRight}
 use Rattle.compose.proofs.AssembleLaws.{is_composed}
 use Rattle.compose.proofs.composing.compose.Goals as goal
@@ -16,5 +16,5 @@ returns c =
     let named_so = c.in_ok-assembled.ensures.names in
     is_composed policy uses app exported size c.in_ok-assembled.needs.functions a
     (subst (λ (names : List Named). IsMade names app size a) named_so c.in_ok-assembled.ensures.made)
-    (subst (λ (names : List Named). IsRight names exported (plain a.whole)) named_so c.in_ok-check.ensures)
+    (subst (λ (names : List Named). IsRight names exported (plain a.whole)) (ap (map named) c.as_slice-needed.ensures ∙ named_so) c.in_ok-check.ensures)
     c.in_ok-assembled.ensures.count
