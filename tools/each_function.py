@@ -97,7 +97,7 @@ class Allowed:
         return {"err": {"last-operation-failed": host}}, {"err": {"last-operation-failed": own}}
 
 
-# those that make the first handle of each kind, each behind those that it needs
+# those that make the first handle of each kind, each after those that it needs
 MAKERS = [
     "get-stdin", "get-stdout", "get-stderr", "get-terminal-stdin", "get-terminal-stdout", "get-terminal-stderr", "instance-network",
     "get-directories", "create-tcp-socket", "create-udp-socket", "input-stream-subscribe", "descriptor-read-directory", "udp-socket-stream",

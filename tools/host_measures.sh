@@ -68,7 +68,7 @@ AS("prepare") void prepare(void) {
   for (int i = 0; i < 4; i++) ready[i] = subscribe_duration(i);
 }
 
-// so many more live handles of each kind
+// that many more live handles of each kind
 AS("fill") void fill(uint32_t count) {
   volatile came it;
   for (uint32_t i = 0; i < count; i++) {

@@ -3,13 +3,13 @@
 
 usage: tools/hostile_code.py KIND COUNT OUT
 
-  nested   COUNT blocks of one type with COUNT parameters, behind one another
+  nested   COUNT blocks of one type with COUNT parameters, after one another
   unlike   the same, each block where the parameters of an equal type of another index stand
   results  COUNT functions of a type with COUNT results, each of which calls itself
-  labels   a br_table in dead code, behind half as many operands, with COUNT labels of a type with COUNT results, its default
+  labels   a br_table in dead code, after half as many operands, with COUNT labels of a type with COUNT results, its default
            of another such type
   ending   COUNT times a call that leaves COUNT operands, and one that takes all but the first of them
-  tables   COUNT br_tables in dead code, each behind a call that leaves half as many operands, of two types with COUNT
+  tables   COUNT br_tables in dead code, each after a call that leaves half as many operands, of two types with COUNT
            results that end alike
 """
 import sys

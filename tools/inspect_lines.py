@@ -324,7 +324,7 @@ SOCKET_KINDS = {"network", "resolve-address-stream", "tcp-socket", "udp-socket",
 # ---- the lines
 
 def reached(interface, name, into):
-    """The types behind a name in an interface, through others too."""
+    """The types after a name in an interface, through others too."""
     if (interface.name, name) in into:
         return
     into.add((interface.name, name))

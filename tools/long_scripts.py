@@ -45,7 +45,7 @@ def names(count):
 
 
 def many_exports(count):
-    """A component with so many functions, each of which returns its number."""
+    """A component with that many functions, each of which returns its number."""
     all_names = names(count)
     main = module(functions=[(GIVES, 0, const(n)) for n in range(count)], exports=[(name, 0, n) for n, name in enumerate(all_names)])
     return component(

@@ -101,7 +101,7 @@ cat > indirect.wat <<'END'
     local.get 1))
 END
 
-# The sum's loop, with so many instructions before and behind it that are not run.
+# The sum's loop, with that many instructions before and after it that are not run.
 for count in 100 10000 1000000; do
   {
     echo '(module (func (export "run") (result i32) (local i32 i32) (local.set 0 (i32.const 20000000)) local.get 1 if'

@@ -1,7 +1,7 @@
 #!/usr/bin/env python3
 """Writes components that are one short form over and over, for what reading keeps of them.
 
-usage: tools/memory_forms.py FOLDER [BYTES]: of so many bytes each, 1,000,000 without the number
+usage: tools/memory_forms.py FOLDER [BYTES]: of that many bytes each, 1,000,000 without the number
 """
 
 import sys

@@ -64,7 +64,7 @@ NAMED = ("record", "variant", "enum", "flags")
 # ---- the tables
 
 def read_type(words, known):
-    """The type that begins here, as (form, ..); the words behind it are left."""
+    """The type that begins here, as (form, ..); the words after it are left."""
     word = words.pop(0)
     if word in PRIMS:
         return ("prim", word)
@@ -145,7 +145,7 @@ def resources_in(ty):
 
 
 def named_in(ty):
-    """The types in one that stand under names, each behind those in it."""
+    """The types in one that stand under names, each after those in it."""
     found = [name for inner in parts(ty) for name in named_in(inner)]
     return [*found, ty] if ty is not None and ty[0] in NAMED else found
 
@@ -286,12 +286,12 @@ def typed(params, results):
     return b"\x60" + many([bytes([t]) for t in params]) + many([bytes([t]) for t in results])
 
 
-# the last place, rounded up to 8, is the answer; the next lies behind it
+# the last place, rounded up to 8, is the answer; the next lies after it
 REALLOC = b"\1\1\x7f\x23\0\x41\x07\x6a\x41\x78\x71\x22\4\x20\3\x6a\x24\0\x20\4\x0b"
 
 
 def library(pages):
-    """A memory of so many pages, and a realloc that gives the next place behind 4,096."""
+    """A memory of that many pages, and a realloc that gives the next place after 4,096."""
     return (
         MODULE
         + section(1, many([typed([I32] * 4, [I32])]))

@@ -13,7 +13,7 @@ bin=$(rustc --print sysroot)/lib/rustlib/$(rustc -vV | sed -n 's/^host: //p')/bi
 
 cat >spin.c <<'C'
 #include <stdint.h>
-// so many steps of xorshift
+// that many steps of xorshift
 __attribute__((export_name("spin"))) uint32_t spin(uint32_t rounds) {
   uint32_t x = 2463534242u;
   for (uint32_t i = 0; i < rounds; i++) {

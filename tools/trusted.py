@@ -141,7 +141,7 @@ class Declared:
 
     @staticmethod
     def _end(text, at):
-        """The place behind a declaration: at its semicolon, or behind the brackets that it opens."""
+        """The place after a declaration: at its semicolon, or after the brackets that it opens."""
         depth = 0
         for place in range(at, len(text)):
             if text[place] in "{(":

@@ -45,7 +45,7 @@ class Packages(dict):
 
 
 def cuts(history, length):
-    """Where the list of calls is cut into groups: at each end of a run, and after so many calls."""
+    """Where the list of calls is cut into groups: at each end of a run, and after that many calls."""
     found, since = {0, len(history.steps)} | {at for at, _, _ in history.endings}, 0
     for i in range(len(history.steps)):
         since = 0 if i in found else since + 1

@@ -26,7 +26,7 @@ class Reader:
                 return value
 
     def part(self):
-        """A reader of what its size says; this one goes on behind it."""
+        """A reader of what its size says; this one goes on after it."""
         length = self.number()
         self.at += length
         return Reader(self.content, self.at - length, self.at)

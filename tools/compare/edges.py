@@ -163,7 +163,7 @@ def some_answer(director, key):
 
 
 def tables(director):
-    """Whatever makes handles, over and over, while there are few places; then the same behind drops."""
+    """Whatever makes handles, over and over, while there are few places; then the same after drops."""
     for _ in range(3):
         for key, args in MAKERS:
             there = {it.kind: it for it in director.planner.live}
@@ -182,7 +182,7 @@ KINDS_USED = {"input-stream", "output-stream", "descriptor", "network", "tcp-soc
 
 
 def chains(director):
-    """Chains of 38 to 42 links, followed or not, with and without something behind them."""
+    """Chains of 38 to 42 links, followed or not, with and without something after them."""
     director.call("get-directories")
     root = director.handle("descriptor", "Node")
     for i in range(37, 42):

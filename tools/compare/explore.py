@@ -47,7 +47,7 @@ class Explorer:
             file.write(passes(TABLES, {it.key for it in functions}, drops, PAGES))
 
     def explore(self, calls, batch, endings):
-        """Makes so many calls, some at once."""
+        """Makes that many calls, some at once."""
         again, tries = [], 0
         while len(self.history.steps) < calls and tries < 4 * calls:
             tries += 1
@@ -94,7 +94,7 @@ class Explorer:
         return [(again, self.planner.answers.of(step.function, given) if called else None)]
 
     def revive(self, step):
-        """A drop that wasn't made leaves its handle; so do the drops that were planned behind it."""
+        """A drop that wasn't made leaves its handle; so do the drops that were planned after it."""
         gone = {it.args[0].number for it in self.history.steps if it.function is None}
         self.planner.live = [it for it in self.used if it.number not in gone]
 

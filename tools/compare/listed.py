@@ -109,7 +109,7 @@ def points(ty):
 
 
 def handles_in(ty, value, offset=0):
-    """Each own handle of a value, as its kind, the way to it and its value: the way is a list of offsets, behind each but the last a pointer is followed."""
+    """Each own handle of a value, as its kind, the way to it and its value: the way is a list of offsets, after each but the last a pointer is followed."""
     if ty is None:
         return
     form = ty[0]

@@ -191,7 +191,7 @@ def target(rng, nodes):
 
 
 def add_chain(rng, nodes, length):
-    """Links in a row: the last of `length` names is a chain of so many."""
+    """Links in a row: the last of `length` names is a chain of that many."""
     nodes["end"] = b"end of the chain"
     for i in range(length):
         before = f"k{i - 1}" if i else "end"
