@@ -3,7 +3,7 @@
 
 usage: tools/hostile_code.py KIND COUNT OUT
 
-  nested   COUNT blocks of one type with COUNT parameters, after one another
+  nested   COUNT blocks of one type with COUNT parameters, one after another
   unlike   the same, each block where the parameters of an equal type of another index stand
   results  COUNT functions of a type with COUNT results, each of which calls itself
   labels   a br_table in dead code, after half as many operands, with COUNT labels of a type with COUNT results, its default
