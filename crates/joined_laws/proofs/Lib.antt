@@ -1,2 +1,3 @@
 pub mod Behaving
 pub mod PluggingIn
+pub mod Showing

@@ -24,7 +24,7 @@ use Rattle.joined_laws.specs.Behaves.{GivesBoth, IsValidSpelled}
 use Rattle.joined_laws.specs.PluggedIn.{after_first, IsPluggedIn, PluggedInDoesSame}
 use Rattle.comp_joined.proofs.Naming.{parts_join}
 
-known_below : (ks : List Known) (r : ℕ) → IsKnown ks r → r < behind_known ks
+pub known_below : (ks : List Known) (r : ℕ) → IsKnown ks r → r < behind_known ks
 known_below [] r is = absurd is
 known_below (k ∷ ks) r (inl same) = let le : k.number + 1 ≤ max (k.number + 1) (behind_known ks) = le-max_left (k.number + 1) (behind_known ks) in omega (arith, le, same)
 known_below (k ∷ ks) r (inr is) =
@@ -32,7 +32,7 @@ known_below (k ∷ ks) r (inr is) =
     let le : behind_known ks ≤ max (k.number + 1) (behind_known ks) = le-max_right (k.number + 1) (behind_known ks) in
     omega (arith, le, less)
 
-own_first : (tree : Tree) → first_own tree ≤ behind_own tree
+pub own_first : (tree : Tree) → first_own tree ≤ behind_own tree
 own_first tree = plan_new (plan_of tree) (unmade tree)
 
 -- the first exports it, so it does over the host too

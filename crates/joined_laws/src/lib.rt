@@ -4,5 +4,7 @@
 mod laws;
 
 pub use laws::{
+    joined_components_plugged_by_their_types_do_what_their_parts_do,
     joining_components_do_what_their_parts_do, plugged_in_components_do_what_their_parts_do,
+    what_a_type_exports_is_plugged_in,
 };
