@@ -18,7 +18,7 @@ use Rattle.reference_step.specs.Rules.{passes, given, has_places, fit, Errors, F
 use Rattle.reference_step.specs.State.{Setup, Reference, Row, Traps, Does, view_of}
 use Rattle.reference_step.specs.Steps.{traps, returns, is_heavy, args_weight, entered, made_for, becomes, roots_from, scratch_offer, own_offers, offers, with_folder, by_row, is_folders, is_empty_poll, are_host, asks_host, hosted, virtual, answered, denied, full, with_room, weighed, guarded, calls, lost, dropped, dropped_as, drops, reference_step}
 use Rattle.reference_laws.specs.Closed.{AllowsNothing, Act, Calls, Drops, after, begun, StaysClosed}
-use Rattle.reference_laws.proofs.Free.{IsOwnContent, AreOwnContents, MayBecome, IsFree, row_is_free}
+use Rattle.reference_laws.proofs.Free.{IsOwnContent, AreOwnContents, OwnBecome, IsOwnRow, row_is_own}
 use Rattle.reference_laws.proofs.Handled.{both_true, false_true, takes, gives_handle}
 use Rattle.wit_types.specs.HasType.{are_of}
 
@@ -65,7 +65,7 @@ own_made (c ∷ cs) zero own = own.0
 own_made (c ∷ cs) (suc i) own = own_made cs i own.1
 
 module _ {S : Type 0} (h : HostStep S) where
-  own_becomes : (live : Live) (self : PlainValue) (content : Option Content) → MayBecome content → AreOwn live → AreOwn (becomes h live self content)
+  own_becomes : (live : Live) (self : PlainValue) (content : Option Content) → OwnBecome content → AreOwn live → AreOwn (becomes h live self content)
   own_becomes live self None new own = own
   own_becomes live self (Some content) new own = own_set live _ _ (standing (slice_index_or live _ None) content new) own
 
@@ -111,7 +111,7 @@ module _ {S : Type 0} (h : HostStep S) where
   shut_full r SocketErrors own = shut_returns r _ own
   shut_full r NoErrors own = shut_traps r own
 
-  shut_row : (r : Reference S) (f : Listed) (c : PlainCall) (row : Row) → IsFree row → AreOwn r.live → Shut r [] (λ g. by_row g r f c row)
+  shut_row : (r : Reference S) (f : Listed) (c : PlainCall) (row : Row) → IsOwnRow row → AreOwn r.live → Shut r [] (λ g. by_row g r f c row)
   shut_row r f c Traps free own = shut_traps r own
   shut_row r f c (Does e) free own = record {
     shown = refl;
@@ -137,7 +137,7 @@ module _ {S : Type 0} (h : HostStep S) where
   shut_virtual : (r : Reference S) (f : Listed) (c : PlainCall) → AreOwn r.live → Shut r [] (λ g. virtual g r f c)
   shut_virtual r f c own =
       shut_if r [] (λ g. offers g r [] [] (own_offers g r.setup)) (λ g. by_row g r f c (row_of f.interface f.function.name (view_of r) c.args)) (is_folders h f)
-      (shut_roots r.setup.trees r.setup.policy.fs_scratch 0 r [] own) (shut_row r f c _ (row_is_free f.interface f.function.name (view_of r) c.args) own)
+      (shut_roots r.setup.trees r.setup.policy.fs_scratch 0 r [] own) (shut_row r f c _ (row_is_own f.interface f.function.name (view_of r) c.args) own)
 
   module _ (r : Reference S) (c : PlainCall) (closed : IsClosed r) where
     still_own : AreOwn r.live

@@ -28,7 +28,7 @@ both_true false b e = absurd cc
 pub false_true : {A : Type 0} → false ≡ true → A
 false_true e = absurd cc
 
-one_true : (a b : Bool) → (a || b) ≡ true → (a ≡ true) ⊎ (b ≡ true)
+pub one_true : (a b : Bool) → (a || b) ≡ true → (a ≡ true) ⊎ (b ≡ true)
 one_true true b e = inl refl
 one_true false b e = inr e
 
@@ -81,14 +81,14 @@ all_take (suc (suc (suc (suc (suc (suc (suc (suc (suc (suc (suc (suc (suc (suc (
 all_take (suc (suc (suc (suc (suc (suc (suc (suc (suc (suc (suc (suc (suc (suc (suc (suc (suc (suc (suc (suc (suc (suc (suc (suc (suc (suc (suc i))))))))))))))))))))))))))) h = false_true h
 
 -- what is found passes what all pass
-same_some : {X : Type 0} (x y : X) → Some y ≡ Some x → y ≡ x
+pub same_some : {X : Type 0} (x y : X) → Some y ≡ Some x → y ≡ x
 same_some x y e = cc
 
 found_or_later : {X : Type 0} (T : X → Bool) (x y : X) (later : Option X) (b : Bool) → T y ≡ true → (later ≡ Some x → T x ≡ true) → cond b (Some y) later ≡ Some x → T x ≡ true
 found_or_later T x y later true this rest e = subst (λ z. T z ≡ true) (same_some x y e) this
 found_or_later T x y later false this rest e = rest e
 
-found_passes : {X : Type 0} (T P : X → Bool) (xs : List X) (x : X) → list_all T xs ≡ true → find P xs ≡ Some x → T x ≡ true
+pub found_passes : {X : Type 0} (T P : X → Bool) (xs : List X) (x : X) → list_all T xs ≡ true → find P xs ≡ Some x → T x ≡ true
 found_passes T P [] x all e = absurd cc
 found_passes T P (y ∷ ys) x all e =
     let both = both_true (T y) (list_all T ys) all in
@@ -97,7 +97,7 @@ found_passes T P (y ∷ ys) x all e =
 same_listed : (f g : Listed) → Some f ≡ Some g → f ≡ g
 same_listed f g e = cc
 
-in_interface : (i : ℕ) (g : Option PlainNamedFunc) (f : Listed) → listed_in i g ≡ Some f → (i ≡ f.interface) × (g ≡ Some f.function)
+pub in_interface : (i : ℕ) (g : Option PlainNamedFunc) (f : Listed) → listed_in i g ≡ Some f → (i ≡ f.interface) × (g ≡ Some f.function)
 in_interface i None f e = absurd cc
 in_interface i (Some g) f e = let same = same_listed (record { interface = i; function = g }) f e in (ap (λ (l : Listed). l.interface) same, ap (λ (l : Listed). Some l.function) same)
 
@@ -109,15 +109,15 @@ of_interface name (Some i) f e h =
 
 -- ---- what the policy leaves to the host stands in these interfaces
 
-abbrev Fits : (Name → Access) → Bool → Type 0
+abbrev pub Fits : (Name → Access) → Bool → Type 0
 Fits a b = (name : Name) → is_hosted (a name) ≡ true → b ≡ true
 
-abbrev AllFit : List (Name → Access) → List Bool → Type 0
+abbrev pub AllFit : List (Name → Access) → List Bool → Type 0
 AllFit [] bs = Unit {0}
 AllFit (a ∷ xs) [] = ⊥
 AllFit (a ∷ xs) (b ∷ bs) = Fits a b × AllFit xs bs
 
-fit_at : (xs : List (Name → Access)) (bs : List Bool) (i : ℕ) (name : Name) → AllFit xs bs → is_hosted (slice_index_or xs i (λ f. Denied) name) ≡ true → slice_index_or bs i false ≡ true
+pub fit_at : (xs : List (Name → Access)) (bs : List Bool) (i : ℕ) (name : Name) → AllFit xs bs → is_hosted (slice_index_or xs i (λ f. Denied) name) ≡ true → slice_index_or bs i false ≡ true
 fit_at [] bs i name all h = false_true h
 fit_at (a ∷ xs) [] i name all h = absurd all
 fit_at (a ∷ xs) (b ∷ bs) zero name all h = all.0 name h
