@@ -2,7 +2,9 @@ pub mod Turns
 pub mod Instance
 pub mod Handling
 pub mod Leaving
+pub mod Evaluations
 pub mod Routines
+pub mod Stubs
 pub mod Storing
 pub mod Lifting
 pub mod Dropping

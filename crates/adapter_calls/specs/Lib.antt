@@ -3,6 +3,7 @@ pub mod Turns
 pub mod Handling
 pub mod Leaving
 pub mod Routines
+pub mod Stubs
 pub mod Storing
 pub mod Lifting
 pub mod Dropping

@@ -6,6 +6,7 @@ ghost use Rattle.adapter_calls.specs.Leaving.{PostReturns};
 ghost use Rattle.adapter_calls.specs.Lifting.{LiftsAsTaken};
 ghost use Rattle.adapter_calls.specs.Routines.{RoutinesReturn, RoutinesTrap};
 ghost use Rattle.adapter_calls.specs.Storing.{LowersByArea, StoresByArea};
+ghost use Rattle.adapter_calls.specs.Stubs.{StubsReturn, StubsTrap};
 ghost use Rattle.adapter_calls.specs.Turns.{CalledAsksInTurn, StubAsksInTurn};
 
 use host_port::Host;
@@ -63,4 +64,15 @@ pub fn destructors_drop<H: Host>()
 /// One that traps, or that is refused a handle, traps; the host was told of the handles that it had dropped.
 pub fn routines_trap<H: Host>()
     ensures { RoutinesTrap H.step }
+{}
+
+/// A stub's function that asks no host, and whose routine ends with an answer, gives its flat result and leaves its memory and its handles in
+/// the instance. The host was told, in order, of the handles that it dropped.
+pub fn stubs_return<H: Host>()
+    ensures { StubsReturn H.step }
+{}
+
+/// One whose routine traps, or that is refused a handle, traps; the host was told of the handles that it had dropped.
+pub fn stubs_trap<H: Host>()
+    ensures { StubsTrap H.step }
 {}
