@@ -7,3 +7,4 @@ pub mod Stubs
 pub mod Storing
 pub mod Lifting
 pub mod Dropping
+pub mod Arguments

@@ -1,5 +1,6 @@
 //! The laws, each a function without code whose contract states it.
 
+ghost use Rattle.adapter_calls.specs.Arguments.{LentAreNumbers};
 ghost use Rattle.adapter_calls.specs.Dropping.{DropsByDestructor};
 ghost use Rattle.adapter_calls.specs.Handling.{HandlesAnswer};
 ghost use Rattle.adapter_calls.specs.Leaving.{PostReturns};
@@ -75,4 +76,9 @@ pub fn stubs_return<H: Host>()
 /// One whose routine traps, or that is refused a handle, traps; the host was told of the handles that it had dropped.
 pub fn stubs_trap<H: Host>()
     ensures { StubsTrap H.step }
+{}
+
+/// Arguments whose handles are lent, of resources of the adapter's own, are lowered with what these stand for in their places: no handle enters.
+pub fn lent_handles_are_numbers<H: Host>()
+    ensures { LentAreNumbers H.step }
 {}
