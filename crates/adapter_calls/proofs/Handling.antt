@@ -103,7 +103,7 @@ taken m m' i r rep is = taken_in m m' i rep (entry_of m i r) is
 
 -- ---- handles that are owned
 
-owned_at : (es : List (Option (Entry ℕ))) (i : ℕ) (e : Entry ℕ) → AreOwned es → slice_index_or es i None ≡ Some e → e.owned ≡ true
+pub owned_at : (es : List (Option (Entry ℕ))) (i : ℕ) (e : Entry ℕ) → AreOwned es → slice_index_or es i None ≡ Some e → e.owned ≡ true
 owned_at [] i e own is = absurd cc
 owned_at (None ∷ es) zero e own is = absurd cc
 owned_at (Some d ∷ es) zero e own is = (let same : d ≡ e = cc in ap (λ (x : Entry ℕ). x.owned) (sym same) ∙ own.0)
@@ -123,7 +123,7 @@ owned_front : (o : Option (Entry ℕ)) (es : List (Option (Entry ℕ))) → IsOw
 owned_front None es new own = own
 owned_front (Some e) es new own = (new, own)
 
-owned_set : (es : List (Option (Entry ℕ))) (i : ℕ) (o : Option (Entry ℕ)) → IsOwned o → AreOwned es → AreOwned (slice_set es i o)
+pub owned_set : (es : List (Option (Entry ℕ))) (i : ℕ) (o : Option (Entry ℕ)) → IsOwned o → AreOwned es → AreOwned (slice_set es i o)
 owned_set [] i o new own = tt
 owned_set (None ∷ es) zero o new own = owned_front o es new own
 owned_set (Some d ∷ es) zero o new own = owned_front o es new own.1
@@ -153,7 +153,7 @@ owned_left : (o : Option (Entry ℕ)) (m : HandleMap ℕ) (i : ℕ) → AreOwned
 owned_left None m i own = own
 owned_left (Some e) m i own = owned_idle (e.owned && e.lent == 0) e m i own
 
-owned_taken : (i r rep : ℕ) (m m' : HandleMap ℕ) → take_own m i r ≡ Some (answered rep m') → AreOwned m.entries → AreOwned m'.entries
+pub owned_taken : (i r rep : ℕ) (m m' : HandleMap ℕ) → take_own m i r ≡ Some (answered rep m') → AreOwned m.entries → AreOwned m'.entries
 owned_taken i r rep m m' is own = subst AreOwned (ap (λ o. entries_in o m.entries) is) (owned_left (entry_of m i r) m i own)
 
 -- where none is borrowed, what can't be taken as an own handle can't be taken

@@ -9,3 +9,7 @@ pub mod Storing
 pub mod Lifting
 pub mod Dropping
 pub mod Arguments
+pub mod Begun
+pub mod Taken
+pub mod Answering
+pub mod Standing

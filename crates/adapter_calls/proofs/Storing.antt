@@ -30,7 +30,7 @@ use Rattle.adapter_calls.proofs.Instance.{seen_none, on_k, begins, runs_alone, t
 same_self : (s : State) → SameBut s s
 same_self s = record { functions = refl; instances = refl; tables = refl; segments = refl; elements = refl; memories = refl; globals = refl }
 
-same_then : (a b c : State) → SameBut a b → SameBut b c → SameBut a c
+pub same_then : (a b c : State) → SameBut a b → SameBut b c → SameBut a c
 same_then a b c x y = record {
   functions = y.functions ∙ x.functions;
   instances = y.instances ∙ x.instances;

@@ -8,3 +8,5 @@ pub mod Storing
 pub mod Lifting
 pub mod Dropping
 pub mod Arguments
+pub mod Answering
+pub mod Standing

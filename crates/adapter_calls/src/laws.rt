@@ -1,11 +1,13 @@
 //! The laws, each a function without code whose contract states it.
 
+ghost use Rattle.adapter_calls.specs.Answering.{StubsAnswer};
 ghost use Rattle.adapter_calls.specs.Arguments.{LentAreNumbers};
 ghost use Rattle.adapter_calls.specs.Dropping.{DropsByDestructor};
 ghost use Rattle.adapter_calls.specs.Handling.{HandlesAnswer};
 ghost use Rattle.adapter_calls.specs.Leaving.{PostReturns};
 ghost use Rattle.adapter_calls.specs.Lifting.{LiftsAsTaken};
 ghost use Rattle.adapter_calls.specs.Routines.{RoutinesReturn, RoutinesTrap};
+ghost use Rattle.adapter_calls.specs.Standing.{StubsStand};
 ghost use Rattle.adapter_calls.specs.Storing.{LowersByArea, StoresByArea};
 ghost use Rattle.adapter_calls.specs.Stubs.{StubsReturn, StubsTrap};
 ghost use Rattle.adapter_calls.specs.Turns.{CalledAsksInTurn, StubAsksInTurn};
@@ -81,4 +83,16 @@ pub fn stubs_trap<H: Host>()
 /// Arguments whose handles are lent, of resources of the adapter's own, are lowered with what these stand for in their places: no handle enters.
 pub fn lent_handles_are_numbers<H: Host>()
     ensures { LentAreNumbers H.step }
+{}
+
+/// A call of a function of the adapter whose stub asks no host is answered as its row's run says: its arguments go by the transfer area, its
+/// routine runs, and the answer is lifted from what that leaves. It traps where the area is full, where the routine traps or is refused a
+/// handle, and where no answer can be lifted. The host was told, in order, of the handles that the routine dropped, and of nothing else.
+pub fn stubs_answer<H: Host>()
+    ensures { StubsAnswer H.step }
+{}
+
+/// A stub's function that stands in an instance with all that it calls does what its routines say, whatever memories and globals hold.
+pub fn stubs_stand()
+    ensures { StubsStand }
 {}
