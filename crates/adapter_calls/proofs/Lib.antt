@@ -13,3 +13,5 @@ pub mod Begun
 pub mod Taken
 pub mod Answering
 pub mod Standing
+pub mod Lending
+pub mod Entering

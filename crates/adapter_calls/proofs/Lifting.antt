@@ -21,7 +21,7 @@ use Rattle.adapter_calls.specs.Lifting.{own_tuple, AreOwn, lifted, lifted_by, Li
 
 -- ---- the handles of a value, in both spellings
 
-abbrev as_world : Named → world.Named
+abbrev pub as_world : Named → world.Named
 as_world (OwnAt r i) = world.OwnAt r i
 as_world (BorrowAt r i) = world.BorrowAt r i
 
@@ -38,7 +38,7 @@ and_same (FlagsType labels) i ns = refl
 and_same (OwnType r) i ns = refl
 and_same (BorrowType r) i ns = refl
 
-named_same : (hs : List abi.Handle) → world.named_in hs ≡ map as_world (named_in hs)
+pub named_same : (hs : List abi.Handle) → world.named_in hs ≡ map as_world (named_in hs)
 named_same [] = refl
 named_same (h ∷ hs) = ap (world.and_named h.ty h.number) (named_same hs) ∙ and_same h.ty h.number (named_in hs)
 

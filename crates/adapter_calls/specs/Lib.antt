@@ -10,3 +10,5 @@ pub mod Dropping
 pub mod Arguments
 pub mod Answering
 pub mod Standing
+pub mod Lending
+pub mod Entering

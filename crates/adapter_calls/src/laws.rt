@@ -3,8 +3,10 @@
 ghost use Rattle.adapter_calls.specs.Answering.{StubsAnswer};
 ghost use Rattle.adapter_calls.specs.Arguments.{LentAreNumbers};
 ghost use Rattle.adapter_calls.specs.Dropping.{DropsByDestructor};
+ghost use Rattle.adapter_calls.specs.Entering.{EntersAsAdded};
 ghost use Rattle.adapter_calls.specs.Handling.{HandlesAnswer};
 ghost use Rattle.adapter_calls.specs.Leaving.{PostReturns};
+ghost use Rattle.adapter_calls.specs.Lending.{LiftsAsLent};
 ghost use Rattle.adapter_calls.specs.Lifting.{LiftsAsTaken};
 ghost use Rattle.adapter_calls.specs.Routines.{RoutinesReturn, RoutinesTrap};
 ghost use Rattle.adapter_calls.specs.Standing.{StubsStand};
@@ -95,4 +97,15 @@ pub fn stubs_answer<H: Host>()
 /// A stub's function that stands in an instance with all that it calls does what its routines say, whatever memories and globals hold.
 pub fn stubs_stand()
     ensures { StubsStand }
+{}
+
+/// What core code of the adapter gives to the host is lifted as a row's run lifts it: handles of the host's resources are lent, and once the
+/// loans have ended the handles are as before.
+pub fn arguments_are_lifted_as_lent()
+    ensures { LiftsAsLent }
+{}
+
+/// The handles of a host's answer to core code of the adapter, which are own, enter the handle map as a row's run adds them.
+pub fn answers_enter_as_added()
+    ensures { EntersAsAdded }
 {}
