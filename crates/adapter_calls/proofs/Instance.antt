@@ -71,6 +71,26 @@ module _ {S : Type 0} (G : Group) (p : Ports S) (unfolds : Unfolds G p) (by : Go
       ∙ seen_none (driving G p Endless k f args (store_at Endless c.store) [] (standing w k c s) n)
       ∙ ap (λ t. driving G p Endless k f args t [] (standing w k c s) n) (quiet_store c.store quiet)
 
+  -- whatever calls are in progress, it begins without them
+  from_endless : (f : ℕ) (args : List CoreValue) (c : Config ℕ) (s : S) (n : ℕ) → running G p Endless k f args (standing w k c s) n ≡ driving G p Endless k f args (store_at Endless c.store) [] (standing w k c s) n
+  unfolding ◌>>◌
+  from_endless f args c s n =
+      ap (λ (act : Act (World S) (List CoreValue)). act (standing w k c s) n) (unfolds.running_is Endless k f args)
+      ∙ ap (λ o. then_do o (λ store. driving G p Endless k f args (store_at Endless store) [])) (store_at_k w k c s n)
+      ∙ seen_none (driving G p Endless k f args (store_at Endless c.store) [] (standing w k c s) n)
+
+  pub returns_meanwhile : (f : ℕ) (args results : List CoreValue) (c : Config ℕ) (t : State) (s : S) (n m : ℕ) → eval (store_at Endless c.store) f args [] n ≡ Done results t m → running G p Endless k f args (standing w k c s) n ≡ Next [] m (standing w k (with_store c t) s) results
+  unfolding gives
+  returns_meanwhile f args results c t s n m done =
+      from_endless f args c s n ∙ ends (store_at Endless c.store) f args c s n
+      ∙ ap (λ o. then_do (core_end (standing w k c s) k n o) (goes_on G p (running G p) (λ reply. going G p Endless k (λ replies. (λ (used : List Reply) (j : ℕ). eval (store_at Endless c.store) f args used j) (reply ∷ replies))) Endless k)) done
+      ∙ ap (λ v. Next [] m v results) (stored w k c t s)
+
+  pub traps_meanwhile : (f : ℕ) (args : List CoreValue) (c : Config ℕ) (s : S) (n : ℕ) → eval (store_at Endless c.store) f args [] n ≡ CoreTrapped → running G p Endless k f args (standing w k c s) n ≡ Over [] Trapped
+  traps_meanwhile f args c s n trapped =
+      from_endless f args c s n ∙ ends (store_at Endless c.store) f args c s n
+      ∙ ap (λ o. then_do (core_end (standing w k c s) k n o) (goes_on G p (running G p) (λ reply. going G p Endless k (λ replies. (λ (used : List Reply) (j : ℕ). eval (store_at Endless c.store) f args used j) (reply ∷ replies))) Endless k)) trapped
+
   -- it returns, or traps
   pub runs_alone : (f : ℕ) (args results : List CoreValue) (c : Config ℕ) (t : State) (s : S) (n m : ℕ) → IsQuiet c.store → eval c.store f args [] n ≡ Done results t m → running G p Endless k f args (standing w k c s) n ≡ Next [] m (standing w k (with_store c t) s) results
   unfolding gives

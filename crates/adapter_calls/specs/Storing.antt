@@ -37,6 +37,14 @@ pub record HasArea (p : Area) (store : State) (s : Stored) : Type 0 where
   pub realloc : Stands realloc_type p.body p.spaces store p.realloc
   pub used : IsUsed p.layout p.spaces store p.global s.used
 
+-- the same, whatever calls are in progress
+pub record HasRoom (p : Area) (store : State) (s : Stored) : Type 0 where
+  pub within : p.memory < length store.memories
+  pub bytes : (memory_at store p.memory).bytes ≡ s.memory
+  pub holds : end_of p.layout ≤ length s.memory
+  pub realloc : Stands realloc_type p.body p.spaces store p.realloc
+  pub used : IsUsed p.layout p.spaces store p.global s.used
+
 -- a store that differs in memories and globals alone
 pub record SameBut (old new : State) : Type 0 where
   pub functions : new.functions ≡ old.functions
@@ -88,6 +96,26 @@ StoresByArea {S} h =
     (G : Group) (instance : ℕ) (p : Area) → IsRealloc p.layout p.body → (target : ℕ) (steps : List Step) → CanAskAll steps → (w : World S) (c : Config ℕ) (s : S) (from : Stored) → HasArea p c.store from →
     StoredOrTrapped h G instance p target steps w c s from (stored_in p.layout target from steps)
 
+-- ---- meanwhile
+
+-- It is stored while calls are in progress, or it traps. A request begins without them, and the store is then without them.
+pub record StoresMeanwhile {S : Type 0} (h : HostStep S) (G : Group) (instance : ℕ) (p : Area) (target : ℕ) (steps : List Step) (w : World S) (c : Config ℕ) (s : S) (from to : Stored) : Type 0 where
+  pub store : State
+  pub same : SameBut c.store store
+  pub room : HasRoom p store to
+  pub quiet : IsQuiet c.store → IsQuiet store
+  pub goes : (n : ℕ) → stores G (hosted h) (running G (hosted h)) Endless instance (options_of p) target from.answers steps (standing w instance c s) (cost steps + n) ≡ Next [] n (standing w instance (with_store c store) s) to.answers
+
+abbrev pub MeanwhileOrTrapped : {S : Type 0} (h : HostStep S) (G : Group) (instance : ℕ) (p : Area) (target : ℕ) (steps : List Step) (w : World S) (c : Config ℕ) (s : S) (from : Stored) → Option Stored → Type 0
+MeanwhileOrTrapped h G instance p target steps w c s from (Some to) = StoresMeanwhile h G instance p target steps w c s from to
+MeanwhileOrTrapped h G instance p target steps w c s from None =
+    (n : ℕ) → stores G (hosted h) (running G (hosted h)) Endless instance (options_of p) target from.answers steps (standing w instance c s) (cost steps + n) ≡ Over [] Trapped
+
+abbrev pub StoresByRoom : {S : Type 0} → HostStep S → Type 0
+StoresByRoom {S} h =
+    (G : Group) (instance : ℕ) (p : Area) → IsRealloc p.layout p.body → (target : ℕ) (steps : List Step) → CanAskAll steps → (w : World S) (c : Config ℕ) (s : S) (from : Stored) → HasRoom p c.store from →
+    MeanwhileOrTrapped h G instance p target steps w c s from (stored_in p.layout target from steps)
+
 -- ---- lowering
 
 -- flat values go where the steps of storing left answers; meanwhile the instance is closed
@@ -108,3 +136,23 @@ abbrev pub LowersByArea : {S : Type 0} → HostStep S → Type 0
 LowersByArea {S} h =
     (G : Group) (instance : ℕ) (p : Area) → IsRealloc p.layout p.body → (target : ℕ) (low : Lowered) → CanAskAll low.steps → (w : World S) (c : Config ℕ) (s : S) (from : Stored) → from.answers ≡ [] → HasArea p c.store from →
     LoweredOrTrapped h G instance p target low w c s from (stored_in p.layout target from low.steps)
+
+-- lowered while calls are in progress
+pub record LowersMeanwhile {S : Type 0} (h : HostStep S) (G : Group) (instance : ℕ) (p : Area) (target : ℕ) (low : Lowered) (w : World S) (c : Config ℕ) (s : S) (from to : Stored) : Type 0 where
+  pub store : State
+  pub same : SameBut c.store store
+  pub room : HasRoom p store to
+  pub quiet : IsQuiet c.store → IsQuiet store
+  pub goes : (n : ℕ) →
+      lowers_closed G (hosted h) (running G (hosted h)) Endless instance (options_of p) target low (standing w instance c s) (cost low.steps + n)
+      ≡ Next [] n (standing w instance (record { store = store; map = c.map; entered = c.entered; closed = false }) s) (map (flat_word to.answers) low.flats)
+
+abbrev pub LoweredMeanwhile : {S : Type 0} (h : HostStep S) (G : Group) (instance : ℕ) (p : Area) (target : ℕ) (low : Lowered) (w : World S) (c : Config ℕ) (s : S) (from : Stored) → Option Stored → Type 0
+LoweredMeanwhile h G instance p target low w c s from (Some to) = LowersMeanwhile h G instance p target low w c s from to
+LoweredMeanwhile h G instance p target low w c s from None =
+    (n : ℕ) → lowers_closed G (hosted h) (running G (hosted h)) Endless instance (options_of p) target low (standing w instance c s) (cost low.steps + n) ≡ Over [] Trapped
+
+abbrev pub LowersByRoom : {S : Type 0} → HostStep S → Type 0
+LowersByRoom {S} h =
+    (G : Group) (instance : ℕ) (p : Area) → IsRealloc p.layout p.body → (target : ℕ) (low : Lowered) → CanAskAll low.steps → (w : World S) (c : Config ℕ) (s : S) (from : Stored) → from.answers ≡ [] → HasRoom p c.store from →
+    LoweredMeanwhile h G instance p target low w c s from (stored_in p.layout target from low.steps)

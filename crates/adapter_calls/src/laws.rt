@@ -10,7 +10,7 @@ ghost use Rattle.adapter_calls.specs.Lending.{LiftsAsLent};
 ghost use Rattle.adapter_calls.specs.Lifting.{LiftsAsTaken};
 ghost use Rattle.adapter_calls.specs.Routines.{RoutinesReturn, RoutinesTrap};
 ghost use Rattle.adapter_calls.specs.Standing.{StubsStand};
-ghost use Rattle.adapter_calls.specs.Storing.{LowersByArea, StoresByArea};
+ghost use Rattle.adapter_calls.specs.Storing.{LowersByArea, LowersByRoom, StoresByArea, StoresByRoom};
 ghost use Rattle.adapter_calls.specs.Stubs.{StubsReturn, StubsTrap};
 ghost use Rattle.adapter_calls.specs.Turns.{CalledAsksInTurn, StubAsksInTurn};
 
@@ -108,4 +108,14 @@ pub fn arguments_are_lifted_as_lent()
 /// The handles of a host's answer to core code of the adapter, which are own, enter the handle map as a row's run adds them.
 pub fn answers_enter_as_added()
     ensures { EntersAsAdded }
+{}
+
+/// A value is stored by the transfer area too while core code of the instance waits for an answer: a request begins without the calls in progress.
+pub fn storing_in_a_call_goes_by_the_area<H: Host>()
+    ensures { StoresByRoom H.step }
+{}
+
+/// So does lowering go by the area while core code waits.
+pub fn lowering_in_a_call_goes_by_the_area<H: Host>()
+    ensures { LowersByRoom H.step }
 {}
