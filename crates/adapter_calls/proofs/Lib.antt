@@ -15,3 +15,4 @@ pub mod Answering
 pub mod Standing
 pub mod Lending
 pub mod Entering
+pub mod Hosting

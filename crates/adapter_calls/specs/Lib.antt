@@ -12,3 +12,4 @@ pub mod Answering
 pub mod Standing
 pub mod Lending
 pub mod Entering
+pub mod Hosting

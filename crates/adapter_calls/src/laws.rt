@@ -5,6 +5,7 @@ ghost use Rattle.adapter_calls.specs.Arguments.{LentAreNumbers};
 ghost use Rattle.adapter_calls.specs.Dropping.{DropsByDestructor};
 ghost use Rattle.adapter_calls.specs.Entering.{EntersAsAdded};
 ghost use Rattle.adapter_calls.specs.Handling.{HandlesAnswer};
+ghost use Rattle.adapter_calls.specs.Hosting.{HostsAnswer};
 ghost use Rattle.adapter_calls.specs.Leaving.{PostReturns};
 ghost use Rattle.adapter_calls.specs.Lending.{LiftsAsLent};
 ghost use Rattle.adapter_calls.specs.Lifting.{LiftsAsTaken};
@@ -118,4 +119,10 @@ pub fn storing_in_a_call_goes_by_the_area<H: Host>()
 /// So does lowering go by the area while core code waits.
 pub fn lowering_in_a_call_goes_by_the_area<H: Host>()
     ensures { LowersByRoom H.step }
+{}
+
+/// A call of the host's function by core code of the adapter does what the row's run says: arguments are lifted and lent, the host is asked,
+/// the loans end, and the answer's handles enter and it is lowered by the area; or it traps, or ends as the host's answer does.
+pub fn hosts_answer<H: Host>()
+    ensures { HostsAnswer H.step }
 {}
