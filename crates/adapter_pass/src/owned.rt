@@ -3,8 +3,7 @@
 use crate::frame::Frame;
 use crate::kinds::Kind;
 use crate::routine::Routine;
-use crate::{fs_code, net_code};
-use ref_rules::Errors;
+use ref_rules::{Errors, fs_code, net_code};
 use std::rc::Rc;
 use wit_types::{Case, Field, WitType};
 
