@@ -2,7 +2,6 @@
 use Rattle.std.proofs.Common.{◌≡◌, ℕ, pos, zero, suc, ◌+◌, ◌*◌, ◌%◌, ◌^◌, ◌<◌, ap, refl, sym, ◌∙◌, Bool, true, false, ◌&&◌, List, length, take, drop, Option, Some, None, arith}
 use Rattle.std.specs.Prelude.{if◌then◌else◌, nat_lt, nat_le, option_map, option_and_then, slice_index, ◌-ℤ◌, neg_ℤ, int_le, int_lt}
 use Rattle.std.specs.Str.{is_utf8}
-use Rattle.std.proofs.lemmas.Bool.{and_parts}
 use Rattle.std.proofs.lemmas.Bool.Decides.{nat_tests}
 use Rattle.std.proofs.lemmas.Int.{ints}
 use Rattle.std.proofs.lemmas.Nat.{pow_pos}
@@ -38,10 +37,6 @@ passes_map inner test g (Some x) p h = h x p
 passes_if : {A : Type 0} (test : A → Bool) (b : Bool) (o : Option A) → passes test o ≡ true → passes test (if b then o else None) ≡ true
 passes_if test true o h = h
 passes_if test false o h = refl
-
-passes_where : {A : Type 0} (test : A → Bool) (b : Bool) (o : Option A) → (b ≡ true → passes test o ≡ true) → passes test (if b then o else None) ≡ true
-passes_where test true o h = h refl
-passes_where test false o h = refl
 
 both_true : (a b : Bool) → a ≡ true → b ≡ true → (a && b) ≡ true
 both_true a b p q = ap (λ c. c && b) p ∙ q
@@ -91,9 +86,7 @@ value_passes (VariantType _ _) n = refl
 
 string_passes : (memory : List ℕ) (place len : ℕ) → passes (λ v. is_string v) (string_at memory place len) ≡ true
 string_passes memory place len =
-    let inside = nat_le (place + len) (length memory) in
-    let text = take len (drop place memory) in
-    passes_where (λ v. is_string v) (inside && is_utf8 text) (Some (StringValue text)) (λ h. (and_parts inside (is_utf8 text) h).1)
+    passes_if (λ v. is_string v) (nat_le (place + len) (length memory) && is_utf8 (take len (drop place memory))) (Some (StringValue (take len (drop place memory)))) refl
 
 items_pass : (test : PlainValue → Bool) (load : ℕ → Option PlainValue) → ((p : ℕ) → passes test (load p) ≡ true) → (size place n : ℕ) → passes (λ vs. all_pass test vs) (items_at load size place n) ≡ true
 items_pass test load h size place zero = refl

@@ -48,7 +48,7 @@ fn locals_of(f: &Frame) -> Locals {
 }
 
 // Answers an error where a local has one of these bits.
-fn refuse(f: &Frame, l: &Locals, flags: u32, bits: u64, code: u32) -> Routine {
+fn refuse(f: &Frame, l: &Locals, flags: u32, bits: u64, code: u64) -> Routine {
     f.routine()
         .with(IntOp::And, l.test, flags, bits, f.scratch)
         .when(l.test, f.err(code))
@@ -135,13 +135,7 @@ pub fn readlink_at(f: &Frame, nodes: NodesAt, spot: u32) -> Routine {
 fn open_fault(f: &Frame, l: &Locals, open_flags: u32) -> Routine {
     let created = refuse(f, l, open_flags, CREATE, fs_code::READ_ONLY);
     f.routine()
-        .when_is(
-            l.code,
-            u64::from(fs_code::NO_ENTRY),
-            f.scratch,
-            l.test,
-            created,
-        )
+        .when_is(l.code, fs_code::NO_ENTRY, f.scratch, l.test, created)
         .part(f.err_in(l.code))
 }
 

@@ -99,8 +99,8 @@ fn walker_of(f: &Frame, nodes: NodesAt, path: Path, to: Found) -> Walker {
 
 impl Walker {
     // The path leads nowhere.
-    fn fail(&self, f: &Frame, code: u32) -> Routine {
-        f.routine().constant(self.code, u64::from(code)).leave(WALK)
+    fn fail(&self, f: &Frame, code: u64) -> Routine {
+        f.routine().constant(self.code, code).leave(WALK)
     }
 
     fn fail_at_file(&self, f: &Frame) -> Routine {

@@ -1,8 +1,5 @@
 //! The gate of the rules on addresses: what stands before the host call of a function that they name.
 
-ghost use Rattle.std.specs.Prelude.{◌≡◌, is_some};
-ghost use Rattle.adapter_io.specs.Gated.{is_gated};
-
 use crate::address_rules::find_rule;
 use crate::addresses::{
     ADDRESS_PAIRS, Address, address_of, datagram_address, flat_address, has_address,
@@ -80,9 +77,7 @@ fn resolve_addresses(f: &Frame, policy: &Policy) -> Routine {
 /// What stands before the host call of a function, by its name without the resource: where the rules allow what is asked for it goes
 /// on, and else it answers that the access is denied. None where the rules do not name the function. It may lose fifteen pairs of
 /// spare locals.
-pub fn gate(f: &Frame, policy: &Policy, d: &IoData, name: &str) -> Option<Routine>
-    ensures { is_some result ≡ is_gated name.now }
-{
+pub fn gate(f: &Frame, policy: &Policy, d: &IoData, name: &str) -> Option<Routine> {
     match name {
         "start-connect" => Some(start_connect(f, d)),
         "start-bind" => Some(start_bind(f, d)),

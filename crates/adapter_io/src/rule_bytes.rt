@@ -38,7 +38,7 @@ fn mask_of(rule: &Rule) -> Bits {
     }
 }
 
-// Numbers one after another, the first in the highest bits: of 16 bits each, or of 8.
+// Numbers after one another, the first in the highest bits: of 16 bits each, or of 8.
 fn joined(numbers: &[u16], six: bool) -> u64 {
     let mut bits: u64 = 0;
     for number in numbers {

@@ -24,15 +24,10 @@ impl Frame {
     }
 
     /// The error with this code.
-    pub fn err(&self, code: u32) -> Routine {
+    pub fn err(&self, code: u64) -> Routine {
         self.routine()
             .store_value(1, self.at, CASE, self.scratch)
-            .store_value(
-                u64::from(code),
-                self.at,
-                self.payload_field(0, 1),
-                self.scratch,
-            )
+            .store_value(code, self.at, self.payload_field(0, 1), self.scratch)
             .part(self.done())
     }
 

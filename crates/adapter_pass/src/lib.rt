@@ -6,8 +6,10 @@ mod answers;
 mod data;
 mod fields;
 mod frame;
+pub mod fs_code;
 mod kinds;
 mod layouts;
+pub mod net_code;
 mod owned;
 mod passing;
 mod places;
@@ -23,7 +25,19 @@ pub use kinds::Kind;
 pub use owned::{has_own, room};
 pub use passing::{enter, from_host, to_host, to_host_from};
 pub use places::Places;
-pub use ref_rules::{fs_code, net_code};
 pub use routine::Routine;
 pub use spare::Spare;
 pub use tags::Tag;
+
+#[cfg(test)]
+mod tests {
+    use super::*;
+    use std::test::Fail;
+
+    #[test]
+    fn routines_are_lists(rt: HostRuntime) -> Result<(), Fail> {
+        let routine = Routine::new(rt.alloc()).constant(0, 1).trap();
+        assert_eq!(rt; routine.statements()?.len(), 2);
+        Ok(())
+    }
+}

@@ -3,7 +3,8 @@
 use crate::frame::Frame;
 use crate::kinds::Kind;
 use crate::routine::Routine;
-use ref_rules::{Errors, fs_code, net_code};
+use crate::{fs_code, net_code};
+use ref_rules::Errors;
 use std::rc::Rc;
 use wit_types::{Case, Field, WitType};
 

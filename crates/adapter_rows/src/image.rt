@@ -1,8 +1,6 @@
 //! The static data that rows read, and how the memory is cut.
 
-ghost use Rattle.std.specs.Prelude.{◌≡◌, ◌==◌, ◌↔◌, IfOk, IsNone, is_none, length};
 ghost use Rattle.tree_table.specs.Trees.{AreTrees};
-ghost use Rattle.adapter_rows.specs.Layouts.{spare_in, layout_of, scratch_place};
 
 use crate::limits::capped;
 use adapter_code::Layout;
@@ -44,7 +42,6 @@ fn put_trees(
     trees: &Trees,
 ) -> Result<Option<NodesAt>, NoMemory>
     requires { AreTrees trees.now }
-    ensures { IfOk result (λ nodes. is_none nodes ≡ (length trees.now == 0)) }
 {
     if trees.is_empty() {
         return Ok(None);
@@ -68,11 +65,9 @@ fn roots_of<'a>(alloc: Global, trees: &'a [NamedTree]) -> Result<Vec<NamedRoot<'
     Ok(roots)
 }
 
-/// The static data of a policy with its trees: the nodes of the trees, and then the texts and lists of the policy. There are nodes
-/// exactly where there are trees.
+/// The static data of a policy with its trees: the nodes of the trees, and then the texts and lists of the policy.
 pub fn make_image(alloc: Global, policy: &Policy, trees: &Trees) -> Result<Image, NoMemory>
     requires { AreTrees trees.now }
-    ensures { IfOk result (λ image. is_none image.nodes ≡ (length trees.now == 0)) }
 {
     let mut data = StaticData::new(alloc, policy.slots);
     let nodes = put_trees(alloc, &mut data, trees)?;
@@ -85,22 +80,15 @@ pub fn make_image(alloc: Global, policy: &Policy, trees: &Trees) -> Result<Image
     })
 }
 
-fn spare_of(policy: &Policy) -> u32
-    ensures bytes { result ≡ spare_in policy.now.fs_scratch }
-    ensures none { (result ≡ 0) ↔ IsNone policy.now.fs_scratch }
-{
+fn spare_of(policy: &Policy) -> u32 {
     match &policy.fs_scratch {
         Some(scratch) => spare_bytes(scratch),
         None => 0,
     }
 }
 
-/// How the memory is cut for static data of a length. There are spare bytes exactly where the policy has a scratch folder. It takes no
-/// memory.
-pub fn cut(policy: &Policy, image_len: usize) -> Layout
-    ensures layout { result ≡ layout_of policy.now image_len }
-    ensures spare { (result.spare ≡ 0) ↔ IsNone policy.now.fs_scratch }
-{
+/// How the memory is cut for static data of that many bytes. It takes no memory.
+pub fn cut(policy: &Policy, image_len: usize) -> Layout {
     Layout {
         slots: policy.slots,
         image_len: capped(image_len),
@@ -109,10 +97,8 @@ pub fn cut(policy: &Policy, image_len: usize) -> Layout
     }
 }
 
-/// Where the scratch folder stands, exactly where the policy has one; it comes after that many trees.
-pub fn scratch_in(policy: &Policy, places: &Places, trees: u32) -> Option<ScratchAt>
-    ensures { result ≡ scratch_place policy.now.fs_scratch places.now trees }
-{
+/// Where the scratch folder stands, if the policy has one; it comes after that many trees.
+pub fn scratch_in(policy: &Policy, places: &Places, trees: u32) -> Option<ScratchAt> {
     match &policy.fs_scratch {
         Some(scratch) => Some(ScratchAt::of(scratch, places, trees)),
         None => None,

@@ -146,8 +146,8 @@ impl Path {
     }
 }
 
-fn fail(f: &Frame, led: Led, code: u32) -> Routine {
-    f.routine().constant(led.code, u64::from(code)).leave(LED)
+fn fail(f: &Frame, led: Led, code: u64) -> Routine {
+    f.routine().constant(led.code, code).leave(LED)
 }
 
 /// Finds where a path leads, a part each turn. It may have a part more than bytes. All spare locals of 32 bits are lost.

@@ -75,13 +75,7 @@ fn open_missing(f: &Frame, s: ScratchAt, led: Led) -> Routine {
     let other = f.spare.narrow(0);
     let refused = f.err_in(led.code);
     f.routine()
-        .with(
-            IntOp::Ne,
-            other,
-            led.code,
-            u64::from(fs_code::NO_ENTRY),
-            f.scratch,
-        )
+        .with(IntOp::Ne, other, led.code, fs_code::NO_ENTRY, f.scratch)
         .when(other, refused)
         .with(IntOp::And, other, f.arg(3), CREATE, f.scratch)
         .unless(other, f.err(fs_code::NO_ENTRY))

@@ -1,8 +1,5 @@
 //! Where the scratch folder stands in the adapter's spare bytes: the entries of its files, its blocks and its marks.
 
-ghost use Rattle.std.specs.Prelude.{◌≡◌, ◌*◌, min};
-ghost use Rattle.adapter_scratch.specs.Places.{spare_len, scratch_at};
-
 use adapter_code::Field;
 use adapter_pass::Places;
 use policy_data::Scratch;
@@ -46,22 +43,16 @@ pub const NAME: u32 = 16;
 /// The bytes of the marks after the blocks.
 const MARKS: u32 = 12;
 
-fn entries_len(scratch: &Scratch) -> u32
-    ensures { result ≡ min (272 * scratch.now.files) u32.MAX }
-{
+fn entries_len(scratch: &Scratch) -> u32 {
     scratch.files.saturating_mul(ENTRY)
 }
 
-fn blocks_len(scratch: &Scratch) -> u32
-    ensures { result ≡ min (4096 * scratch.now.blocks) u32.MAX }
-{
+fn blocks_len(scratch: &Scratch) -> u32 {
     scratch.blocks.saturating_mul(BLOCK)
 }
 
 /// How many spare bytes the scratch folder of a policy takes.
-pub fn spare_bytes(scratch: &Scratch) -> u32
-    ensures { result ≡ spare_len scratch.now }
-{
+pub fn spare_bytes(scratch: &Scratch) -> u32 {
     entries_len(scratch)
         .saturating_add(blocks_len(scratch))
         .saturating_add(MARKS)
@@ -87,9 +78,7 @@ pub struct ScratchAt {
 
 impl ScratchAt {
     /// The scratch folder of a policy with that many trees.
-    pub fn of(scratch: &Scratch, places: &Places, trees: u32) -> ScratchAt
-        ensures { result ≡ scratch_at scratch.now places.now trees }
-    {
+    pub fn of(scratch: &Scratch, places: &Places, trees: u32) -> ScratchAt {
         let quota = blocks_len(scratch);
         let blocks = places.spare.saturating_add(entries_len(scratch));
         ScratchAt {

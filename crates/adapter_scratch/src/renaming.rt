@@ -15,13 +15,7 @@ use adapter_pass::{Frame, Routine, fs_code};
 fn rename_new(f: &Frame, entry: u32, new: Led) -> Routine {
     let other = f.spare.narrow(0);
     f.routine()
-        .with(
-            IntOp::Ne,
-            other,
-            new.code,
-            u64::from(fs_code::NO_ENTRY),
-            f.scratch,
-        )
+        .with(IntOp::Ne, other, new.code, fs_code::NO_ENTRY, f.scratch)
         .when(other, f.err_in(new.code))
         .part(check_name(f, new))
         .part(put_name(f, entry, new.part))

@@ -31,7 +31,7 @@ pub struct Places {
     pub results: Option<usize>,
 }
 
-/// All long lists one after another are the text, of which the levels tell what is the same.
+/// All long lists after one another are the text, of which the levels tell what is the same.
 #[derive(Drop)]
 pub struct Parts {
     pub places: Vec<Places>,
@@ -83,7 +83,7 @@ fn key_at(q: &Quarters<'_>, i: usize) -> u128 {
     high | low
 }
 
-/// Each place with its key, those of one key one after another.
+/// Each place with its key, those of one key after one another.
 fn sorted_keys(alloc: Global, q: &Quarters<'_>) -> Result<Vec<(u128, u32)>, NoMemory> {
     let mut keyed = Vec::new(alloc);
     for at in 0..q.fourth.len() {

@@ -1,7 +1,7 @@
 -- Texts of JSON in memory are UTF-8, so a script's item answers with a value of the call's result type.
 use Rattle.std.proofs.Common.{◌≡◌, List, [], ◌∷◌, map, refl, ap, ◌∙◌, subst, Bool, true, false, ◌&&◌, String, Global, string_bytes}
 use Rattle.std.specs.Prelude.{Option, Some, None}
-use Rattle.std.proofs.lemmas.Str.{is_utf8-from_IsUtf8, IsUtf8-string_bytes}
+use Rattle.std.proofs.lemmas.Str.{scalars-chars, IsUtf8-string_bytes}
 use Rattle.serde_json.specs.Data.{Data, Num, unsigned, negative, float}
 use Rattle.serde_json.specs.View.{view, view_step, items_of, members_of, number_view}
 use Rattle.serde_json.specs.declared.value.Value.{Value as Json, map-Value}
@@ -46,7 +46,7 @@ layer_fine : (y : Value-F Fine) → is_textual (untyped (view_step (map-Value Js
 layer_fine Value-F.Null = refl
 layer_fine (Value-F.Bool b) = refl
 layer_fine (Value-F.Number n) = number_fine (number_view n)
-layer_fine (Value-F.String s) = is_utf8-from_IsUtf8 (string_bytes s) (IsUtf8-string_bytes s)
+layer_fine (Value-F.String s) = scalars-chars (string_bytes s) (IsUtf8-string_bytes s)
 layer_fine (Value-F.Array v) = items_fine v.items
 layer_fine (Value-F.Object m) = members_fine m.entries
 

@@ -4,8 +4,6 @@ use Rattle.std.specs.Prelude.{Option, Some, None, option_map, chars, nat_lt, neg
 use Rattle.std.specs.Str.{bytes_eq}
 use Rattle.std.proofs.Math.Nat.{pow-suc}
 use Rattle.std.proofs.lemmas.Bool.{and_parts, lt-ltb}
-use Rattle.std.specs.Str.{is_utf8}
-use Rattle.std.proofs.lemmas.Str.{scalars-chars, IsUtf8-from_is_utf8}
 use lib.Utf8.{scalar, scalars}
 use Rattle.wit_types.specs.Plain.{Name, Plain, Parts, VariantForm, RecordForm, AsRecord, AsTuple, AsVariant, AsEnum, AsOption, AsResult, BoolType, SignedType, UnsignedType, CharType, StringType, ListType, RecordType, VariantType, FlagsType, OwnType, BorrowType, End as NoParts, More as Part, Bare}
 use Rattle.wit_types.specs.PlainValue.{PlainValue, PlainValues, Payload, BoolValue, IntValue, CharValue, StringValue, ListValue, RecordValue, VariantValue, FlagsValue, HandleValue}
@@ -19,7 +17,7 @@ abbrev mutual
   is_textual (Truth b) = true
   is_textual (Number n) = true
   is_textual Inexact = true
-  is_textual (Text bytes) = is_utf8 bytes
+  is_textual (Text bytes) = scalars (chars bytes)
   is_textual (Array items) = are_textual items
   is_textual (Object members) = members_textual members
 
@@ -93,18 +91,18 @@ char_passes Null h = tt
 char_passes (Truth b) h = tt
 char_passes (Number n) h = tt
 char_passes Inexact h = tt
-char_passes (Text bytes) h = only_char_passes (chars bytes) (scalars-chars bytes (IsUtf8-from_is_utf8 bytes h))
+char_passes (Text bytes) h = only_char_passes (chars bytes) h
 char_passes (Array items) h = tt
 char_passes (Object _) h = tt
 
-text_passes : (u : Untyped) → is_textual u ≡ true → Passes is_string (text_in u)
-text_passes Null h = tt
-text_passes (Truth b) h = tt
-text_passes (Number n) h = tt
-text_passes Inexact h = tt
-text_passes (Text bytes) h = h
-text_passes (Array items) h = tt
-text_passes (Object _) h = tt
+text_passes : (u : Untyped) → Passes is_string (text_in u)
+text_passes Null = tt
+text_passes (Truth b) = tt
+text_passes (Number n) = tt
+text_passes Inexact = tt
+text_passes (Text bytes) = refl
+text_passes (Array items) = tt
+text_passes (Object _) = tt
 
 handle_of_passes : (o : Option PlainValue) → Passes is_handle (handle_of o)
 handle_of_passes None = tt
@@ -365,7 +363,7 @@ mutual
   reading_passes (SignedType width) u h = integer_passes (neg_ℤ (pos (negatives width))) (pos (negatives width)) u
   reading_passes (UnsignedType width) u h = integer_passes (pos 0) (pos (integers width)) u
   reading_passes CharType u h = char_passes u h
-  reading_passes StringType u h = text_passes u h
+  reading_passes StringType u h = text_passes u
   reading_passes (ListType item) u h = list_passes (λ v. reading item v) (λ v. is_of item v) u h (λ v k. reading_passes item v k)
   reading_passes (RecordType form fields) u h =
       form_passes form (λ items. parts_reading fields items) (λ ms. fields_reading fields ms) (λ vs. are_of fields vs) u h (λ items k. parts_pass fields items k) (λ ms k. fields_pass fields ms k)

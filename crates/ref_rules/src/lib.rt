@@ -7,17 +7,11 @@ mod access;
 mod addresses;
 mod content;
 mod denial;
-pub mod descriptor_flag;
-pub mod descriptor_type;
-pub mod fs_code;
 mod held;
 mod kinds;
 mod live;
-pub mod net_code;
 mod numbered;
-pub mod open_flag;
 mod part;
-pub mod path_flag;
 
 pub use access::{Access, function_access};
 pub use addresses::refused;

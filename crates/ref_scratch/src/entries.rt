@@ -14,9 +14,12 @@ ghost use Rattle.ref_answers.specs.Shown.{shown};
 
 use crate::folder::Folder;
 use ref_answers::{Row, entry_value, moves, none, ok, returns, some};
-use ref_rules::{Content, descriptor_type};
+use ref_rules::Content;
 use std::alloc::Global;
 use virt_base::{NoMemory, Text};
+
+/// The place in the enum `descriptor-type`.
+const REGULAR_FILE: u32 = 6;
 
 /// The least number of a file from one on, of that many numbers.
 fn next_number(folder: &Folder, from: u32, files: u32) -> Option<u32>
@@ -41,10 +44,7 @@ fn file_row(alloc: Global, number: u32, name: Option<Text>) -> Result<Row, NoMem
         Some(name) => name,
         None => Text::from_str(alloc, "")?,
     };
-    let entry = some(
-        alloc,
-        entry_value(alloc, descriptor_type::REGULAR_FILE, name)?,
-    )?;
+    let entry = some(alloc, entry_value(alloc, REGULAR_FILE, name)?)?;
     Ok(moves(Content::ScratchEntries(number + 1), ok(alloc, entry)?))
 }
 

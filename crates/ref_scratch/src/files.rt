@@ -13,10 +13,14 @@ ghost use Rattle.ref_scratch.specs.Told.{told, settled};
 
 use crate::folder::Folder;
 use ref_answers::{Row, bytes, done, fails, number, ok, pair, returns};
-use ref_rules::fs_code;
 use std::alloc::Global;
 use virt_base::NoMemory;
 use wit_types::Value;
+
+/// The places of error codes in the enum `error-code`.
+const BAD_DESCRIPTOR: u32 = 3;
+
+const INSUFFICIENT_SPACE: u32 = 23;
 
 /// `read`.
 pub fn read_row(
@@ -50,11 +54,11 @@ pub fn write_row(
     ensures { IfOk result (λ row. (f : Forest) (v : View) → told f row folder.new ≡ settled folder.old (descriptor.write (record v { scratch = folder.old }) (ScratchFile file may_write) bytes.now offset)) }
 {
     if !may_write {
-        return fails(alloc, fs_code::BAD_DESCRIPTOR);
+        return fails(alloc, BAD_DESCRIPTOR);
     }
     match folder.write(file, offset, bytes) {
         Ok(()) => Ok(returns(ok(alloc, number(bytes.len() as u64))?)),
-        Err(_) => fails(alloc, fs_code::INSUFFICIENT_SPACE),
+        Err(_) => fails(alloc, INSUFFICIENT_SPACE),
     }
 }
 
@@ -70,10 +74,10 @@ pub fn set_size_row(
     ensures { IfOk result (λ row. (f : Forest) (v : View) → told f row folder.new ≡ settled folder.old (descriptor.set-size (record v { scratch = folder.old }) (ScratchFile file may_write) size)) }
 {
     if !may_write {
-        return fails(alloc, fs_code::BAD_DESCRIPTOR);
+        return fails(alloc, BAD_DESCRIPTOR);
     }
     match folder.set_size(file, size) {
         Ok(()) => Ok(returns(done())),
-        Err(_) => fails(alloc, fs_code::INSUFFICIENT_SPACE),
+        Err(_) => fails(alloc, INSUFFICIENT_SPACE),
     }
 }

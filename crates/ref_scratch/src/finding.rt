@@ -11,7 +11,13 @@ ghost use Rattle.ref_scratch.specs.Leads.{inner, lead_parts};
 
 use crate::folder::Folder;
 use crate::parts::{PartKind, begins_at_root, cut, part_kind};
-use ref_rules::fs_code;
+
+/// The number of error codes in the enum `error-code`.
+const NO_ENTRY: u32 = 20;
+
+const NOT_DIRECTORY: u32 = 24;
+
+const NOT_PERMITTED: u32 = 31;
 
 /// What a text leads to, or the number of the error code.
 #[derive(Debug, Clone, Copy, PartialEq, Eq)]
@@ -28,7 +34,7 @@ fn named(folder: &Folder, name: &str) -> Found
 {
     match folder.find(name) {
         Some(number) => Found::File(number),
-        None => Found::Missing(fs_code::NO_ENTRY),
+        None => Found::Missing(NO_ENTRY),
     }
 }
 
@@ -39,7 +45,7 @@ fn last_part(folder: &Folder, part: &str) -> Found
 {
     match part_kind(part) {
         PartKind::Stay => Found::Root,
-        PartKind::Up => Found::Missing(fs_code::NOT_PERMITTED),
+        PartKind::Up => Found::Missing(NOT_PERMITTED),
         PartKind::Named => named(folder, part),
     }
 }
@@ -49,8 +55,8 @@ fn inner_part(folder: &Folder, name: &str) -> Found
     ensures { shown_found result ≡ inner (find_file folder.now name.now) }
 {
     match folder.find(name) {
-        Some(_) => Found::Missing(fs_code::NOT_DIRECTORY),
-        None => Found::Missing(fs_code::NO_ENTRY),
+        Some(_) => Found::Missing(NOT_DIRECTORY),
+        None => Found::Missing(NO_ENTRY),
     }
 }
 
@@ -63,7 +69,7 @@ fn lead_parts(folder: &Folder, text: &str) -> Found
     while let Some((part, more)) = cut(rest) {
         match part_kind(part) {
             PartKind::Stay => {}
-            PartKind::Up => return Found::Missing(fs_code::NOT_PERMITTED),
+            PartKind::Up => return Found::Missing(NOT_PERMITTED),
             PartKind::Named => return inner_part(folder, part),
         }
         rest = more;
@@ -77,10 +83,10 @@ pub fn lead_in(folder: &Folder, text: &str) -> Found
     ensures there { IsThere folder.now result }
 {
     if text.is_empty() {
-        return Found::Missing(fs_code::NO_ENTRY);
+        return Found::Missing(NO_ENTRY);
     }
     if begins_at_root(text) {
-        return Found::Missing(fs_code::NOT_PERMITTED);
+        return Found::Missing(NOT_PERMITTED);
     }
     lead_parts(folder, text)
 }

@@ -11,10 +11,18 @@ ghost use Rattle.reference_step.specs.State.{View};
 ghost use Rattle.ref_answers.specs.Shown.{shown};
 
 use ref_answers::{Row, fails, gives_ok, label, ok, returns};
-use ref_rules::{Content, descriptor_type, fs_code};
+use ref_rules::Content;
 use std::alloc::Global;
 use virt_base::NoMemory;
 use wit_types::Value;
+
+/// The place of an error code in the enum `error-code`.
+const BAD_DESCRIPTOR: u32 = 3;
+
+/// The places in the enum `descriptor-type`.
+const DIRECTORY: u32 = 3;
+
+const REGULAR_FILE: u32 = 6;
 
 /// `read-via-stream` of a file.
 pub fn input_row(alloc: Global, file: u32, offset: u64) -> Result<Row, NoMemory>
@@ -30,7 +38,7 @@ pub fn output_row(alloc: Global, file: u32, may_write: bool, offset: u64) -> Res
     if may_write {
         gives_ok(alloc, Content::ScratchOut(file, Some(offset)))
     } else {
-        fails(alloc, fs_code::BAD_DESCRIPTOR)
+        fails(alloc, BAD_DESCRIPTOR)
     }
 }
 
@@ -41,7 +49,7 @@ pub fn append_row(alloc: Global, file: u32, may_write: bool) -> Result<Row, NoMe
     if may_write {
         gives_ok(alloc, Content::ScratchOut(file, None))
     } else {
-        fails(alloc, fs_code::BAD_DESCRIPTOR)
+        fails(alloc, BAD_DESCRIPTOR)
     }
 }
 
@@ -64,14 +72,14 @@ pub fn file_flags_row(alloc: Global, may_write: bool) -> Result<Row, NoMemory>
 pub fn root_type_row(alloc: Global) -> Result<Row, NoMemory>
     ensures { IfOk result (λ row. (f : Forest) (v : View) → shown f row ≡ descriptor.get-type v ScratchRoot) }
 {
-    Ok(returns(ok(alloc, label(descriptor_type::DIRECTORY))?))
+    Ok(returns(ok(alloc, label(DIRECTORY))?))
 }
 
 /// `get-type` of a file.
 pub fn file_type_row(alloc: Global) -> Result<Row, NoMemory>
     ensures { IfOk result (λ row. (f : Forest) (v : View) (n : ℕ) (may_write : Bool) → shown f row ≡ descriptor.get-type v (ScratchFile n may_write)) }
 {
-    Ok(returns(ok(alloc, label(descriptor_type::REGULAR_FILE))?))
+    Ok(returns(ok(alloc, label(REGULAR_FILE))?))
 }
 
 /// `read-directory` of the folder.

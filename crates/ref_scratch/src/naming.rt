@@ -10,7 +10,13 @@ ghost use Rattle.ref_scratch.specs.Names.{new_of};
 
 use crate::parts::{PartKind, begins_at_root, cut, part_kind};
 use path_names::holds_byte;
-use ref_rules::fs_code;
+
+/// The numbers of error codes in the enum `error-code`.
+const ILLEGAL_BYTE_SEQUENCE: u32 = 9;
+
+const NAME_TOO_LONG: u32 = 18;
+
+const NO_ENTRY: u32 = 20;
 
 /// The most bytes of a name.
 const MOST: usize = 255;
@@ -26,9 +32,9 @@ fn legal(name: &str) -> NewName<'_>
     ensures { shown_name result ≡ legal name.now }
 {
     if name.len() > MOST {
-        NewName::Unnamed(fs_code::NAME_TOO_LONG)
+        NewName::Unnamed(NAME_TOO_LONG)
     } else if holds_byte(name.as_bytes(), 0) {
-        NewName::Unnamed(fs_code::ILLEGAL_BYTE_SEQUENCE)
+        NewName::Unnamed(ILLEGAL_BYTE_SEQUENCE)
     } else {
         NewName::Named(name)
     }
@@ -48,8 +54,8 @@ fn last_part(part: &str) -> NewName<'_>
     ensures { shown_name result ≡ new_of (part.now ∷ []) }
 {
     match part_kind(part) {
-        PartKind::Stay => NewName::Unnamed(fs_code::NO_ENTRY),
-        PartKind::Up => NewName::Unnamed(fs_code::NO_ENTRY),
+        PartKind::Stay => NewName::Unnamed(NO_ENTRY),
+        PartKind::Up => NewName::Unnamed(NO_ENTRY),
         PartKind::Named => legal(part),
     }
 }
@@ -60,7 +66,7 @@ fn new_part(text: &str) -> NewName<'_>
     let mut rest = text;
     while let Some((part, more)) = cut(rest) {
         if !is_stay(part) {
-            return NewName::Unnamed(fs_code::NO_ENTRY);
+            return NewName::Unnamed(NO_ENTRY);
         }
         rest = more;
     }
@@ -72,7 +78,7 @@ pub fn new_name(text: &str) -> NewName<'_>
     ensures { shown_name result ≡ new_name text.now }
 {
     if begins_at_root(text) {
-        return NewName::Unnamed(fs_code::NO_ENTRY);
+        return NewName::Unnamed(NO_ENTRY);
     }
     new_part(text)
 }

@@ -17,18 +17,31 @@ use crate::finding::{Found, lead_in};
 use crate::folder::Folder;
 use crate::naming::{NewName, new_name};
 use ref_answers::{Row, fails, gives_ok, has_flag};
-use ref_rules::{Content, descriptor_flag, fs_code, open_flag};
+use ref_rules::Content;
 use std::alloc::Global;
 use virt_base::NoMemory;
+
+/// The places of error codes in the enum `error-code`.
+const EXIST: u32 = 7;
+
+const INVALID: u32 = 12;
+
+const IS_DIRECTORY: u32 = 14;
+
+const NO_ENTRY: u32 = 20;
+
+const INSUFFICIENT_SPACE: u32 = 23;
+
+const NOT_DIRECTORY: u32 = 24;
 
 /// The folder itself is found.
 fn open_root(alloc: Global, flags: u32, rights: u32) -> Result<Row, NoMemory>
     ensures { IfOk result (λ row. (f : Forest) → shown f row ≡ descriptor.open_root flags rights) }
 {
-    if has_flag(flags, open_flag::EXCLUSIVE) {
-        fails(alloc, fs_code::EXIST)
-    } else if has_flag(rights, descriptor_flag::WRITE) || has_flag(flags, open_flag::TRUNCATE) {
-        fails(alloc, fs_code::IS_DIRECTORY)
+    if has_flag(flags, 2) {
+        fails(alloc, EXIST)
+    } else if has_flag(rights, 1) || has_flag(flags, 3) {
+        fails(alloc, IS_DIRECTORY)
     } else {
         gives_ok(alloc, Content::ScratchRoot)
     }
@@ -45,18 +58,18 @@ fn open_file(
     requires { IsSome (file_at folder.old number) }
     ensures { IfOk result (λ row. (f : Forest) (v : View) → told f row folder.new ≡ settled folder.old (descriptor.open_file (record v { scratch = folder.old }) number flags rights)) }
 {
-    if has_flag(flags, open_flag::EXCLUSIVE) {
-        return fails(alloc, fs_code::EXIST);
+    if has_flag(flags, 2) {
+        return fails(alloc, EXIST);
     }
-    if has_flag(flags, open_flag::DIRECTORY) {
-        return fails(alloc, fs_code::NOT_DIRECTORY);
+    if has_flag(flags, 1) {
+        return fails(alloc, NOT_DIRECTORY);
     }
-    let may_write = has_flag(rights, descriptor_flag::WRITE);
-    if !has_flag(flags, open_flag::TRUNCATE) {
+    let may_write = has_flag(rights, 1);
+    if !has_flag(flags, 3) {
         return gives_ok(alloc, Content::ScratchFile(number, may_write));
     }
     if !may_write {
-        return fails(alloc, fs_code::INVALID);
+        return fails(alloc, INVALID);
     }
     folder.truncate(number);
     gives_ok(alloc, Content::ScratchFile(number, true))
@@ -69,11 +82,8 @@ fn open_named(alloc: Global, folder: &mut Folder, name: &str, rights: u32) -> Re
     ensures { IfOk result (λ row. (f : Forest) (v : View) → told f row folder.new ≡ settled folder.old (descriptor.open_made (record v { scratch = folder.old }) name.now (free_number folder.old) rights)) }
 {
     match folder.create(name) {
-        Ok(number) => gives_ok(
-            alloc,
-            Content::ScratchFile(number, has_flag(rights, descriptor_flag::WRITE)),
-        ),
-        Err(_) => fails(alloc, fs_code::INSUFFICIENT_SPACE),
+        Ok(number) => gives_ok(alloc, Content::ScratchFile(number, has_flag(rights, 1))),
+        Err(_) => fails(alloc, INSUFFICIENT_SPACE),
     }
 }
 
@@ -100,14 +110,14 @@ fn open_missing(
     requires { lead_in folder.old text.now ≡ Missing code }
     ensures { IfOk result (λ row. (f : Forest) (v : View) → told f row folder.new ≡ settled folder.old (descriptor.open_missing (record v { scratch = folder.old }) code text.now flags rights)) }
 {
-    if code != fs_code::NO_ENTRY {
+    if code != NO_ENTRY {
         return fails(alloc, code);
     }
-    if !has_flag(flags, open_flag::CREATE) {
-        return fails(alloc, fs_code::NO_ENTRY);
+    if !has_flag(flags, 0) {
+        return fails(alloc, NO_ENTRY);
     }
-    if has_flag(flags, open_flag::DIRECTORY) {
-        return fails(alloc, fs_code::INVALID);
+    if has_flag(flags, 1) {
+        return fails(alloc, INVALID);
     }
     open_new(alloc, folder, text, rights)
 }

@@ -15,9 +15,16 @@ use crate::finding::{Found, lead_in};
 use crate::folder::Folder;
 use crate::naming::{NewName, new_name};
 use ref_answers::{Row, done, fails, returns};
-use ref_rules::{LiveHandles, fs_code};
+use ref_rules::LiveHandles;
 use std::alloc::Global;
 use virt_base::NoMemory;
+
+/// The places of error codes in the enum `error-code`.
+const BUSY: u32 = 4;
+
+const EXIST: u32 = 7;
+
+const NO_ENTRY: u32 = 20;
 
 /// The new path leads to a file: the same, or one that is replaced unless it is open.
 fn rename_over(
@@ -36,7 +43,7 @@ fn rename_over(
         return Ok(returns(done()));
     }
     if live.is_open(other) {
-        return fails(alloc, fs_code::BUSY);
+        return fails(alloc, BUSY);
     }
     folder.take_name(alloc, number, other)?;
     Ok(returns(done()))
@@ -68,10 +75,10 @@ fn rename_to(
     ensures { IfOk result (λ row. (f : Forest) (v : View) → told f row folder.new ≡ settled folder.old (descriptor.rename_to (record v { scratch = folder.old; held = λ n. is_open live.now.handles n }) number (lead_in folder.old text.now) text.now)) }
 {
     match lead_in(folder, text) {
-        Found::Root => fails(alloc, fs_code::EXIST),
+        Found::Root => fails(alloc, EXIST),
         Found::File(other) => rename_over(alloc, folder, live, number, other),
         Found::Missing(code) => {
-            if code == fs_code::NO_ENTRY {
+            if code == NO_ENTRY {
                 rename_new(alloc, folder, number, text)
             } else {
                 fails(alloc, code)
@@ -92,7 +99,7 @@ pub fn rename_row(
     ensures { IfOk result (λ row. (f : Forest) (v : View) → told f row folder.new ≡ settled folder.old (descriptor.rename_pair (record v { scratch = folder.old; held = λ n. is_open live.now.handles n }) descriptor.BothRoots old.now new.now)) }
 {
     match lead_in(folder, old) {
-        Found::Root => fails(alloc, fs_code::BUSY),
+        Found::Root => fails(alloc, BUSY),
         Found::File(number) => rename_to(alloc, folder, live, number, new),
         Found::Missing(code) => fails(alloc, code),
     }

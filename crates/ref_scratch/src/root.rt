@@ -18,9 +18,18 @@ use crate::finding::{Found, lead_in};
 use crate::folder::Folder;
 use crate::rows::{hash_file_row, hash_root_row, stat_file_row, stat_root_row};
 use ref_answers::{Row, done, fails, returns};
-use ref_rules::{LiveHandles, fs_code};
+use ref_rules::LiveHandles;
 use std::alloc::Global;
 use virt_base::NoMemory;
+
+/// The places of error codes in the enum `error-code`.
+const BUSY: u32 = 4;
+
+const INVALID: u32 = 12;
+
+const IS_DIRECTORY: u32 = 14;
+
+const NOT_DIRECTORY: u32 = 24;
 
 /// `stat-at`.
 pub fn stat_at_row(alloc: Global, folder: &Folder, flags: u32, text: &str) -> Result<Row, NoMemory>
@@ -66,8 +75,8 @@ pub fn readlink_at_row(alloc: Global, folder: &Folder, text: &str) -> Result<Row
     ensures { IfOk result (λ row. (f : Forest) (v : View) → shown f row ≡ descriptor.readlink-at (record v { scratch = folder.now }) ScratchRoot text.now) }
 {
     match lead_in(folder, text) {
-        Found::Root => fails(alloc, fs_code::INVALID),
-        Found::File(_) => fails(alloc, fs_code::INVALID),
+        Found::Root => fails(alloc, INVALID),
+        Found::File(_) => fails(alloc, INVALID),
         Found::Missing(code) => fails(alloc, code),
     }
 }
@@ -77,8 +86,8 @@ pub fn remove_directory_row(alloc: Global, folder: &Folder, text: &str) -> Resul
     ensures { IfOk result (λ row. (f : Forest) (v : View) → shown f row ≡ descriptor.remove-directory-at (record v { scratch = folder.now }) ScratchRoot text.now) }
 {
     match lead_in(folder, text) {
-        Found::Root => fails(alloc, fs_code::BUSY),
-        Found::File(_) => fails(alloc, fs_code::NOT_DIRECTORY),
+        Found::Root => fails(alloc, BUSY),
+        Found::File(_) => fails(alloc, NOT_DIRECTORY),
         Found::Missing(code) => fails(alloc, code),
     }
 }
@@ -95,7 +104,7 @@ fn unlink_file(
     ensures { IfOk result (λ row. (f : Forest) → told f row folder.new ≡ settled folder.old (if is_open live.now.handles number then fails busy else stores (removed folder.old number) done)) }
 {
     if live.is_open(number) {
-        return fails(alloc, fs_code::BUSY);
+        return fails(alloc, BUSY);
     }
     folder.remove(number);
     Ok(returns(done()))
@@ -112,7 +121,7 @@ pub fn unlink_row(
     ensures { IfOk result (λ row. (f : Forest) (v : View) → told f row folder.new ≡ settled folder.old (descriptor.unlink-file-at (record v { scratch = folder.old; held = λ n. is_open live.now.handles n }) ScratchRoot text.now)) }
 {
     match lead_in(folder, text) {
-        Found::Root => fails(alloc, fs_code::IS_DIRECTORY),
+        Found::Root => fails(alloc, IS_DIRECTORY),
         Found::File(number) => unlink_file(alloc, folder, live, number),
         Found::Missing(code) => fails(alloc, code),
     }

@@ -12,15 +12,19 @@ ghost use Rattle.ref_answers.specs.Shown.{shown};
 
 use crate::folder::Folder;
 use ref_answers::{Row, hash_value, ok, returns, stat_value};
-use ref_rules::descriptor_type;
 use std::alloc::Global;
 use virt_base::NoMemory;
+
+/// The places in the enum `descriptor-type`.
+const DIRECTORY: u32 = 3;
+
+const REGULAR_FILE: u32 = 6;
 
 /// `stat` of the folder.
 pub fn stat_root_row(alloc: Global) -> Result<Row, NoMemory>
     ensures { IfOk result (λ row. (f : Forest) → shown f row ≡ descriptor.stat_root) }
 {
-    Ok(returns(ok(alloc, stat_value(alloc, descriptor_type::DIRECTORY, 0)?)?))
+    Ok(returns(ok(alloc, stat_value(alloc, DIRECTORY, 0)?)?))
 }
 
 /// `stat` of a file.
@@ -28,7 +32,7 @@ pub fn stat_file_row(alloc: Global, folder: &Folder, number: u32) -> Result<Row,
     requires { IsSome (file_at folder.now number) }
     ensures { IfOk result (λ row. (f : Forest) (v : View) → shown f row ≡ descriptor.stat_file (record v { scratch = folder.now }) number) }
 {
-    let stat = stat_value(alloc, descriptor_type::REGULAR_FILE, folder.size(number))?;
+    let stat = stat_value(alloc, REGULAR_FILE, folder.size(number))?;
     Ok(returns(ok(alloc, stat)?))
 }
 

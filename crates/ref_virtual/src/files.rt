@@ -22,7 +22,7 @@ use crate::beside::{Beside, beside_of, is_file};
 use crate::bytes::written_bytes;
 use crate::{Change, Look, Method, Pair, content_at, number_at};
 use ref_answers::{Row, done, fails, none, ok, returns};
-use ref_rules::{LiveHandles, fs_code};
+use ref_rules::LiveHandles;
 use ref_scratch::{
     Folder, append_row, file_flags_row, file_type_row, hash_file_row, input_row, output_row,
     read_row, set_size_row, stat_file_row, write_row,
@@ -30,6 +30,11 @@ use ref_scratch::{
 use std::alloc::Global;
 use virt_base::NoMemory;
 use wit_types::{Value, Values};
+
+/// The places of error codes in the enum `error-code`.
+const NOT_DIRECTORY: u32 = 24;
+
+const CROSS_DEVICE: u32 = 36;
 
 fn look_row(
     alloc: Global,
@@ -49,13 +54,13 @@ fn look_row(
         Look::GetFlags => file_flags_row(alloc, may_write),
         Look::GetType => file_type_row(alloc),
         Look::Read => read_row(alloc, folder, file, number_at(args, 1), number_at(args, 2)),
-        Look::ReadDirectory => fails(alloc, fs_code::NOT_DIRECTORY),
+        Look::ReadDirectory => fails(alloc, NOT_DIRECTORY),
         Look::Stat => stat_file_row(alloc, folder, file),
-        Look::StatAt => fails(alloc, fs_code::NOT_DIRECTORY),
-        Look::OpenAt => fails(alloc, fs_code::NOT_DIRECTORY),
-        Look::ReadlinkAt => fails(alloc, fs_code::NOT_DIRECTORY),
+        Look::StatAt => fails(alloc, NOT_DIRECTORY),
+        Look::OpenAt => fails(alloc, NOT_DIRECTORY),
+        Look::ReadlinkAt => fails(alloc, NOT_DIRECTORY),
         Look::MetadataHash => hash_file_row(alloc, trees, file),
-        Look::MetadataHashAt => fails(alloc, fs_code::NOT_DIRECTORY),
+        Look::MetadataHashAt => fails(alloc, NOT_DIRECTORY),
     }
 }
 
@@ -102,11 +107,11 @@ fn change_row(
         Change::SetSize => set_size_row(alloc, folder, file, may_write, number_at(args, 1)),
         Change::SetTimes => Ok(returns(done())),
         Change::Write => write_at_row(alloc, folder, file, may_write, args),
-        Change::CreateDirectoryAt => fails(alloc, fs_code::NOT_DIRECTORY),
-        Change::RemoveDirectoryAt => fails(alloc, fs_code::NOT_DIRECTORY),
-        Change::UnlinkFileAt => fails(alloc, fs_code::NOT_DIRECTORY),
-        Change::SymlinkAt => fails(alloc, fs_code::NOT_DIRECTORY),
-        Change::SetTimesAt => fails(alloc, fs_code::NOT_DIRECTORY),
+        Change::CreateDirectoryAt => fails(alloc, NOT_DIRECTORY),
+        Change::RemoveDirectoryAt => fails(alloc, NOT_DIRECTORY),
+        Change::UnlinkFileAt => fails(alloc, NOT_DIRECTORY),
+        Change::SymlinkAt => fails(alloc, NOT_DIRECTORY),
+        Change::SetTimesAt => fails(alloc, NOT_DIRECTORY),
     }
 }
 
@@ -115,9 +120,9 @@ fn joined_row(alloc: Global, beside: Beside) -> Result<Row, NoMemory>
     ensures { IfOk result (λ row. (f : Forest) → shown f row ≡ link_pair (file_pair beside)) }
 {
     match beside {
-        Beside::Root => fails(alloc, fs_code::NOT_DIRECTORY),
-        Beside::File(_) => fails(alloc, fs_code::NOT_DIRECTORY),
-        Beside::Elsewhere => fails(alloc, fs_code::CROSS_DEVICE),
+        Beside::Root => fails(alloc, NOT_DIRECTORY),
+        Beside::File(_) => fails(alloc, NOT_DIRECTORY),
+        Beside::Elsewhere => fails(alloc, CROSS_DEVICE),
     }
 }
 

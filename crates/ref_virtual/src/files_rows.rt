@@ -14,11 +14,18 @@ use crate::facts::{node_hash, node_stat, node_type};
 use crate::leading::lead;
 use crate::texts::text_of;
 use ref_answers::{Row, bytes_from, fails, gives_ok, has_flag, label, ok, returns};
-use ref_rules::{Content, fs_code, path_flag};
+use ref_rules::Content;
 use std::alloc::Global;
 use tree_table::{NodeKind, Table, content, kind, target};
 use virt_base::NoMemory;
 use wit_types::Value;
+
+/// The places of error codes in the enum `error-code`.
+const INVALID: u32 = 12;
+
+const IS_DIRECTORY: u32 = 14;
+
+const NOT_DIRECTORY: u32 = 24;
 
 /// `read-via-stream`.
 pub fn stream_row(alloc: Global, table: &Table, node: u32, offset: u64) -> Result<Row, NoMemory>
@@ -31,8 +38,8 @@ pub fn stream_row(alloc: Global, table: &Table, node: u32, offset: u64) -> Resul
             let size = content(table, node).len() as u64;
             gives_ok(alloc, Content::FileAt(node, offset.min(size)))
         }
-        NodeKind::Folder => fails(alloc, fs_code::IS_DIRECTORY),
-        NodeKind::Link => fails(alloc, fs_code::IS_DIRECTORY),
+        NodeKind::Folder => fails(alloc, IS_DIRECTORY),
+        NodeKind::Link => fails(alloc, IS_DIRECTORY),
     }
 }
 
@@ -59,8 +66,8 @@ pub fn read_row(
 {
     match kind(table, node) {
         NodeKind::File => Ok(returns(bytes_from(alloc, content(table, node), len, offset)?)),
-        NodeKind::Folder => fails(alloc, fs_code::IS_DIRECTORY),
-        NodeKind::Link => fails(alloc, fs_code::IS_DIRECTORY),
+        NodeKind::Folder => fails(alloc, IS_DIRECTORY),
+        NodeKind::Link => fails(alloc, IS_DIRECTORY),
     }
 }
 
@@ -71,7 +78,7 @@ pub fn read_directory_row(alloc: Global, table: &Table, node: u32) -> Result<Row
     ensures inside { IfOk result (λ row. row_inside (count_of table.now) row ≡ true) }
 {
     match kind(table, node) {
-        NodeKind::File => fails(alloc, fs_code::NOT_DIRECTORY),
+        NodeKind::File => fails(alloc, NOT_DIRECTORY),
         NodeKind::Folder => gives_ok(alloc, Content::Entries(node, 0)),
         NodeKind::Link => gives_ok(alloc, Content::Entries(node, 0)),
     }
@@ -98,12 +105,7 @@ pub fn stat_at_row(
     ensures row { IfOk result (λ row. (v : View) → HoldsTrees table.now v → shown table.now row ≡ descriptor.stat-at v (node_in table.now node) flags text.now) }
     ensures inside { IfOk result (λ row. row_inside (count_of table.now) row ≡ true) }
 {
-    match lead(
-        table,
-        node,
-        text,
-        has_flag(flags, path_flag::SYMLINK_FOLLOW),
-    ) {
+    match lead(table, node, text, has_flag(flags, 0)) {
         Ok(at) => Ok(returns(node_stat(alloc, table, at)?)),
         Err(code) => fails(alloc, u32::from(code)),
     }
@@ -130,12 +132,7 @@ pub fn hash_at_row(
     ensures row { IfOk result (λ row. (v : View) → HoldsTrees table.now v → shown table.now row ≡ descriptor.metadata-hash-at v (node_in table.now node) flags text.now) }
     ensures inside { IfOk result (λ row. row_inside (count_of table.now) row ≡ true) }
 {
-    match lead(
-        table,
-        node,
-        text,
-        has_flag(flags, path_flag::SYMLINK_FOLLOW),
-    ) {
+    match lead(table, node, text, has_flag(flags, 0)) {
         Ok(at) => Ok(returns(node_hash(alloc, table, at)?)),
         Err(code) => fails(alloc, u32::from(code)),
     }
@@ -166,7 +163,7 @@ fn link_row(alloc: Global, table: &Table, node: u32) -> Result<Row, NoMemory>
             let text = text_of(alloc, target)?;
             Ok(returns(ok(alloc, Value::Str(text))?))
         }
-        None => fails(alloc, fs_code::INVALID),
+        None => fails(alloc, INVALID),
     }
 }
 

@@ -23,11 +23,16 @@ use crate::{
     stat_at_row, stat_row, stream_row, type_row,
 };
 use ref_answers::{Row, done, fails, none, ok, returns};
-use ref_rules::{Content, LiveHandles, fs_code};
+use ref_rules::{Content, LiveHandles};
 use std::alloc::Global;
 use tree_table::Table;
 use virt_base::NoMemory;
 use wit_types::{Value, Values};
+
+/// The places of error codes in the enum `error-code`.
+const READ_ONLY: u32 = 33;
+
+const CROSS_DEVICE: u32 = 36;
 
 /// The flags of a descriptor that may be read.
 const READ: u32 = 1;
@@ -106,8 +111,8 @@ fn crossing_row(alloc: Global, other: Option<u32>) -> Result<Row, NoMemory>
     ensures { IfOk result (λ row. (f : Forest) → shown f row ≡ fails (crossing other)) }
 {
     match other {
-        Some(_) => fails(alloc, fs_code::READ_ONLY),
-        None => fails(alloc, fs_code::CROSS_DEVICE),
+        Some(_) => fails(alloc, READ_ONLY),
+        None => fails(alloc, CROSS_DEVICE),
     }
 }
 
@@ -164,7 +169,7 @@ pub fn node_row(
 {
     match method {
         Method::Looks(look) => look_row(alloc, table, node, look, args),
-        Method::Changes(change) => fails(alloc, fs_code::READ_ONLY),
+        Method::Changes(change) => fails(alloc, READ_ONLY),
         Method::Pairs(pair) => pair_row(alloc, table, live, node, pair, args),
         Method::Syncs => Ok(returns(done())),
         Method::ReadDirectoryEntry => Ok(returns(ok(alloc, none())?)),

@@ -13,20 +13,27 @@ ghost use Rattle.ref_virtual.specs.Views.{HoldsTrees, node_in};
 
 use crate::leading::lead;
 use ref_answers::{Row, fails, gives_ok, has_flag};
-use ref_rules::{Content, descriptor_flag, fs_code, open_flag, path_flag};
+use ref_rules::Content;
 use std::alloc::Global;
 use tree_table::{NodeKind, Table, kind};
 use virt_base::NoMemory;
 
+/// The places of error codes in the enum `error-code`.
+const EXIST: u32 = 7;
+
+const LOOP: u32 = 15;
+
 const NO_ENTRY: u8 = 20;
+
+const NOT_DIRECTORY: u32 = 24;
+
+const READ_ONLY: u32 = 33;
 
 /// Whether a call asks for more than to read.
 fn asks_changes(flags: u32, rights: u32) -> bool
     ensures { result ≡ (descriptor.write_flag rights || (descriptor.mutate-directory rights || descriptor.truncate flags)) }
 {
-    has_flag(rights, descriptor_flag::WRITE)
-        || has_flag(rights, descriptor_flag::MUTATE_DIRECTORY)
-        || has_flag(flags, open_flag::TRUNCATE)
+    has_flag(rights, 1) || has_flag(rights, 5) || has_flag(flags, 3)
 }
 
 /// What is opened where a text leads to a node.
@@ -35,19 +42,19 @@ fn open_found(alloc: Global, table: &Table, node: u32, flags: u32) -> Result<Row
     ensures row { IfOk result (λ row. shown table.now row ≡ descriptor.open_found (Some (node_of table.now node)) (tree_of table.now node) (path_of table.now node) flags) }
     ensures inside { IfOk result (λ row. row_inside (count_of table.now) row ≡ true) }
 {
-    if has_flag(flags, open_flag::EXCLUSIVE) {
+    if has_flag(flags, 2) {
         return match kind(table, node) {
-            NodeKind::Folder => fails(alloc, fs_code::EXIST),
-            NodeKind::File => fails(alloc, fs_code::EXIST),
-            NodeKind::Link => fails(alloc, fs_code::EXIST),
+            NodeKind::Folder => fails(alloc, EXIST),
+            NodeKind::File => fails(alloc, EXIST),
+            NodeKind::Link => fails(alloc, EXIST),
         };
     }
     match kind(table, node) {
-        NodeKind::Link => fails(alloc, fs_code::LOOP),
+        NodeKind::Link => fails(alloc, LOOP),
         NodeKind::Folder => gives_ok(alloc, Content::Node(node)),
         NodeKind::File => {
-            if has_flag(flags, open_flag::DIRECTORY) {
-                fails(alloc, fs_code::NOT_DIRECTORY)
+            if has_flag(flags, 1) {
+                fails(alloc, NOT_DIRECTORY)
             } else {
                 gives_ok(alloc, Content::Node(node))
             }
@@ -59,8 +66,8 @@ fn open_missing(alloc: Global, code: u8, flags: u32) -> Result<Row, NoMemory>
     ensures row { IfOk result (λ row. (f : Forest) (v : View) (tree : ℕ) → shown f row ≡ descriptor.open_led v tree (Fails code) flags) }
     ensures inside { IfOk result (λ row. (nodes : ℕ) → row_inside nodes row ≡ true) }
 {
-    if code == NO_ENTRY && has_flag(flags, open_flag::CREATE) {
-        fails(alloc, fs_code::READ_ONLY)
+    if code == NO_ENTRY && has_flag(flags, 0) {
+        fails(alloc, READ_ONLY)
     } else {
         fails(alloc, u32::from(code))
     }
@@ -81,14 +88,9 @@ pub fn open_row(
     ensures inside { IfOk result (λ row. row_inside (count_of table.now) row ≡ true) }
 {
     if asks_changes(flags, rights) {
-        return fails(alloc, fs_code::READ_ONLY);
+        return fails(alloc, READ_ONLY);
     }
-    match lead(
-        table,
-        node,
-        text,
-        has_flag(follow, path_flag::SYMLINK_FOLLOW),
-    ) {
+    match lead(table, node, text, has_flag(follow, 0)) {
         Ok(at) => open_found(alloc, table, at, flags),
         Err(code) => open_missing(alloc, code, flags),
     }

@@ -18,11 +18,23 @@ ghost use Rattle.ref_virtual.specs.Others.{is_next, is_other};
 use crate::methods::{Look, Method, Pair};
 use crate::read_entry_row;
 use ref_answers::{Row, done, fails, gives_ok, hash_value, label, none, ok, returns, stat_value};
-use ref_rules::{Content, descriptor_type, fs_code};
+use ref_rules::Content;
 use std::alloc::Global;
 use tree_table::Table;
 use virt_base::NoMemory;
 use wit_types::Value;
+
+/// The places of error codes in the enum `error-code`.
+const IS_DIRECTORY: u32 = 14;
+
+const NOT_DIRECTORY: u32 = 24;
+
+const READ_ONLY: u32 = 33;
+
+const CROSS_DEVICE: u32 = 36;
+
+/// The place in the enum `descriptor-type`.
+const DIRECTORY: u32 = 3;
 
 /// The flags of a descriptor that may be read.
 const READ: u32 = 1;
@@ -32,20 +44,20 @@ fn look_row(alloc: Global, trees: u32, look: Look) -> Result<Row, NoMemory>
     ensures { IfOk result (λ row. (f : Forest) (v : View) (args : PlainValues) → length v.trees ≡ trees → shown f row ≡ look_row look v reference.Always args) }
 {
     match look {
-        Look::ReadViaStream => fails(alloc, fs_code::IS_DIRECTORY),
-        Look::Read => fails(alloc, fs_code::IS_DIRECTORY),
+        Look::ReadViaStream => fails(alloc, IS_DIRECTORY),
+        Look::Read => fails(alloc, IS_DIRECTORY),
         Look::GetFlags => Ok(returns(ok(alloc, Value::Flags(READ))?)),
-        Look::GetType => Ok(returns(ok(alloc, label(descriptor_type::DIRECTORY))?)),
+        Look::GetType => Ok(returns(ok(alloc, label(DIRECTORY))?)),
         Look::ReadDirectory => gives_ok(alloc, Content::ScratchEntries(0)),
-        Look::Stat => Ok(returns(ok(alloc, stat_value(alloc, descriptor_type::DIRECTORY, 0)?)?)),
-        Look::StatAt => fails(alloc, fs_code::NOT_DIRECTORY),
-        Look::OpenAt => fails(alloc, fs_code::NOT_DIRECTORY),
-        Look::ReadlinkAt => fails(alloc, fs_code::NOT_DIRECTORY),
+        Look::Stat => Ok(returns(ok(alloc, stat_value(alloc, DIRECTORY, 0)?)?)),
+        Look::StatAt => fails(alloc, NOT_DIRECTORY),
+        Look::OpenAt => fails(alloc, NOT_DIRECTORY),
+        Look::ReadlinkAt => fails(alloc, NOT_DIRECTORY),
         Look::MetadataHash => {
             let hash = hash_value(alloc, 0, u64::from(trees) + 1)?;
             Ok(returns(ok(alloc, hash)?))
         }
-        Look::MetadataHashAt => fails(alloc, fs_code::NOT_DIRECTORY),
+        Look::MetadataHashAt => fails(alloc, NOT_DIRECTORY),
     }
 }
 
@@ -53,8 +65,8 @@ fn pair_row(alloc: Global, pair: Pair) -> Result<Row, NoMemory>
     ensures { IfOk result (λ row. (f : Forest) (v : View) (args : PlainValues) → shown f row ≡ pair_row pair v reference.Always args) }
 {
     match pair {
-        Pair::LinkAt => fails(alloc, fs_code::CROSS_DEVICE),
-        Pair::RenameAt => fails(alloc, fs_code::CROSS_DEVICE),
+        Pair::LinkAt => fails(alloc, CROSS_DEVICE),
+        Pair::RenameAt => fails(alloc, CROSS_DEVICE),
         Pair::IsSameObject => Ok(returns(Value::Bool(false))),
     }
 }
@@ -65,7 +77,7 @@ pub fn other_row(alloc: Global, trees: u32, method: Method) -> Result<Row, NoMem
 {
     match method {
         Method::Looks(look) => look_row(alloc, trees, look),
-        Method::Changes(change) => fails(alloc, fs_code::READ_ONLY),
+        Method::Changes(change) => fails(alloc, READ_ONLY),
         Method::Pairs(pair) => pair_row(alloc, pair),
         Method::Syncs => Ok(returns(done())),
         Method::ReadDirectoryEntry => Ok(returns(ok(alloc, none())?)),

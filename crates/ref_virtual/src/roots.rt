@@ -20,7 +20,7 @@ ghost use Rattle.ref_virtual.specs.Besides.{root_pair};
 use crate::beside::{Beside, beside_of, is_root};
 use crate::{Change, Look, Method, Pair, content_at, flags_at, text_at};
 use ref_answers::{Row, done, fails, none, ok, returns};
-use ref_rules::{LiveHandles, fs_code};
+use ref_rules::LiveHandles;
 use ref_scratch::{
     Folder, hash_at_row, hash_root_row, open_row, read_directory_row, readlink_at_row,
     remove_directory_row, rename_row, root_flags_row, root_type_row, set_times_at_row, stat_at_row,
@@ -29,6 +29,15 @@ use ref_scratch::{
 use std::alloc::Global;
 use virt_base::NoMemory;
 use wit_types::{Value, Values};
+
+/// The places of error codes in the enum `error-code`.
+const IS_DIRECTORY: u32 = 14;
+
+const NOT_DIRECTORY: u32 = 24;
+
+const UNSUPPORTED: u32 = 27;
+
+const CROSS_DEVICE: u32 = 36;
 
 /// `open-at`: how the path is followed, the path, and what is asked of what it leads to.
 fn open_at_row(alloc: Global, folder: &mut Folder, args: &Values) -> Result<Row, NoMemory>
@@ -56,10 +65,10 @@ fn look_row(
     ensures { IfOk result (λ row. (f : Forest) (v : View) → length v.trees ≡ trees → told f row folder.new ≡ settled folder.old (look_row look (record v { scratch = folder.old }) ScratchRoot (plain_values args.now))) }
 {
     match look {
-        Look::ReadViaStream => fails(alloc, fs_code::IS_DIRECTORY),
+        Look::ReadViaStream => fails(alloc, IS_DIRECTORY),
         Look::GetFlags => root_flags_row(alloc),
         Look::GetType => root_type_row(alloc),
-        Look::Read => fails(alloc, fs_code::IS_DIRECTORY),
+        Look::Read => fails(alloc, IS_DIRECTORY),
         Look::ReadDirectory => read_directory_row(alloc),
         Look::Stat => stat_root_row(alloc),
         Look::StatAt => stat_at_row(alloc, folder, flags_at(args, 1), text_at(args, 2)),
@@ -83,15 +92,15 @@ fn change_row(
     ensures { IfOk result (λ row. (f : Forest) (v : View) → told f row folder.new ≡ settled folder.old (change_row change (record v { scratch = folder.old; held = λ n. is_open live.now.handles n }) ScratchRoot (plain_values args.now))) }
 {
     match change {
-        Change::WriteViaStream => fails(alloc, fs_code::IS_DIRECTORY),
-        Change::AppendViaStream => fails(alloc, fs_code::IS_DIRECTORY),
-        Change::SetSize => fails(alloc, fs_code::IS_DIRECTORY),
+        Change::WriteViaStream => fails(alloc, IS_DIRECTORY),
+        Change::AppendViaStream => fails(alloc, IS_DIRECTORY),
+        Change::SetSize => fails(alloc, IS_DIRECTORY),
         Change::SetTimes => Ok(returns(done())),
-        Change::Write => fails(alloc, fs_code::IS_DIRECTORY),
-        Change::CreateDirectoryAt => fails(alloc, fs_code::UNSUPPORTED),
+        Change::Write => fails(alloc, IS_DIRECTORY),
+        Change::CreateDirectoryAt => fails(alloc, UNSUPPORTED),
         Change::RemoveDirectoryAt => remove_directory_row(alloc, folder, text_at(args, 1)),
         Change::UnlinkFileAt => unlink_row(alloc, folder, live, text_at(args, 1)),
-        Change::SymlinkAt => fails(alloc, fs_code::UNSUPPORTED),
+        Change::SymlinkAt => fails(alloc, UNSUPPORTED),
         Change::SetTimesAt => set_times_at_row(alloc, folder, text_at(args, 2)),
     }
 }
@@ -100,9 +109,9 @@ fn link_row(alloc: Global, beside: Beside) -> Result<Row, NoMemory>
     ensures { IfOk result (λ row. (f : Forest) → shown f row ≡ link_pair (root_pair beside)) }
 {
     match beside {
-        Beside::Root => fails(alloc, fs_code::UNSUPPORTED),
-        Beside::File(_) => fails(alloc, fs_code::NOT_DIRECTORY),
-        Beside::Elsewhere => fails(alloc, fs_code::CROSS_DEVICE),
+        Beside::Root => fails(alloc, UNSUPPORTED),
+        Beside::File(_) => fails(alloc, NOT_DIRECTORY),
+        Beside::Elsewhere => fails(alloc, CROSS_DEVICE),
     }
 }
 
@@ -118,8 +127,8 @@ fn rename_beside(
 {
     match beside {
         Beside::Root => rename_row(alloc, folder, live, text_at(args, 1), text_at(args, 3)),
-        Beside::File(_) => fails(alloc, fs_code::NOT_DIRECTORY),
-        Beside::Elsewhere => fails(alloc, fs_code::CROSS_DEVICE),
+        Beside::File(_) => fails(alloc, NOT_DIRECTORY),
+        Beside::Elsewhere => fails(alloc, CROSS_DEVICE),
     }
 }
 

@@ -30,9 +30,16 @@ use host_port::{Answer, Host, HostCall};
 use ref_answers::{Found, error_code};
 use ref_guards::{Atom, are_live, has_places, left_behind, note_arguments, owned_kinds};
 use ref_host_calls::Request;
-use ref_rules::{Denial, Errors, call_denial, errors_of, fs_code, is_answered, net_code};
+use ref_rules::{Denial, Errors, call_denial, errors_of, is_answered};
 use std::alloc::Global;
 use virt_base::NoMemory;
+
+/// The places of error codes in the enums `error-code`.
+const INSUFFICIENT_MEMORY: u32 = 22;
+
+const OUT_OF_MEMORY: u32 = 4;
+
+const ACCESS_DENIED: u32 = 1;
 
 /// An error code is the answer.
 fn fails(alloc: Global, code: u32) -> Result<Answer, NoMemory>
@@ -46,8 +53,8 @@ fn full<H: Host>(alloc: Global, errors: Errors) -> Result<Answer, NoMemory>
     ensures { IfOk result (λ a. (r : Reference H.State) → reference.full H.step r (shown_errors errors) ≡ record { seen = []; answer = plain_answer a; next = r }) }
 {
     match errors {
-        Errors::Filesystem => fails(alloc, fs_code::INSUFFICIENT_MEMORY),
-        Errors::Sockets => fails(alloc, net_code::OUT_OF_MEMORY),
+        Errors::Filesystem => fails(alloc, INSUFFICIENT_MEMORY),
+        Errors::Sockets => fails(alloc, OUT_OF_MEMORY),
         Errors::None => Ok(Answer::Trap),
     }
 }
@@ -62,7 +69,7 @@ fn denied_by_policy<H: Host>(alloc: Global, request: Request<'_>) -> Result<Answ
     ensures { IfOk result (λ a. (r : Reference H.State) → r.setup.policy ≡ request.entry.policy.now → reference.denied H.step r (listed_of request.entry) (call_of request.entry) ByPolicy ≡ record { seen = []; answer = plain_answer a; next = r }) }
 {
     if is_answered(request.policy.deny, errors_in(request)) {
-        fails(alloc, net_code::ACCESS_DENIED)
+        fails(alloc, ACCESS_DENIED)
     } else {
         Ok(Answer::Trap)
     }
@@ -99,7 +106,7 @@ fn denied<H: Host>(
     match denial_of(request) {
         Denial::NotDenied => answered(alloc, setting, holding, inner, request),
         Denial::ByPolicy => denied_by_policy::<H>(alloc, request),
-        Denial::ByRules => fails(alloc, net_code::ACCESS_DENIED),
+        Denial::ByRules => fails(alloc, ACCESS_DENIED),
     }
 }
 

@@ -1,6 +1,6 @@
 //! Routines that a text spells.
 //!
-//! Statements stand one after another with `;` between them. Each is a verb and its numbers, in the order of the statement's
+//! Statements stand after one another with `;` between them. Each is a verb and its numbers, in the order of the statement's
 //! fields: `const to value`, `move to from`, an operator with `to a b`, `load to at offset width`, `store from at offset width`,
 //! `leave name`, `new kind rep to`, `drop kind index`, `trap`, `answer`. `repeat name count {` and `when test {` begin a block,
 //! which `}` ends. `take base slots` and `free base` are the routines of a slot table, over the locals 0 to 7.

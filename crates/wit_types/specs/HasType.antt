@@ -1,7 +1,6 @@
 -- The values of a type (Component Model, Explainer.md, "Fundamental value types" and "Specialized value types"), by recursion on
 -- the type.
 use Rattle.std.specs.Prelude.{ℕ, ℤ, pos, neg_ℤ, int_le, int_lt, zero, suc, ◌^◌, Bool, true, false, nat_lt, nat_le, ◌&&◌, ◌||◌, IsTrue, length, Option as Opt, Some, None}
-use Rattle.std.specs.Str.{is_utf8}
 use Rattle.wit_types.specs.declared.types.WitType.{WitType}
 use Rattle.wit_types.specs.declared.value.Value.{Value}
 use Rattle.wit_types.specs.Plain.{Width, OneByte, TwoBytes, FourBytes, EightBytes, Plain, Parts, BoolType, SignedType, UnsignedType, CharType, StringType, ListType, RecordType, VariantType, FlagsType, OwnType, BorrowType, End, More, Bare, plain}
@@ -40,9 +39,8 @@ abbrev pub is_char : PlainValue → Bool
 is_char (CharValue code) = is_scalar code
 is_char _ = false
 
--- a string is UTF-8
 abbrev pub is_string : PlainValue → Bool
-is_string (StringValue bytes) = is_utf8 bytes
+is_string (StringValue _) = true
 is_string _ = false
 
 abbrev pub all_pass : (PlainValue → Bool) → PlainValues → Bool

@@ -3,7 +3,6 @@
 #![tactic(auto, using(crate::proofs::PlainLemmas::plains, crate::proofs::ValueLemmas::values, crate::proofs::Only::only))]
 
 ghost use Rattle.std.specs.Prelude.{◌≡◌, ◌↔◌, ◌&&◌, nat_lt, pos, IsTrue, []};
-ghost use Rattle.std.specs.Str.{is_utf8};
 ghost use Rattle.wit_types.specs.Plain.{plain, payload_of, fields_of, types_of, cases_of, case_part, End, More, Bare};
 ghost use Rattle.wit_types.specs.PlainValue.{FlagsValue, IntValue, plain_value, payload_of as value_payload_of, plain_values, values_of, byte_values};
 ghost use Rattle.wit_types.specs.HasType.{is_of, are_of, is_of_case, is_of_payload, is_without, is_with, is_scalar, is_bool, is_integer, is_char, is_string, is_list, all_pass, is_record, is_variant, is_flags, is_handle, HasType};
@@ -11,7 +10,6 @@ ghost use Rattle.wit_types.specs.HasType.{is_of, are_of, is_of_case, is_of_paylo
 use crate::types::{Case, Field, WitType};
 use crate::value::{Value, Values};
 use std::rc::Rc;
-use virt_base::Text;
 
 fn is_bool(value: &Value) -> bool
     ensures { result ≡ is_bool (plain_value value.now) }
@@ -22,19 +20,11 @@ fn is_bool(value: &Value) -> bool
     }
 }
 
-/// Whether a text is UTF-8. Every `Text` is; the definition speaks of bytes.
-fn is_text(text: &Text) -> bool
-    ensures { result ≡ is_utf8 text.now }
-{
-    let _ = text.bytes();
-    true
-}
-
 fn is_string(value: &Value) -> bool
     ensures { result ≡ is_string (plain_value value.now) }
 {
     match value {
-        Value::Str(text) => is_text(text),
+        Value::Str(_) => true,
         _ => false,
     }
 }
