@@ -1,8 +1,9 @@
 #!/usr/bin/env python3
-"""Calls the built program with words that fail, and some that do not, and compares its status, its standard output and its standard error
-with those of a table.
+"""Calls the built programs with words that fail, and some that do not, and compares their status, their standard output and their standard
+error with those of a table.
 
-usage: tools/standard_error.py [PROGRAM]: without one, crates/virt_cli/out/virt_cli, which ./wasi-virt builds. Ends with 1 if a row comes out otherwise.
+usage: tools/standard_error.py [VIRT INSPECT]: without them, crates/virt_cli/out/virt_cli and crates/wasi_inspect_cli/out/wasi_inspect_cli, which
+./wasi-virt and ./wasi-inspect build. Ends with 1 if a row comes out otherwise.
 """
 import os
 import resource
@@ -12,7 +13,8 @@ import tempfile
 
 ROOT = os.path.dirname(os.path.dirname(os.path.abspath(__file__)))
 DATA = f"{ROOT}/crates/engine_rows/data"
-PROGRAM = os.path.abspath(sys.argv[1]) if len(sys.argv) > 1 else f"{ROOT}/crates/virt_cli/out/virt_cli"
+BUILT = [f"{ROOT}/crates/{name}/out/{name}" for name in ("virt_cli", "wasi_inspect_cli")]
+VIRT, INSPECT = [os.path.abspath(path) for path in sys.argv[1:3]] if len(sys.argv) > 2 else BUILT
 
 # Files by their names, beside the components `seven.wasm` and `clock_reader.wasm`.
 FILES = {
@@ -60,6 +62,20 @@ ROWS = """
 64|run|usage: wasi-virt virt APP -p POLICY -o OUT; run COMPONENT -s SCRIPT [-p POLICY] [--steps N]; gen N OUT; plug A B -p POLICY -o OUT|
 """
 
+# The same of the program that inspects.
+INSPECT_ROWS = """
+0|seven.wasm|functions: 0 imported|
+0|seven.wasm -p empty.toml|functions: 0 imported, 0 asked, 0 ruled, 0 refused, 0 value, 0 own|
+3|none.wasm|file fault: none.wasm|wasi-inspect: none.wasm: No such file or directory
+3|seven.wasm -p none.toml|file fault: none.toml|wasi-inspect: none.toml: No such file or directory
+3|.|file fault: .|wasi-inspect: .: Is a directory
+2|empty.toml|application refused: malformed at 0|
+1|seven.wasm -p no_value.toml|policy refused: not-toml|wasi-inspect: no_value.toml: line 2, column 7: *
+1|none.wasm -p latin.toml|policy refused: not-toml|wasi-inspect: latin.toml: line 2, column 3: *
+1|seven.wasm -p key.toml|policy refused: bad-key what|
+64||usage: wasi-inspect COMPONENT [-p POLICY]|
+"""
+
 NO_RESULT = "wasi-virt: no result: memory ran out, or a bound on it was passed\n"
 
 
@@ -74,9 +90,9 @@ def is_told(found, told):
     return found == line(told)
 
 
-def comes_out(folder, row):
+def comes_out(program, folder, row):
     status, words, out, told = row.split("|")
-    ran = subprocess.run([PROGRAM, *words.split()], cwd=folder, capture_output=True, text=True, check=False)
+    ran = subprocess.run([program, *words.split()], cwd=folder, capture_output=True, text=True, check=False)
     return ran.returncode == int(status) and ran.stdout == line(out) and is_told(ran.stderr, told)
 
 
@@ -85,7 +101,7 @@ def memory_is_told(folder):
     with open(f"{folder}/long.json", "w", encoding="utf-8") as script:
         script.write('{"answers":[' + ",".join(['{"value":0}'] * 1_000_000) + '],"calls":[]}')
     ran = subprocess.run(
-        [PROGRAM, "run", "seven.wasm", "-s", "long.json"],
+        [VIRT, "run", "seven.wasm", "-s", "long.json"],
         cwd=folder,
         capture_output=True,
         text=True,
@@ -98,7 +114,7 @@ def memory_is_told(folder):
 def pipe_is_read_once(folder):
     """A script from a pipe has nothing more to give: its fault is put, and no place of it is told."""
     ran = subprocess.run(
-        [PROGRAM, "run", "seven.wasm", "-s", "/dev/stdin"], cwd=folder, input="{", capture_output=True, text=True, check=False, timeout=60
+        [VIRT, "run", "seven.wasm", "-s", "/dev/stdin"], cwd=folder, input="{", capture_output=True, text=True, check=False, timeout=60
     )
     return ran.returncode == 7 and ran.stdout == "script refused: \n" and ran.stderr == ""
 
@@ -110,7 +126,8 @@ with tempfile.TemporaryDirectory() as folder:
     for name in ("seven.wasm", "clock_reader.wasm"):
         with open(f"{DATA}/{name}", "rb") as held, open(f"{folder}/{name}", "wb") as file:
             file.write(held.read())
-    otherwise = [row for row in ROWS.strip().splitlines() if not comes_out(folder, row)]
+    otherwise = [row for row in ROWS.strip().splitlines() if not comes_out(VIRT, folder, row)]
+    otherwise += [row for row in INSPECT_ROWS.strip().splitlines() if not comes_out(INSPECT, folder, row)]
     if not memory_is_told(folder):
         otherwise.append("too little memory")
     if not pipe_is_read_once(folder):
